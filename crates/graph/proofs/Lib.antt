@@ -1,0 +1,8 @@
+pub mod Ones
+pub mod Keep
+pub mod Mark
+pub mod Base
+pub mod Bfs
+pub mod Found
+pub mod Joined
+pub mod Cases
