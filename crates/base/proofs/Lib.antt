@@ -1,2 +1,5 @@
 pub mod Loop
+pub mod Tests
+pub mod Lists
 pub mod Signed
+pub mod Range
