@@ -1,2 +1,3 @@
 // The plan: what `GraphDivision::new` makes of numbers from outside, with document 01's refusals 1 to 6.
-mod input;
+pub mod input;
+pub mod words;
