@@ -7,4 +7,5 @@ pub mod Found
 pub mod Joined
 pub mod Cases
 pub mod Lists
+pub mod Walkable
 pub mod Labels

@@ -1,6 +1,6 @@
 -- Loops over the first entries of a list, and sums.
 use Prim.Native.Nat.{ℕ, zero, suc, _+_, _<_, _≤_, zero-le}
-use native.Mathlib.Nat.{not-suc-le-zero, le-step, lt-suc-self}
+use native.Mathlib.Nat.{not-suc-le-zero, le-step, lt-suc-self, le-antisymm}
 use native.Mathlib.Omega.{arith}
 use mathlib.Core.Path.{_≡_, refl, sym, _∙_, ap, ap₂, subst}
 use mathlib.Core.Logic.{_⊎_, inl, inr, ⊎-elim}
@@ -83,3 +83,12 @@ every-not b zero i k e = absurd (not-suc-le-zero k)
 every-not b (suc n) i k e =
     ⊎-elim (λ (x : i ≡ n). and-no (every b n) (b n) (subst (λ j. b j ≡ false) x e))
     (λ (x : i ≡ n → ⊥). and-no′ (every b n) (b n) (every-not b n i (omega arith) e)) (eq-or-not i n)
+
+-- the loop is left
+pub every-done : (b : ℕ → Bool) (n m : ℕ) → every b n ≡ true → n ≤ m → m ≤ n → every b m ≡ true
+every-done b n m e h k = subst (λ i. every b i ≡ true) (le-antisymm h k) e
+
+-- a store of what f gives
+pub put-as : (f : ℕ → ℕ → ℕ) (i : ℕ) (l : List ℕ) (x : ℕ) → x ≡ f i (getD l i 0) → set l i x ≡ put f i l
+unfolding put
+put-as f i l x e = ap (λ (y : ℕ). set l i y) e
