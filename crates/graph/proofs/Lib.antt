@@ -1,6 +1,6 @@
 pub mod Ones
-pub mod Keep
 pub mod Mark
+pub mod Keep
 pub mod Base
 pub mod Bfs
 pub mod Found
