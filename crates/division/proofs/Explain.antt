@@ -148,7 +148,7 @@ module _ (d : Plan) (s : State) (σ : ℕ → Bool) (k : Proper d) (y : Computed
   explain-sound pl n l r (byMismatch g p q f h e hp hq a b m) x = rw e (inconsistentBoundsIfRegionsAreMerged n g p q f h hp hq a b m x)
   explain-sound pl n l r (bySpreadLow p u ls b j hp hu m e a w i) x = rw e (spread-low p u ls b j hp hu m a w i x)
   explain-sound pl n l r (bySpreadHigh p u ls b j hp hu m e a w i) x = rw e (spread-high p u ls b j hp hu m a w i x)
-  explain-sound pl n l r (bySameSize a la ua b lb ub u o ha hb hu xa ya xb yb) x = absurd (true≢false (sym o ∙ pl .sizes))
+  explain-sound pl n l r (bySameSize a la ua b lb ub u g o h e ha hb hu xa ya xb yb) x = absurd (true≢false (sym o ∙ pl .sizes))
 
   -- a false proposal: its reason with its negation
   pub false-sound : Plain d → Bounded d s → (l : ℕ) (r : Reason) → Explains d s l r → Every (Holds σ) (listOf d s r ++ (negate l ∷ [])) → ⊥
@@ -196,4 +196,4 @@ module _ (d : Plan) (s t : State) (k : Proper d) (z : Later d s t) where
       byMismatch g p q f h e hp hq (same-later a) (same-later b) (omega (arith, z .down p hp, z .up q hq))
   explain-later l r (bySpreadLow p u ls b j hp hu m e a w i) = bySpreadLow p u ls b j hp hu m e (same-later a) w i
   explain-later l r (bySpreadHigh p u ls b j hp hu m e a w i) = bySpreadHigh p u ls b j hp hu m e (same-later a) w i
-  explain-later l r (bySameSize a la ua b lb ub u o ha hb hu xa ya xb yb) = bySameSize a la ua b lb ub u o ha hb hu xa ya xb yb
+  explain-later l r (bySameSize a la ua b lb ub u g o h e ha hb hu xa ya xb yb) = bySameSize a la ua b lb ub u g o h e ha hb hu xa ya xb yb

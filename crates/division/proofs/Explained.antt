@@ -38,5 +38,5 @@ pub data Explains (d : Plan) (s : State) (l : ℕ) : Reason → Type 0 where
       Same d s k u → Lower d k b ls → d .domain u j < b → Explains d s l (boundPropagationWithinRegion k u ls)
   bySpreadHigh : (k u : ℕ) (ls : List ℕ) (b j : ℕ) → k < d .vertices → u < d .vertices → suc j < d .domainLen u → l ≡ negate (d .domLit u j) →
       Same d s k u → Upper d k b ls → b < d .domain u (suc j) → Explains d s l (boundPropagationWithinRegion k u ls)
-  bySameSize : (a : ℕ) (la ua : List ℕ) (b : ℕ) (lb ub : List ℕ) (u : ℕ) → d .disallowAdjacentSameSizeRegions ≡ true → a < d .vertices → b < d .vertices → u < d .vertices →
+  bySameSize : (a : ℕ) (la ua : List ℕ) (b : ℕ) (lb ub : List ℕ) (u g : ℕ) → d .disallowAdjacentSameSizeRegions ≡ true → g < d .edges → l ≡ d .edgeLit g → a < d .vertices → b < d .vertices → u < d .vertices →
       length la ≤ 1 → length ua ≤ 1 → length lb ≤ 1 → length ub ≤ 1 → Explains d s l (adjacentSameSizeRegions a la ua b lb ub u)

@@ -124,7 +124,7 @@ present-explained d s t l r (bySmall v j h m e a) x = absurd x
 present-explained d s t l r (byMismatch g p q f h e hp hq a b m) x = absurd x
 present-explained d s t l r (bySpreadLow p u ls b j hp hu m e a w i) x = bySpreadLow p u ls b j hp hu m e x w i
 present-explained d s t l r (bySpreadHigh p u ls b j hp hu m e a w i) x = bySpreadHigh p u ls b j hp hu m e x w i
-present-explained d s t l r (bySameSize a la ua b lb ub u o ha hb hu xa ya xb yb) x = absurd x
+present-explained d s t l r (bySameSize a la ua b lb ub u g o h e ha hb hu xa ya xb yb) x = absurd x
 
 pub present-sound : (d : Plan) (k : Proper d) → Plain d → (s t : State) → Bounded d s → Bounded d t → (l : ℕ) (r : Reason) → Proposes d s l r → Present d t r →
     (σ : ℕ → Bool) → Computed d σ → Every (Holds σ) (listOf d t r) → Holds σ l

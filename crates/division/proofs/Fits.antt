@@ -248,7 +248,7 @@ reason-fits d s k b l r (byMismatch g p q f h e hp hq u v m) =
     ))
 reason-fits d s k b l r (bySpreadLow p u ls c j hp hu m e v w i) = simp length-append (omega (arith, path-short d s k p u hp v, low-one d p w))
 reason-fits d s k b l r (bySpreadHigh p u ls c j hp hu m e v w i) = simp length-append (omega (arith, path-short d s k p u hp v, high-one d p w))
-reason-fits d s k b l r (bySameSize p lp up q lq uq u o hp hq hu xa ya xb yb) =
+reason-fits d s k b l r (bySameSize p lp up q lq uq u g o h e hp hq hu xa ya xb yb) =
     simp length-append (omega (arith, decided-few d s k p hp, decided-short d s k q hq, decided-short d s k u hu))
 
 total-one : (p n : ℕ) → p < n → 1 ≤ total (λ i. eqb i p) (λ i. 1) n

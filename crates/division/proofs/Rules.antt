@@ -86,7 +86,7 @@ module _ (d : Plan) (s : State) (k : Proper d) where
   proposed-explained n l r (ruleSpreadLow p u j hp hu a m i b) = bySpreadLow p u (s .lowerLit p) (s .lower p) j hp hu (b .next) refl a (n .low p hp) (b .above)
   proposed-explained n l r (ruleSpreadHigh p u j hp hu a m i b) = bySpreadHigh p u (s .upperLit p) (s .upper p) j hp hu (b .next) refl a (n .high p hp) (b .below)
   proposed-explained n l r (ruleSameSize a la ua b lb ub u g o h z ha hla hua hb hlb hub hu) =
-      bySameSize a _ _ b _ _ u o ha hb hu (low-one d la (n .low la hla)) (high-one d ua (n .high ua hua)) (low-one d lb (n .low lb hlb)) (high-one d ub (n .high ub hub))
+      bySameSize a _ _ b _ _ u g o h refl ha hb hu (low-one d la (n .low la hla)) (high-one d ua (n .high ua hua)) (low-one d lb (n .low lb hlb)) (high-one d ub (n .high ub hub))
 
 module _ (d : Plan) (Stands : ℕ → Type 0) (s : State) (n : Noted d Stands s) where
   undecided-connected : (g : ℕ) → g < d .edges → stateOf s g ≡ 0 → Stands (negate (d .edgeLit g)) → ⊥
