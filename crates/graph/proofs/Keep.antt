@@ -11,7 +11,7 @@ use borrow.Author.Tests.{le-ltb, lt-ltb, ltb-true}
 use lib.Dec.{eqb}
 use lib.ListN.{length, getD, replicate}
 use Rattle.base.specs.Iter.{iter, pick}
-use Rattle.graph.specs.Search.{Scan, at, reachedYet, Graph, marked, reached, visited, walked, popped, drained, blank}
+use Rattle.graph.specs.Search.{Scan, at, reachedYet, Graph, marked, reached, visited, walked, popped, drained, blank, searchedOn, searched}
 use Rattle.graph.specs.Bounds.{Ok, Within, Fine, Fresh}
 use Rattle.base.proofs.Loop.{iter-ind, pick-ind}
 use Rattle.graph.proofs.Ones.{ones-below, ones-none}
@@ -103,3 +103,8 @@ drained-stop e edges h (suc k) s l =
 
 pub drained-full : (e : Graph) (edges h : ℕ) (s : Scan) → h ≤ 64 → drained e edges h s .count ≤ h → drained e edges 64 s ≡ drained e edges h s
 drained-full e edges h s l k = let x : h + (64 - h) ≡ 64 = omega arith in subst (λ n. drained e edges n s ≡ drained e edges h s) x (drained-stop e edges h (64 - h) s k)
+
+-- a search that starts in words of zeros
+pub begins : (e : Graph) (edges n start : ℕ) (s x : Scan) → s ≡ blank → x ≡ reached start 0 start s → drained e edges n x ≡ searched e edges n start
+unfolding searchedOn
+begins e edges n start s x z h = ap (drained e edges n) (h ∙ ap (reached start 0 start) z)

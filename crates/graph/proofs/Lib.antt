@@ -6,3 +6,5 @@ pub mod Bfs
 pub mod Found
 pub mod Joined
 pub mod Cases
+pub mod Lists
+pub mod Labels

@@ -12,8 +12,8 @@ pub record Scan : Type 0 where
   pub words : List ℕ
   pub count : ℕ
 
-abbrev pub scan : List ℕ → ℕ → Scan
-scan w c = record { words = w; count = c }
+abbrev pub scanOf : List ℕ → ℕ → Scan
+scanOf w c = record { words = w; count = c }
 
 -- the vertex at place i of the order
 abbrev pub at : Scan → ℕ → ℕ

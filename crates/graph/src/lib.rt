@@ -1,0 +1,2 @@
+// The walks over a graph of at most 64 vertices and 128 edges.
+mod search;
