@@ -1,3 +1,5 @@
 pub mod Cut
-pub mod Numbers
+pub mod Runs
 pub mod Seeing
+pub mod Shapes
+pub mod Filling

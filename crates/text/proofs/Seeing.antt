@@ -30,9 +30,9 @@ all-more : (xs : List Field) (f : Field) → pick (allNumbers xs) (f .ok) false 
 unfolding allNumbers
 all-more [] f = pick-yes _ _ refl ∙ sym (last (f .ok))
   where
-  last : (b : Bool) → pick b true false ≡ b
-  last true = pick-yes _ _ refl
-  last false = pick-no _ _ refl
+    last : (b : Bool) → pick b true false ≡ b
+    last true = pick-yes _ _ refl
+    last false = pick-no _ _ refl
 all-more (x ∷ xs) f = tested (x .ok)
     (λ t. ap (λ (b : Bool). pick b (f .ok) false) (pick-yes _ _ t) ∙ all-more xs f ∙ sym (pick-yes _ _ t))
     (λ t. pick-no _ _ (pick-no _ _ t) ∙ sym (pick-no _ _ t))
@@ -41,15 +41,15 @@ at-more : (xs : List Field) (f : Field) (k : ℕ) → pick (eqb (length xs) k) f
 at-more xs f k = tested (eqb (length xs) k)
     (λ t. pick-yes _ _ t ∙ sym (getD-at xs f [] none k (eqb-true (length xs) k t)))
     (λ t. pick-no _ _ t ∙ tested (ltb k (length xs))
-      (λ t′. sym (List·getD-append xs (f ∷ []) none k (ltb-true k (length xs) t′)))
-      (λ t′.
-        let h = ltb-false k (length xs) t′ in
-        let g = eqb-false (length xs) k t in
-        let m : length (xs ++ (f ∷ [])) ≤ k = simp length-append (beyond (length xs) k h g) in
-        List·getD-eq-default xs none h ∙ sym (List·getD-eq-default (xs ++ (f ∷ [])) none m)))
+    (λ t′. sym (List·getD-append xs (f ∷ []) none k (ltb-true k (length xs) t′)))
+    (λ t′.
+    let h = ltb-false k (length xs) t′ in
+    let g = eqb-false (length xs) k t in
+    let m : length (xs ++ (f ∷ [])) ≤ k = simp length-append (beyond (length xs) k h g) in
+    List·getD-eq-default xs none h ∙ sym (List·getD-eq-default (xs ++ (f ∷ [])) none m)))
   where
-  beyond : (n k : ℕ) → n ≤ k → (n ≡ k → ⊥) → n + 1 ≤ k
-  beyond n k h g = omega arith
+    beyond : (n k : ℕ) → n ≤ k → (n ≡ k → ⊥) → n + 1 ≤ k
+    beyond n k h g = omega arith
 
 seen-more : (xs : List Field) (f : Field) → seeNext (seenOf xs) f ≡ seenOf (xs ++ (f ∷ []))
 unfolding seeNext seenOf

@@ -1,11 +1,11 @@
 -- The shape of one line: its letter, and the numbers that follow, parted by tabs.
 use mathlib.Core.List.{List, [], _∷_, map}
 use mathlib.Core.Bool.{Bool, true, false}
-use Prim.Native.Nat.{ℕ, _+_, _-_}
+use Prim.Native.Nat.{ℕ, _+_, _-_, _<_}
 use lib.IntN.{ℤ, pos, natAbs}
 use lib.Signed.{leZ}
 use lib.Dec.{leb, eqb}
-use lib.ListN.{length, getD, set}
+use lib.ListN.{length, getD, set, drop}
 use Rattle.base.specs.Iter.{pick}
 use Rattle.text.specs.declared.Field.{Field}
 use Rattle.text.specs.declared.Seen.{Seen}
@@ -31,7 +31,14 @@ seeNext s f =
       count = s .count + 1;
       a = pick (eqb (s .count) 0) f (s .a);
       b = pick (eqb (s .count) 1) f (s .b);
-      c = pick (eqb (s .count) 2) f (s .c) }
+      c = pick (eqb (s .count) 2) f (s .c);
+    }
+
+-- what holds of the first three, so that each fits an i32
+pub record Fitting (s : Seen) : Type 0 where
+  pub a : s .a .size < 1000000000
+  pub b : s .b .size < 1000000000
+  pub c : s .c .size < 1000000000
 
 -- a number from 0 to most
 unfoldable pub within : ℕ → Field → Bool
@@ -119,6 +126,10 @@ rest (f ∷ fs) = fs
 -- the numbers of a line, in their order; a field that is no number counts as 0
 unfoldable pub numbersOf : List ℕ → List ℤ
 numbersOf l = map numberOf (map fieldOf (rest (split tab l)))
+
+-- from number `from` on, the first after the letter being number 0
+unfoldable pub numbersFrom : ℕ → List ℕ → List ℤ
+numbersFrom from l = drop from (numbersOf l)
 
 -- xs over the first entries of a buffer, as many as fit; the others keep what they held
 unfoldable pub over : List ℤ → List ℤ → List ℤ

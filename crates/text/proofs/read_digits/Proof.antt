@@ -4,7 +4,7 @@ use native.Mathlib.Nat.{pow-zero}
 use native.Mathlib.Omega.{arith}
 use lib.ListN.{length, drop, getD}
 use Rattle.text.specs.Number.{digitsField}
-use Rattle.text.proofs.Numbers.{low-at, high-at, digit-at, digits-end, grows, power-room}
+use Rattle.text.proofs.Runs.{low-at, high-at, digit-at, digits-end, grows, power-room}
 use Rattle.text.proofs.read_digits.Statement.{statement}
 use Rattle.text.proofs.read_digits.Tie as tie
 use Rattle.text.proofs.read_digits.Reads as reads
@@ -19,7 +19,7 @@ abbrev μ-loop : tie.MeasureT-loop
 
 -- src/lib.rt:95:5
 loop-holds : tie.Need-loop-holds Inv-loop μ-loop
-loop-holds c = 
+loop-holds c =
     let a = c .before .args in
     let z : a .from - a .from ≡ 0 = omega arith in
     let p : 0 < 10 ^ (a .from - a .from) = rw (z, pow-zero) (omega arith) in
@@ -35,7 +35,7 @@ nothing-requires c κs = tt
 
 -- src/lib.rt:98:13
 returns : tie.Need-returns Inv-loop μ-loop
-returns c = 
+returns c =
     let l = c .before .before .before .before .loop in
     let a = c .before .before .before .before .before .before .args in
     c .nothing .ensures ∙ sym (low-at (a .minus) (l .v) (a .s .now) (l .i) (omega arith) (omega arith)) ∙ l .inv .3
@@ -46,14 +46,14 @@ nothing-requires-2 c κs = tt
 
 -- src/lib.rt:101:13
 returns-2 : tie.Need-returns-2 Inv-loop μ-loop
-returns-2 c = 
+returns-2 c =
     let l = c .before .before .before .before .before .loop in
     let a = c .before .before .before .before .before .before .before .args in
     c .nothing2 .ensures ∙ sym (high-at (a .minus) (l .v) (a .s .now) (l .i) (omega arith) (omega arith) (omega arith)) ∙ l .inv .3
 
 -- src/lib.rt:103:13
 mul-v : tie.Need-mul-v Inv-loop μ-loop
-mul-v c = 
+mul-v c =
     let l = c .before .before .before .before .loop in
     omega (arith, power-room (l .i - c .before .before .before .before .before .before .args .from) (omega arith))
 
@@ -63,7 +63,7 @@ cast-v c = omega arith
 
 -- src/lib.rt:103:13
 add-v : tie.Need-add-v Inv-loop μ-loop
-add-v c = 
+add-v c =
     let l = c .before .before .before .before .loop in
     omega (arith, power-room (l .i - c .before .before .before .before .before .before .args .from) (omega arith))
 
@@ -77,17 +77,19 @@ loop-less c = omega arith
 
 -- src/lib.rt:95:5
 loop-again : tie.Need-loop-again Inv-loop μ-loop
-loop-again c = 
+loop-again c =
     let l = c .before .before .before .before .loop in
     let a = c .before .before .before .before .before .before .args in
-    let z : suc (l .i - a .from) ≡ l .i + 1 - a .from = omega arith in
-    (omega arith, omega arith,
-    subst (λ (k : ℕ). l .v * 10 + (getD (a .s .now) (l .i) 0 - 48) < 10 ^ k) z (grows (l .v) (l .i - a .from) (getD (a .s .now) (l .i) 0) (l .inv .2) (omega arith)),
-    sym (digit-at (a .minus) (l .v) (a .s .now) (l .i) (omega arith) (omega arith) (omega arith)) ∙ l .inv .3)
+    let z : suc (l .i - a .from) ≡ l .i + 1 - a .from = omega arith in (
+      omega arith,
+      omega arith,
+      subst (λ (k : ℕ). l .v * 10 + (getD (a .s .now) (l .i) 0 - 48) < 10 ^ k) z (grows (l .v) (l .i - a .from) (getD (a .s .now) (l .i) 0) (l .inv .2) (omega arith)),
+      sym (digit-at (a .minus) (l .v) (a .s .now) (l .i) (omega arith) (omega arith) (omega arith)) ∙ l .inv .3,
+    )
 
 -- src/lib.rt:89:1
 returns-3 : tie.Need-returns-3 Inv-loop μ-loop
-returns-3 c = 
+returns-3 c =
     let l = c .before .loop in
     let a = c .before .before .before .args in
     sym (digits-end (a .minus) (l .v) (a .s .now) (l .i) (omega arith)) ∙ l .inv .3

@@ -1,6 +1,6 @@
 use mathlib.Core.Path.{sym, _∙_}
 use native.Mathlib.Omega.{arith}
-use Rattle.text.proofs.Numbers.{field-empty, field-minus, field-plain}
+use Rattle.text.proofs.Runs.{field-empty, field-minus, field-plain}
 use borrow.Author.Needs.{needs}
 use Rattle.text.proofs.read_field.Statement.{statement}
 use Rattle.text.proofs.read_field.Tie as tie
@@ -27,7 +27,7 @@ read-sized-requires c κs = search needs
 
 -- src/lib.rt:138:9
 returns-2 : tie.Need-returns-2
-returns-2 c = 
+returns-2 c =
     let a = c .before .before .before .before .before .args in
     c .read-sized .ensures ∙ sym (field-minus (a .s .now) (omega arith) (c .before .if2 .taken))
 
@@ -37,7 +37,7 @@ read-sized-requires-2 c κs = search needs
 
 -- src/lib.rt:131:1
 returns-3 : tie.Need-returns-3
-returns-3 c = 
+returns-3 c =
     let a = c .before .before .before .before .before .args in
     c .read-sized2 .ensures ∙ sym (field-plain (a .s .now) (omega arith) (c .before .if2 .left))
 

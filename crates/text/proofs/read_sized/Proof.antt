@@ -1,6 +1,6 @@
 use mathlib.Core.Path.{sym, _∙_}
 use native.Mathlib.Omega.{arith}
-use Rattle.text.proofs.Numbers.{too-few, too-many, enough}
+use Rattle.text.proofs.Runs.{too-few, too-many, enough}
 use borrow.Author.Needs.{needs}
 use Rattle.text.proofs.read_sized.Statement.{statement}
 use Rattle.text.proofs.read_sized.Tie as tie
@@ -19,7 +19,7 @@ nothing-requires c κs = search needs
 
 -- src/lib.rt:122:9
 returns : tie.Need-returns
-returns c = 
+returns c =
     let a = c .before .before .before .args in
     c .nothing .ensures ∙ sym (too-few (a .minus) (a .s .now) (a .from) (c .before .if1 .taken))
 
@@ -29,7 +29,7 @@ nothing-requires-2 c κs = search needs
 
 -- src/lib.rt:125:9
 returns-2 : tie.Need-returns-2
-returns-2 c = 
+returns-2 c =
     let a = c .before .before .before .before .args in
     c .nothing2 .ensures ∙ sym (too-many (a .minus) (a .s .now) (a .from) (c .before .if2 .taken))
 
@@ -39,7 +39,7 @@ read-digits-requires c κs = search needs
 
 -- src/lib.rt:116:1
 returns-3 : tie.Need-returns-3
-returns-3 c = 
+returns-3 c =
     let a = c .before .before .before .before .args in
     c .read-digits .ensures ∙ sym (enough (a .minus) (a .s .now) (a .from) (omega arith) (c .before .if2 .left))
 

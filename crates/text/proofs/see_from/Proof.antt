@@ -32,7 +32,7 @@ see-none-requires c κs = tt
 
 -- src/lib.rt:221:5
 loop-holds : tie.Need-loop-holds Inv-loop μ-loop
-loop-holds c = 
+loop-holds c =
     let a = c .before .before .args in
     let e = c .see-none .ensures in
     let fs = map fieldOf (more tab (drop (a .end) (a .line .now))) in
@@ -75,26 +75,27 @@ see-next-requires c κs = omega arith
 
 -- src/lib.rt:221:5
 loop-less : tie.Need-loop-less Inv-loop μ-loop
-loop-less c = 
+loop-less c =
     let p = c .before .before .before in
     omega (arith, p .field-end .ensures, inside p)
 
 -- src/lib.rt:221:5
 loop-again : tie.Need-loop-again Inv-loop μ-loop
-loop-again c = 
+loop-again c =
     let p = c .before .before .before in
     let l = c .before .before .before .before .before .loop in
     let a = c .before .before .before .before .before .before .before .before .args in
     let f = c .before .read-field in
-    let n = counted (l .s) (c .see-next .result) (f .result) (a .line .now) (l .at) (p .field-end .result) (c .see-next .ensures) in
-    (inside p,
-    omega (arith, n, l .inv .1, p .field-end .ensures),
-    see-step (l .s) (c .see-next .result) (f .result) (a .line .now) (l .at) (p .field-end .result) (omega arith) (p .field-end .ensures) (f .ensures) (c .see-next .ensures)
-    ∙ l .inv .2)
+    let n = counted (l .s) (c .see-next .result) (f .result) (a .line .now) (l .at) (p .field-end .result) (c .see-next .ensures) in (
+      inside p,
+      omega (arith, n, l .inv .1, p .field-end .ensures),
+      see-step (l .s) (c .see-next .result) (f .result) (a .line .now) (l .at) (p .field-end .result) (omega arith) (p .field-end .ensures) (f .ensures) (c .see-next .ensures)
+          ∙ l .inv .2,
+    )
 
 -- src/lib.rt:215:1
 returns : tie.Need-returns Inv-loop μ-loop
-returns c = 
+returns c =
     let l = c .before .loop in
     let a = c .before .before .before .before .args in
     sym (look-end (l .s))

@@ -22,14 +22,14 @@ sub-result c = key-fits (c .before .before .args .f .size) (omega arith)
 -- src/lib.rt:149:9
 returns : tie.Need-returns
 unfolding numberOf
-returns c = 
+returns c =
     let f = c .before .before .args .f in
     key-back (f .size) (omega arith) ∙ sym (pick-yes _ _ (c .if1 .taken))
 
 -- src/lib.rt:142:1
 returns-2 : tie.Need-returns-2
 unfolding numberOf
-returns-2 c = 
+returns-2 c =
     let f = c .before .before .args .f in
     toZ-pos w32 {n = f .size} (omega arith) ∙ sym (pick-no _ _ (c .if1 .left))
 

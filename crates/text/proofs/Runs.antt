@@ -96,12 +96,12 @@ unfolding allDigits decimal
 bounded [] v k h d = simp unary-clauses h
 bounded (b ∷ l) v k h d = tested (leb 48 b)
     (λ t. tested (leb b 57)
-      (λ t′.
-        let e : allDigits l ≡ true = sym (pick-yes _ _ t ∙ pick-yes _ _ t′) ∙ d in
-        let p : suc k + length l ≡ k + suc (length l) = omega arith in
-        subst (λ (n : ℕ). decimal (v * 10 + (b - 48)) l < 10 ^ n) p
-        (bounded l (v * 10 + (b - 48)) (suc k) (grows v k b h (leb-true b 57 t′)) e))
-      (λ t′. absurd (false≢true (sym (pick-yes _ _ t ∙ pick-no _ _ t′) ∙ d))))
+    (λ t′.
+    let e : allDigits l ≡ true = sym (pick-yes _ _ t ∙ pick-yes _ _ t′) ∙ d in
+    let p : suc k + length l ≡ k + suc (length l) = omega arith in
+    subst (λ (n : ℕ). decimal (v * 10 + (b - 48)) l < 10 ^ n) p
+    (bounded l (v * 10 + (b - 48)) (suc k) (grows v k b h (leb-true b 57 t′)) e))
+    (λ t′. absurd (false≢true (sym (pick-yes _ _ t ∙ pick-no _ _ t′) ∙ d))))
     (λ t. absurd (false≢true (sym (pick-no _ _ t) ∙ d)))
 
 pub power-room : (k : ℕ) → k ≤ 8 → 10 ^ k ≤ 100000000
@@ -122,10 +122,10 @@ unfolding sized digitsField
 sized-small minus l =
     pick-ind Small (leb 1 (length l)) _ _
     (λ t. pick-ind Small (leb (length l) 9) _ _
-      (λ t′. pick-ind Small (allDigits l) _ _
-        (λ t″. omega (arith, simp zero-add at (bounded l 0 0 (rw pow-zero (omega arith)) t″), power-fits (length l) (leb-true (length l) 9 t′)))
-        (λ t″. none-small))
-      (λ t′. none-small))
+    (λ t′. pick-ind Small (allDigits l) _ _
+    (λ t″. omega (arith, simp zero-add at (bounded l 0 0 (rw pow-zero (omega arith)) t″), power-fits (length l) (leb-true (length l) 9 t′)))
+    (λ t″. none-small))
+    (λ t′. none-small))
     (λ t. none-small)
 
 -- a field's size is below 1,000,000,000
