@@ -65,3 +65,35 @@ more-at sep l i e h p =
     let z : upto sep (drop (i + 1) l) ≡ e - (i + 1) = omega arith in
     more-step sep l i h
     ∙ ap₂ (λ (u k : ℕ). take u (drop (i + 1) l) ∷ more sep (drop k l)) z (sym p)
+
+-- ---- the first line and the others
+lines-first : (b : ℕ) (l : List ℕ) →
+    linesOf (b ∷ l) ≡ take (upto newline (b ∷ l)) (b ∷ l) ∷ linesOf (drop (suc (upto newline (b ∷ l))) (b ∷ l))
+unfolding linesOf upto front
+lines-first b [] = tested (eqb b newline)
+    (λ t. pick-yes _ _ t ∙ ap (λ (u : ℕ). take u (b ∷ []) ∷ linesOf (drop (suc u) (b ∷ []))) (sym (pick-yes _ _ t)))
+    (λ t. pick-no _ _ t ∙ ap (λ (u : ℕ). take u (b ∷ []) ∷ linesOf (drop (suc u) (b ∷ []))) (sym (pick-no _ _ t)))
+lines-first b (x ∷ l) = tested (eqb b newline)
+    (λ t. pick-yes _ _ t ∙ ap (λ (u : ℕ). take u (b ∷ x ∷ l) ∷ linesOf (drop (suc u) (b ∷ x ∷ l))) (sym (pick-yes _ _ t)))
+    (λ t.
+    pick-no _ _ t ∙ ap (front b) (lines-first x l)
+    ∙ ap (λ (u : ℕ). take u (b ∷ x ∷ l) ∷ linesOf (drop (suc u) (b ∷ x ∷ l))) (sym (pick-no _ _ t)))
+
+lines-open : (l : List ℕ) → 0 < length l → linesOf l ≡ take (upto newline l) l ∷ linesOf (drop (suc (upto newline l)) l)
+lines-open [] h = absurd (omega arith)
+lines-open (b ∷ l) h = lines-first b l
+
+-- the next line as code has it, from i to its end e
+pub lines-at : (l : List ℕ) (i e : ℕ) → i < length l → e ≡ i + upto newline (drop i l) →
+    linesOf (drop i l) ≡ take (e - i) (drop i l) ∷ linesOf (drop (e + 1) l)
+lines-at l i e h p =
+    let u = upto newline (drop i l) in
+    let y : u ≡ e - i = omega arith in
+    let z : i + suc u ≡ e + 1 = omega arith in
+    lines-open (drop i l) (omega (arith, length-drop i l))
+    ∙ ap₂ (λ (n : ℕ) (d : List ℕ). take n (drop i l) ∷ linesOf d) y
+    (drop-drop (suc u) i l ∙ ap (λ (k : ℕ). drop k l) z)
+
+pub lines-none : (l : List ℕ) (i : ℕ) → length l ≤ i → linesOf (drop i l) ≡ []
+unfolding linesOf
+lines-none l i h = ap linesOf (drop-of-length-le l h)

@@ -3,3 +3,4 @@ pub mod Runs
 pub mod Seeing
 pub mod Shapes
 pub mod Filling
+pub mod Order

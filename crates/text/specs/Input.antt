@@ -12,7 +12,7 @@ use Rattle.text.specs.Fields.{linesOf}
 use Rattle.text.specs.Lines.{readLine}
 
 -- whether a line may stand here: O only as the first line, P and G only before any V, I, N, U or R
-unfoldable pub admitted : Bool → Bool → Line → Bool
+abbrev pub admitted : Bool → Bool → Line → Bool
 admitted first called (O s e) = first
 admitted first called (P w k n) = not called
 admitted first called (G u v l) = not called
@@ -25,7 +25,7 @@ admitted first called RLast = true
 admitted first called Malformed = false
 
 -- whether the plan's lines have ended with this one or before: called says whether before
-unfoldable pub calls : Bool → Line → Bool
+abbrev pub calls : Bool → Line → Bool
 calls called (O s e) = called
 calls called (P w k n) = called
 calls called (G u v l) = called
