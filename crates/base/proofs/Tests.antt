@@ -2,7 +2,7 @@
 use Prim.Native.Nat.{ℕ, _<_, _≤_}
 use native.Mathlib.Omega.{arith}
 use native.Mathlib.Decide.{decLe}
-use mathlib.Core.Path.{_≡_, refl}
+use mathlib.Core.Path.{_≡_, refl, sym, ap, _∙_}
 use mathlib.Core.Logic.{_⊎_, inl, inr}
 use mathlib.Core.Bool.{Bool, true, false, not, _&&_, _||_, false≢true, true≢false}
 
@@ -32,3 +32,16 @@ or-none false b e = (refl, e)
 pub not-false : (a : Bool) → not a ≡ false → a ≡ true
 not-false true e = refl
 not-false false e = absurd (true≢false e)
+
+-- a chain of tests, as code that returns at the first that passes goes along it
+pub or-yes : {a : Bool} (b : Bool) → a ≡ true → true ≡ (a || b)
+or-yes b e = sym (ap (λ (t : Bool). t || b) e)
+
+pub or-next : {a : Bool} (b x : Bool) → a ≡ false → x ≡ b → x ≡ (a || b)
+or-next b x e f = f ∙ sym (ap (λ (t : Bool). t || b) e)
+
+pub and-no : {a : Bool} (b : Bool) → a ≡ false → false ≡ (a && b)
+and-no b e = sym (ap (λ (t : Bool). t && b) e)
+
+pub and-next : {a : Bool} (b x : Bool) → a ≡ true → x ≡ b → x ≡ (a && b)
+and-next b x e f = f ∙ sym (ap (λ (t : Bool). t && b) e)

@@ -1,7 +1,7 @@
 -- The plan's own test: whether words and an edge table are a plan that the calls can work on. Each line is what would be wrong.
 use mathlib.Core.Bool.{Bool, not, _&&_, _||_}
 use mathlib.Core.List.{List, []}
-use Prim.Native.Nat.{ℕ, pred, _+_, _-_, _*_, _/_, _%_}
+use Prim.Native.Nat.{ℕ, pred, _+_, _-_, _*_, _/_, _%_, _<_, _≤_}
 use lib.Dec.{eqb, ltb, leb}
 use lib.ListN.{getD}
 use Rattle.base.specs.Iter.{iter, pick}
@@ -49,14 +49,17 @@ occurrenceBad ws k i =
     || (not (eqb (litOf ws (occurrenceAt ws i) / 2) (variableAt ws k))
     || (ltb (startAt ws k) i && leb (occurrenceAt ws i) (occurrenceAt ws (i - 1))))
 
--- a variable is out of range or not over the one before it; it has no occurrence, or one past the last; or an occurrence is bad
+-- a variable is out of range or not over the one before it
+unfoldable pub variableOrderBad : List ℕ → ℕ → Bool
+variableOrderBad ws k = ltb 4095 (variableAt ws k) || (ltb 0 k && leb (variableAt ws k) (variableAt ws (k - 1)))
+
+-- or it has no occurrence, or one past the last, or one that is bad
 unfoldable pub variableBad : List ℕ → ℕ → Bool
 variableBad ws k =
-    ltb 4095 (variableAt ws k)
-    || ((ltb 0 k && leb (variableAt ws k) (variableAt ws (k - 1)))
+    variableOrderBad ws k
     || (leb (startAt ws (k + 1)) (startAt ws k)
     || (ltb (slotsOf ws) (startAt ws (k + 1))
-    || some (λ i. occurrenceBad ws k (startAt ws k + i)) (startAt ws (k + 1) - startAt ws k))))
+    || some (λ i. occurrenceBad ws k (startAt ws k + i)) (startAt ws (k + 1) - startAt ws k)))
 
 -- how many slots are in use: a domain of k sizes has k - 1 literals, an edge has one
 unfoldable pub slotCount : List ℕ → ℕ
@@ -73,3 +76,11 @@ planBad ws ends =
     || (some (edgeBad ws ends) (edgesOf ws)
     || (some (variableBad ws) (variablesOf ws)
     || startsBad ws)))
+
+-- what the first test leaves: the counts are within their limits
+pub record Counts (ws : List ℕ) : Type 0 where
+  pub vertices : verticesOf ws ≤ 64
+  pub edges : edgesOf ws ≤ 128
+  pub variables : variablesOf ws ≤ 2112
+  pub slots : slotsOf ws ≤ 2112
+  pub domains : (v : ℕ) → v < verticesOf ws → domainLenOf ws v ≤ 32

@@ -1,4 +1,7 @@
+// The plan: its words, which the builder fills and every call reads, and the plan's own test.
 // Reading a plan's words. specs/Words.antt says which word is which; every function answers 0 past its limits.
+pub mod check;
+
 ghost use mathlib.Core.Path.{_≡_};
 ghost use Prim.Native.Nat.{_+_, _*_, _/_, _%_, _<_, _≤_};
 ghost use Rattle.plan.specs.Words.{entry, cell, word, verticesOf, edgesOf, sameSizeOf, extraWallsOf, variablesOf, slotsOf, weightOf, domainLenOf, domainOf, litOf, domLitOf, edgeLitOf, placeOf, positionOf, variableAt, startAt, occurrenceAt, uniqueLitAt};
