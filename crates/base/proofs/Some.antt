@@ -52,3 +52,9 @@ module _ (t : ℕ → Bool) where
       (λ (a : some t n ≡ true). let (i, h, p) = some-there n a in (i, le-step h, p))
       (λ (a : t n ≡ true). (n, lt-suc-self n, a))
       (or-cases (some t n) (t n) e)
+
+  -- where each fails, none is found
+  pub some-all : (n : ℕ) → ((i : ℕ) → i < n → t i ≡ false) → some t n ≡ false
+  unfolding some
+  some-all zero h = refl
+  some-all (suc n) h = ap (λ (b : Bool). b || t n) (some-all n (λ i k. h i (le-step k))) ∙ h n (lt-suc-self n)

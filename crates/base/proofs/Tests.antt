@@ -45,3 +45,13 @@ and-no b e = sym (ap (λ (t : Bool). t && b) e)
 
 pub and-next : {a : Bool} (b x : Bool) → a ≡ true → x ≡ b → x ≡ (a && b)
 and-next b x e f = f ∙ sym (ap (λ (t : Bool). t && b) e)
+
+pub or-both : {a b : Bool} → a ≡ false → b ≡ false → (a || b) ≡ false
+or-both {a} {b} e f = ap (λ (t : Bool). t || b) e ∙ f
+
+pub and-either : {a b : Bool} → (a ≡ true → b ≡ false) → (a && b) ≡ false
+and-either {a} {b} h = go a refl
+  where
+    go : (t : Bool) → a ≡ t → (a && b) ≡ false
+    go true e = ap (λ (t : Bool). t && b) e ∙ h e
+    go false e = ap (λ (t : Bool). t && b) e
