@@ -16,8 +16,8 @@ use Rattle.plan.specs.Check.{countsBad, vertexBad, Counts}
 pub record Sized (ws : List ℕ) : Type 0 where
   pub vertices : verticesOf ws ≤ 64
   pub edges : edgesOf ws ≤ 128
-  pub variables : variablesOf ws ≤ 2112
-  pub slots : slotsOf ws ≤ 2112
+  pub variables : variablesOf ws ≤ 2176
+  pub slots : slotsOf ws ≤ 2176
   pub sameSize : word ws 2 ≤ 1
   pub extraWalls : word ws 3 ≤ 1
 
@@ -32,8 +32,8 @@ sized ws e =
     record {
       vertices = ltb-false 64 (verticesOf ws) a;
       edges = ltb-false 128 (edgesOf ws) b;
-      variables = ltb-false 2112 (variablesOf ws) c;
-      slots = ltb-false 2112 (slotsOf ws) d;
+      variables = ltb-false 2176 (variablesOf ws) c;
+      slots = ltb-false 2176 (slotsOf ws) d;
       sameSize = ltb-false 1 (word ws 2) f;
       extraWalls = ltb-false 1 (word ws 3) g;
     }

@@ -11,7 +11,7 @@ use Rattle.plan.specs.Words.{word, verticesOf, edgesOf, variablesOf, slo
 -- more of something than there is room for, or an option that is neither off nor on
 unfoldable pub countsBad : List ℕ → Bool
 countsBad ws =
-    ltb 64 (verticesOf ws) || (ltb 128 (edgesOf ws) || (ltb 2112 (variablesOf ws) || (ltb 2112 (slotsOf ws) || (ltb 1 (word ws 2) || ltb 1 (word ws 3)))))
+    ltb 64 (verticesOf ws) || (ltb 128 (edgesOf ws) || (ltb 2176 (variablesOf ws) || (ltb 2176 (slotsOf ws) || (ltb 1 (word ws 2) || ltb 1 (word ws 3)))))
 
 -- a slot that holds a literal: of a size literal of a vertex, or of an edge
 unfoldable pub usedSlot : List ℕ → ℕ → Bool
@@ -81,6 +81,6 @@ planBad ws ends =
 pub record Counts (ws : List ℕ) : Type 0 where
   pub vertices : verticesOf ws ≤ 64
   pub edges : edgesOf ws ≤ 128
-  pub variables : variablesOf ws ≤ 2112
-  pub slots : slotsOf ws ≤ 2112
+  pub variables : variablesOf ws ≤ 2176
+  pub slots : slotsOf ws ≤ 2176
   pub domains : (v : ℕ) → v < verticesOf ws → domainLenOf ws v ≤ 32

@@ -33,7 +33,7 @@ pub record ProperWords (ws : List ℕ) (ends : List (List ℕ)) : Type 0 where
   pub entries : (v j : ℕ) → v < verticesOf ws → j < domainLenOf ws v → domainOf ws v j ≤ 1000000
   pub rising : (v j : ℕ) → v < verticesOf ws → suc j < domainLenOf ws v → domainOf ws v j < domainOf ws v (suc j)
   pub filed : (s : ℕ) → usedSlot ws s ≡ true → Filed ws s
-  pub few : (variablesOf ws ≤ 2112) × (slotsOf ws ≤ 2112)
+  pub few : (variablesOf ws ≤ 2176) × (slotsOf ws ≤ 2176)
   pub distinct : (k : ℕ) → suc k < variablesOf ws → variableAt ws k < variableAt ws (suc k)
   pub listed : (k : ℕ) → k < variablesOf ws → Listed ws k
   pub first : startAt ws 0 ≡ 0

@@ -66,13 +66,13 @@ positionOf = entry 6536 2176
 
 -- the distinct variables, rising; where the occurrences of each one start; and the slots of each one, rising
 abbrev pub variableAt : List ℕ → ℕ → ℕ
-variableAt = entry 8712 2112
+variableAt = entry 8712 2176
 
 abbrev pub startAt : List ℕ → ℕ → ℕ
-startAt = entry 10824 2113
+startAt = entry 10888 2177
 
 abbrev pub occurrenceAt : List ℕ → ℕ → ℕ
-occurrenceAt = entry 12937 2112
+occurrenceAt = entry 13065 2176
 
 -- the distinct literals, both signs, rising: literals 2k and 2k + 1 are those of distinct variable k
 abbrev pub uniqueLitAt : List ℕ → ℕ → ℕ

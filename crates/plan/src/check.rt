@@ -23,7 +23,7 @@ ghost use Rattle.base.specs.Lists.{some};
 ghost use Rattle.plan.specs.Words.{word, verticesOf, edgesOf, variablesOf, slotsOf, domainLenOf, startAt};
 ghost use Rattle.plan.specs.Check.{countsBad, usedSlot, slotBad, entryBad, vertexBad, edgeBad, occurrenceBad, variableOrderBad, variableBad, slotCount, startsBad, planBad, Counts};
 
-fn counts_bad(plan: &[u32; 15049]) -> bool
+fn counts_bad(plan: &[u32; 15241]) -> bool
     ensures { λ r. ⌜ r ≡ countsBad (now (plan .entry)) ⌝ }
 {
     if 64 < num_vertices(plan) {
@@ -32,10 +32,10 @@ fn counts_bad(plan: &[u32; 15049]) -> bool
     if 128 < num_edges(plan) {
         return true;
     }
-    if 2112 < num_variables(plan) {
+    if 2176 < num_variables(plan) {
         return true;
     }
-    if 2112 < num_slots(plan) {
+    if 2176 < num_slots(plan) {
         return true;
     }
     if 1 < plan[2] {
@@ -45,7 +45,7 @@ fn counts_bad(plan: &[u32; 15049]) -> bool
 }
 
 // Whether a slot holds a literal.
-pub fn used_slot(plan: &[u32; 15049], s: usize) -> bool
+pub fn used_slot(plan: &[u32; 15241], s: usize) -> bool
     ensures { λ r. ⌜ r ≡ usedSlot (now (plan .entry)) s ⌝ }
 {
     if s < 2048 {
@@ -58,7 +58,7 @@ pub fn used_slot(plan: &[u32; 15049], s: usize) -> bool
     s - 2048 < num_edges(plan) as usize
 }
 
-fn slot_bad(plan: &[u32; 15049], s: usize) -> bool
+fn slot_bad(plan: &[u32; 15241], s: usize) -> bool
     ensures { λ r. ⌜ r ≡ slotBad (now (plan .entry)) s ⌝ }
 {
     let l = lit(plan, s);
@@ -82,7 +82,7 @@ fn slot_bad(plan: &[u32; 15049], s: usize) -> bool
     occurrence_at(plan, at as usize) as usize != s
 }
 
-fn entry_bad(plan: &[u32; 15049], v: usize, j: usize) -> bool
+fn entry_bad(plan: &[u32; 15241], v: usize, j: usize) -> bool
     ensures { λ r. ⌜ r ≡ entryBad (now (plan .entry)) v j ⌝ }
 {
     if 1000000 < domain(plan, v, j) {
@@ -94,7 +94,7 @@ fn entry_bad(plan: &[u32; 15049], v: usize, j: usize) -> bool
     domain(plan, v, j) <= domain(plan, v, j - 1)
 }
 
-fn some_entry_bad(plan: &[u32; 15049], v: usize, len: usize) -> bool
+fn some_entry_bad(plan: &[u32; 15241], v: usize, len: usize) -> bool
     ensures { λ r. ⌜ r ≡ some (entryBad (now (plan .entry)) v) len ⌝ }
 {
     let mut j = 0;
@@ -107,14 +107,14 @@ fn some_entry_bad(plan: &[u32; 15049], v: usize, len: usize) -> bool
     false
 }
 
-fn dom_slot_bad(plan: &[u32; 15049], v: usize, j: usize) -> bool
+fn dom_slot_bad(plan: &[u32; 15241], v: usize, j: usize) -> bool
     requires { ⌜ (v < 64) × (j < 32) ⌝ }
     ensures { λ r. ⌜ r ≡ slotBad (now (plan .entry)) (32 * v + j) ⌝ }
 {
     slot_bad(plan, 32 * v + j)
 }
 
-fn some_dom_slot_bad(plan: &[u32; 15049], v: usize, count: usize) -> bool
+fn some_dom_slot_bad(plan: &[u32; 15241], v: usize, count: usize) -> bool
     requires { ⌜ (v < 64) × (count ≤ 32) ⌝ }
     ensures { λ r. ⌜ r ≡ some (λ j. slotBad (now (plan .entry)) (32 * v + j)) count ⌝ }
 {
@@ -138,7 +138,7 @@ fn less_one(k: usize) -> usize
     k - 1
 }
 
-fn vertex_bad(plan: &[u32; 15049], v: usize) -> bool
+fn vertex_bad(plan: &[u32; 15241], v: usize) -> bool
     requires { ⌜ v < 64 ⌝ }
     ensures { λ r. ⌜ r ≡ vertexBad (now (plan .entry)) v ⌝ }
 {
@@ -155,7 +155,7 @@ fn vertex_bad(plan: &[u32; 15049], v: usize) -> bool
     some_dom_slot_bad(plan, v, less_one(len))
 }
 
-fn some_vertex_bad(plan: &[u32; 15049], n: usize) -> bool
+fn some_vertex_bad(plan: &[u32; 15241], n: usize) -> bool
     requires { ⌜ n ≤ 64 ⌝ }
     ensures { λ r. ⌜ r ≡ some (vertexBad (now (plan .entry))) n ⌝ }
 {
@@ -175,7 +175,7 @@ fn wide(x: u8) -> u32
     x as u32
 }
 
-fn edge_bad<'a>(plan: &'a [u32; 15049], edges: &'a [[u8; 2]; 128], g: usize) -> bool
+fn edge_bad<'a>(plan: &'a [u32; 15241], edges: &'a [[u8; 2]; 128], g: usize) -> bool
     requires { ⌜ g < 128 ⌝ }
     ensures { λ r. ⌜ r ≡ edgeBad (now (plan .entry)) (now (edges .entry)) g ⌝ }
 {
@@ -189,7 +189,7 @@ fn edge_bad<'a>(plan: &'a [u32; 15049], edges: &'a [[u8; 2]; 128], g: usize) -> 
     slot_bad(plan, 2048 + g)
 }
 
-fn some_edge_bad<'a>(plan: &'a [u32; 15049], edges: &'a [[u8; 2]; 128], m: usize) -> bool
+fn some_edge_bad<'a>(plan: &'a [u32; 15241], edges: &'a [[u8; 2]; 128], m: usize) -> bool
     requires { ⌜ m ≤ 128 ⌝ }
     ensures { λ r. ⌜ r ≡ some (edgeBad (now (plan .entry)) (now (edges .entry))) m ⌝ }
 {
@@ -203,7 +203,7 @@ fn some_edge_bad<'a>(plan: &'a [u32; 15049], edges: &'a [[u8; 2]; 128], m: usize
     false
 }
 
-fn occurrence_bad(plan: &[u32; 15049], k: usize, i: usize) -> bool
+fn occurrence_bad(plan: &[u32; 15241], k: usize, i: usize) -> bool
     ensures { λ r. ⌜ r ≡ occurrenceBad (now (plan .entry)) k i ⌝ }
 {
     let s = occurrence_at(plan, i);
@@ -219,15 +219,15 @@ fn occurrence_bad(plan: &[u32; 15049], k: usize, i: usize) -> bool
     true
 }
 
-fn occurrence_bad_from(plan: &[u32; 15049], k: usize, from: usize, i: usize) -> bool
-    requires { ⌜ from + i ≤ 2112 ⌝ }
+fn occurrence_bad_from(plan: &[u32; 15241], k: usize, from: usize, i: usize) -> bool
+    requires { ⌜ from + i ≤ 2176 ⌝ }
     ensures { λ r. ⌜ r ≡ occurrenceBad (now (plan .entry)) k (from + i) ⌝ }
 {
     occurrence_bad(plan, k, from + i)
 }
 
-fn some_occurrence_bad(plan: &[u32; 15049], k: usize, from: usize, n: usize) -> bool
-    requires { ⌜ from + n ≤ 2112 ⌝ }
+fn some_occurrence_bad(plan: &[u32; 15241], k: usize, from: usize, n: usize) -> bool
+    requires { ⌜ from + n ≤ 2176 ⌝ }
     ensures { λ r. ⌜ r ≡ some (λ i. occurrenceBad (now (plan .entry)) k (from + i)) n ⌝ }
 {
     let mut i = 0;
@@ -241,7 +241,7 @@ fn some_occurrence_bad(plan: &[u32; 15049], k: usize, from: usize, n: usize) -> 
 }
 
 // Whether distinct variable k is out of range or not over the one before it.
-fn variable_order_bad(plan: &[u32; 15049], k: usize) -> bool
+fn variable_order_bad(plan: &[u32; 15241], k: usize) -> bool
     ensures { λ r. ⌜ r ≡ variableOrderBad (now (plan .entry)) k ⌝ }
 {
     if 4095 < variable_at(plan, k) {
@@ -253,8 +253,8 @@ fn variable_order_bad(plan: &[u32; 15049], k: usize) -> bool
     variable_at(plan, k) <= variable_at(plan, k - 1)
 }
 
-fn variable_bad(plan: &[u32; 15049], k: usize) -> bool
-    requires { ⌜ (k < 2112) × (slotsOf (now plan) ≤ 2112) ⌝ }
+fn variable_bad(plan: &[u32; 15241], k: usize) -> bool
+    requires { ⌜ (k < 2176) × (slotsOf (now plan) ≤ 2176) ⌝ }
     ensures { λ r. ⌜ r ≡ variableBad (now (plan .entry)) k ⌝ }
 {
     if variable_order_bad(plan, k) {
@@ -271,8 +271,8 @@ fn variable_bad(plan: &[u32; 15049], k: usize) -> bool
     some_occurrence_bad(plan, k, from, end - from)
 }
 
-fn some_variable_bad(plan: &[u32; 15049], n: usize) -> bool
-    requires { ⌜ (n ≤ 2112) × (slotsOf (now plan) ≤ 2112) ⌝ }
+fn some_variable_bad(plan: &[u32; 15241], n: usize) -> bool
+    requires { ⌜ (n ≤ 2176) × (slotsOf (now plan) ≤ 2176) ⌝ }
     ensures { λ r. ⌜ r ≡ some (variableBad (now (plan .entry))) n ⌝ }
 {
     let mut k = 0;
@@ -285,7 +285,7 @@ fn some_variable_bad(plan: &[u32; 15049], n: usize) -> bool
     false
 }
 
-fn add_slots(plan: &[u32; 15049], v: usize, n: usize) -> usize
+fn add_slots(plan: &[u32; 15241], v: usize, n: usize) -> usize
     requires { ⌜ n + pred (domainLenOf (now plan) v) < 1000000 ⌝ }
     ensures { λ r. ⌜ r ≡ n + pred (domainLenOf (now (plan .entry)) v) ⌝ }
 {
@@ -293,7 +293,7 @@ fn add_slots(plan: &[u32; 15049], v: usize, n: usize) -> usize
 }
 
 // How many slots are in use.
-fn slot_count(plan: &[u32; 15049]) -> usize
+fn slot_count(plan: &[u32; 15241]) -> usize
     requires { ⌜ Counts (now plan) ⌝ }
     ensures { λ r. ⌜ r ≡ slotCount (now (plan .entry)) ⌝ }
 {
@@ -307,7 +307,7 @@ fn slot_count(plan: &[u32; 15049]) -> usize
     n
 }
 
-fn starts_bad(plan: &[u32; 15049]) -> bool
+fn starts_bad(plan: &[u32; 15241]) -> bool
     requires { ⌜ Counts (now plan) ⌝ }
     ensures { λ r. ⌜ r ≡ startsBad (now (plan .entry)) ⌝ }
 {
@@ -322,7 +322,7 @@ fn starts_bad(plan: &[u32; 15049]) -> bool
 }
 
 // Whether the words and the edge table are a plan that the calls can work on.
-pub fn plan_ok<'a>(plan: &'a [u32; 15049], edges: &'a [[u8; 2]; 128]) -> bool
+pub fn plan_ok<'a>(plan: &'a [u32; 15241], edges: &'a [[u8; 2]; 128]) -> bool
     ensures { λ r. ⌜ r ≡ not (planBad (now (plan .entry)) (now (edges .entry))) ⌝ }
 {
     if counts_bad(plan) {

@@ -30,28 +30,28 @@ num-variables-requires c κs = search needs
 
 returns-3 : tie.Need-returns-3
 unfolding countsBad
-returns-3 c = or-next _ _ (le-ltb 64 (verticesOf ((c .before .before .before .before .before .before .args) .plan .now)) (omega arith)) (or-next _ _ (le-ltb 128 (edgesOf ((c .before .before .before .before .before .before .args) .plan .now)) (omega arith)) (or-yes _ (lt-ltb 2112 (variablesOf ((c .before .before .before .before .before .before .args) .plan .now)) (omega arith))))
+returns-3 c = or-next _ _ (le-ltb 64 (verticesOf ((c .before .before .before .before .before .before .args) .plan .now)) (omega arith)) (or-next _ _ (le-ltb 128 (edgesOf ((c .before .before .before .before .before .before .args) .plan .now)) (omega arith)) (or-yes _ (lt-ltb 2176 (variablesOf ((c .before .before .before .before .before .before .args) .plan .now)) (omega arith))))
 
 num-slots-requires : tie.Need-num-slots-requires
 num-slots-requires c κs = search needs
 
 returns-4 : tie.Need-returns-4
 unfolding countsBad
-returns-4 c = or-next _ _ (le-ltb 64 (verticesOf ((c .before .before .before .before .before .before .before .before .args) .plan .now)) (omega arith)) (or-next _ _ (le-ltb 128 (edgesOf ((c .before .before .before .before .before .before .before .before .args) .plan .now)) (omega arith)) (or-next _ _ (le-ltb 2112 (variablesOf ((c .before .before .before .before .before .before .before .before .args) .plan .now)) (omega arith)) (or-yes _ (lt-ltb 2112 (slotsOf ((c .before .before .before .before .before .before .before .before .args) .plan .now)) (omega arith)))))
+returns-4 c = or-next _ _ (le-ltb 64 (verticesOf ((c .before .before .before .before .before .before .before .before .args) .plan .now)) (omega arith)) (or-next _ _ (le-ltb 128 (edgesOf ((c .before .before .before .before .before .before .before .before .args) .plan .now)) (omega arith)) (or-next _ _ (le-ltb 2176 (variablesOf ((c .before .before .before .before .before .before .before .before .args) .plan .now)) (omega arith)) (or-yes _ (lt-ltb 2176 (slotsOf ((c .before .before .before .before .before .before .before .before .args) .plan .now)) (omega arith)))))
 
 element-copy-out-if5 : tie.Need-element-copy-out-if5
 element-copy-out-if5 c = search needs
 
 returns-5 : tie.Need-returns-5
 unfolding countsBad
-returns-5 c = or-next _ _ (le-ltb 64 (verticesOf ((c .before .before .before .before .before .before .before .before .before .before .args) .plan .now)) (omega arith)) (or-next _ _ (le-ltb 128 (edgesOf ((c .before .before .before .before .before .before .before .before .before .before .args) .plan .now)) (omega arith)) (or-next _ _ (le-ltb 2112 (variablesOf ((c .before .before .before .before .before .before .before .before .before .before .args) .plan .now)) (omega arith)) (or-next _ _ (le-ltb 2112 (slotsOf ((c .before .before .before .before .before .before .before .before .before .before .args) .plan .now)) (omega arith)) (or-yes _ (lt-ltb 1 (word ((c .before .before .before .before .before .before .before .before .before .before .args) .plan .now) 2) (omega arith))))))
+returns-5 c = or-next _ _ (le-ltb 64 (verticesOf ((c .before .before .before .before .before .before .before .before .before .before .args) .plan .now)) (omega arith)) (or-next _ _ (le-ltb 128 (edgesOf ((c .before .before .before .before .before .before .before .before .before .before .args) .plan .now)) (omega arith)) (or-next _ _ (le-ltb 2176 (variablesOf ((c .before .before .before .before .before .before .before .before .before .before .args) .plan .now)) (omega arith)) (or-next _ _ (le-ltb 2176 (slotsOf ((c .before .before .before .before .before .before .before .before .before .before .args) .plan .now)) (omega arith)) (or-yes _ (lt-ltb 1 (word ((c .before .before .before .before .before .before .before .before .before .before .args) .plan .now) 2) (omega arith))))))
 
 element-copy-out-result : tie.Need-element-copy-out-result
 element-copy-out-result c = search needs
 
 returns-6 : tie.Need-returns-6
 unfolding countsBad
-returns-6 c = or-next _ _ (le-ltb 64 (verticesOf ((c .before .before .before .before .before .before .before .before .before .before .before .args) .plan .now)) (omega arith)) (or-next _ _ (le-ltb 128 (edgesOf ((c .before .before .before .before .before .before .before .before .before .before .before .args) .plan .now)) (omega arith)) (or-next _ _ (le-ltb 2112 (variablesOf ((c .before .before .before .before .before .before .before .before .before .before .before .args) .plan .now)) (omega arith)) (or-next _ _ (le-ltb 2112 (slotsOf ((c .before .before .before .before .before .before .before .before .before .before .before .args) .plan .now)) (omega arith)) (or-next _ _ (le-ltb 1 (word ((c .before .before .before .before .before .before .before .before .before .before .before .args) .plan .now) 2) (omega arith)) refl))))
+returns-6 c = or-next _ _ (le-ltb 64 (verticesOf ((c .before .before .before .before .before .before .before .before .before .before .before .args) .plan .now)) (omega arith)) (or-next _ _ (le-ltb 128 (edgesOf ((c .before .before .before .before .before .before .before .before .before .before .before .args) .plan .now)) (omega arith)) (or-next _ _ (le-ltb 2176 (variablesOf ((c .before .before .before .before .before .before .before .before .before .before .before .args) .plan .now)) (omega arith)) (or-next _ _ (le-ltb 2176 (slotsOf ((c .before .before .before .before .before .before .before .before .before .before .before .args) .plan .now)) (omega arith)) (or-next _ _ (le-ltb 1 (word ((c .before .before .before .before .before .before .before .before .before .before .before .args) .plan .now) 2) (omega arith)) refl))))
 
 pub counts-bad-spec : {M : Type 1} → statement M
 counts-bad-spec =
