@@ -1,1 +1,5 @@
 pub mod Refusal
+pub mod Least
+pub mod Pass
+pub mod Rounds
+pub mod IndexCases

@@ -1,2 +1,3 @@
 // The builder: what `GraphDivision::new` makes of numbers from outside, with document 01's refusals 1 to 6.
+pub mod index;
 pub mod input;

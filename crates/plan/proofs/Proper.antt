@@ -121,15 +121,15 @@ pub slot-cases {ℓ} : {X : Type ℓ} (ws : List ℕ) (s : ℕ) → usedSlot ws 
 unfolding usedSlot
 slot-cases ws s u f g = tested (ltb s 2048)
     (λ t.
-      let e = sym (pick-yes _ _ t) ∙ u in
-      let a = ltb-true (s / 32) (verticesOf ws) (and-left (ltb (s / 32) (verticesOf ws)) (ltb (s % 32 + 1) (domainLenOf ws (s / 32))) e) in
-      let b = ltb-true (s % 32 + 1) (domainLenOf ws (s / 32)) (and-right (ltb (s / 32) (verticesOf ws)) (ltb (s % 32 + 1) (domainLenOf ws (s / 32))) e) in
-      f (s / 32) (s % 32) a (omega arith) (omega arith))
+    let e = sym (pick-yes _ _ t) ∙ u in
+    let a = ltb-true (s / 32) (verticesOf ws) (and-left (ltb (s / 32) (verticesOf ws)) (ltb (s % 32 + 1) (domainLenOf ws (s / 32))) e) in
+    let b = ltb-true (s % 32 + 1) (domainLenOf ws (s / 32)) (and-right (ltb (s / 32) (verticesOf ws)) (ltb (s % 32 + 1) (domainLenOf ws (s / 32))) e) in
+    f (s / 32) (s % 32) a (omega arith) (omega arith))
     (λ t.
-      let e = sym (pick-no _ _ t) ∙ u in
-      let a = ltb-true (s - 2048) (edgesOf ws) e in
-      let h = ltb-false s 2048 t in
-      g (s - 2048) a (omega arith))
+    let e = sym (pick-no _ _ t) ∙ u in
+    let a = ltb-true (s - 2048) (edgesOf ws) e in
+    let h = ltb-false s 2048 t in
+    g (s - 2048) a (omega arith))
 
 module _ (ws : List ℕ) (ends : List (List ℕ)) (ok : planBad ws ends ≡ false) where
   tests : (countsBad ws ≡ false) × (some (vertexBad ws) (verticesOf ws) ≡ false) × (some (edgeBad ws ends) (edgesOf ws) ≡ false) × (some (variableBad ws) (variablesOf ws) ≡ false) × (startsBad ws ≡ false)
