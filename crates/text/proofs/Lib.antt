@@ -4,3 +4,5 @@ pub mod Seeing
 pub mod Shapes
 pub mod Filling
 pub mod Order
+pub mod Decimals
+pub mod Putting

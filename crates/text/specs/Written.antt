@@ -21,10 +21,13 @@ after buf at bytes = pick (leb (at + length bytes) (length buf)) (put buf at byt
 unfoldable pub next : List ℕ → ℕ → List ℕ → Written
 next buf at bytes = pick (leb (at + length bytes) (length buf)) (Next (at + length bytes)) TooSmall
 
--- each number with a tab before it
+-- a number with a tab before it
+unfoldable pub tabbedOne : ℕ → List ℕ
+tabbedOne n = tab ∷ digits n
+
 unfoldable pub tabbed : List ℕ → List ℕ
 tabbed [] = []
-tabbed (n ∷ ns) = tab ∷ (digits n ++ tabbed ns)
+tabbed (n ∷ ns) = tabbedOne n ++ tabbed ns
 
 -- an answer: its letter, its numbers, and the line's end
 unfoldable pub answerLine : ℕ → List ℕ → List ℕ
