@@ -6,3 +6,4 @@ pub mod Filling
 pub mod Order
 pub mod Decimals
 pub mod Putting
+pub mod RoundTrip

@@ -1,17 +1,16 @@
 -- Bytes put into a buffer, one run after the other.
 use mathlib.Core.Path.{_≡_, refl, sym, ap, ap₂, _∙_}
 use mathlib.Core.List.{List, [], _∷_, _++_, append-assoc, append-nil}
-use Prim.Native.Nat.{ℕ, zero, suc, _+_, _-_, _≤_, _<_}
+use Prim.Native.Nat.{ℕ, suc, _+_, _-_, _≤_, _<_}
 use native.Mathlib.Omega.{arith}
 use native.Mathlib.Numerals.{add-one}
 use lib.Dec.{leb}
-use lib.ListN.{length, take, drop, set, getD, length-append, length-take, length-drop, length-set, take-append-drop, drop-of-length-le}
+use lib.ListN.{length, take, drop, set, getD, length-append, length-drop, take-append-drop, drop-of-length-le}
 use lib.Seq.{append-snoc, set-split, take-at, drop-drop, drop-append-add, length-take-le, drop-cons}
 use borrow.Author.Tests.{le-leb, lt-leb, leb-true, leb-false}
 use Rattle.base.proofs.Loop.{pick-yes, pick-no, tested}
-use Rattle.text.specs.declared.writer.Written.{Written}
 use Rattle.text.specs.declared.writer.Written.the-variants.{Next, TooSmall}
-use Rattle.text.specs.Fields.{tab, newline}
+use Rattle.text.specs.Fields.{newline}
 use Rattle.text.specs.Digits.{digits}
 use Rattle.text.specs.Written.{put, after, next, tabbedOne, tabbed, answerLine}
 

@@ -1,6 +1,6 @@
 -- "Tabs part fields, one record a line": a run of bytes cut at a separator.
 use mathlib.Core.List.{List, [], _∷_}
-use Prim.Native.Nat.{ℕ, zero, suc}
+use Prim.Native.Nat.{ℕ, suc}
 use lib.Dec.{eqb}
 use Rattle.base.specs.Iter.{pick}
 

@@ -2,7 +2,6 @@
 use mathlib.Core.List.{List, [], _∷_}
 use mathlib.Core.Bool.{Bool, true, false, not}
 use Prim.Native.Nat.{ℕ}
-use lib.IntN.{ℤ}
 use lib.Dec.{leb}
 use lib.ListN.{length}
 use Rattle.base.specs.Iter.{pick}

@@ -1,12 +1,11 @@
-use mathlib.Core.Path.{_≡_, sym, ap, _∙_}
-use Prim.Native.Nat.{_+_, _/_, _%_}
+use mathlib.Core.Path.{sym, ap, _∙_}
 use native.Mathlib.Omega.{arith}
 use lib.ListN.{length, length-set}
 use Rattle.text.specs.Digits.{digits}
 use Rattle.text.specs.Written.{put}
 use Rattle.text.proofs.Decimals.{digits-small, digits-large, digits-large-length}
 use Rattle.text.proofs.Putting.{put-one, put-last}
-use Prim.Native.Nat.{ℕ, _<_}
+use Prim.Native.Nat.{ℕ, _+_, _/_, _%_, _<_}
 use borrow.Fn.Kinds.{In}
 use borrow.Fn.PlainCycle.{Measures, is, falls, and}
 use Rattle.text.proofs.writer.write_digits.Reads as write-digits
@@ -30,42 +29,36 @@ write-digits-below t =
     (falls 1 write-digits-kinds.ps _<_ μ-write-digits t)
     write-digits.Pre
 
--- src/writer.rt:22:20
 write-digits-add-buf : (t : ℕ) → write-digits-lts.Need-add-buf (
   write-digits-below t,
   write-digits.Post,
 ) (write-digits-at t) write-digits.Post
 write-digits-add-buf t c = omega arith
 
--- src/writer.rt:22:19
 write-digits-cast-buf : (t : ℕ) → write-digits-lts.Need-cast-buf (
   write-digits-below t,
   write-digits.Post,
 ) (write-digits-at t) write-digits.Post
 write-digits-cast-buf t c = omega arith
 
--- src/writer.rt:22:9
 write-digits-slice-write-buf : (t : ℕ) → write-digits-lts.Need-slice-write-buf (
   write-digits-below t,
   write-digits.Post,
 ) (write-digits-at t) write-digits.Post
 write-digits-slice-write-buf t c = omega (arith, ap length (digits-small (c .before .before .args .n) (c .if1 .taken)))
 
--- src/writer.rt:23:16
 write-digits-add-result : (t : ℕ) → write-digits-lts.Need-add-result (
   write-digits-below t,
   write-digits.Post,
 ) (write-digits-at t) write-digits.Post
 write-digits-add-result t c = omega (arith, ap length (digits-small (c .before .before .args .n) (c .if1 .taken)))
 
--- src/writer.rt:23:9
 write-digits-same-length : (t : ℕ) → write-digits-lts.Need-same-length (
   write-digits-below t,
   write-digits.Post,
 ) (write-digits-at t) write-digits.Post
 write-digits-same-length t c = simp length-set
 
--- src/writer.rt:23:9
 write-digits-returns : (t : ℕ) → write-digits-lts.Need-returns (
   write-digits-below t,
   write-digits.Post,
@@ -75,7 +68,6 @@ write-digits-returns t c =
     let e = digits-small (a .n) (c .if1 .taken) in
     (omega (arith, ap length e), put-one (a .buf .now) (a .at) (48 + a .n) (omega (arith, ap length e)) ∙ sym (ap (put (a .buf .now) (a .at)) e))
 
--- src/writer.rt:25:9
 write-digits-write-digits-requires : (t : ℕ) → write-digits-lts.Need-write-digits-requires (
   write-digits-below t,
   write-digits.Post,
@@ -85,21 +77,18 @@ write-digits-write-digits-requires t c κs =
     let e = digits-large-length (s .args .n) (c .before .if1 .left) in
     (omega arith, omega arith)
 
--- src/writer.rt:26:15
 write-digits-add-buf-2 : (t : ℕ) → write-digits-lts.Need-add-buf-2 (
   write-digits-below t,
   write-digits.Post,
 ) (write-digits-at t) write-digits.Post
 write-digits-add-buf-2 t c = omega arith
 
--- src/writer.rt:26:14
 write-digits-cast-buf-2 : (t : ℕ) → write-digits-lts.Need-cast-buf-2 (
   write-digits-below t,
   write-digits.Post,
 ) (write-digits-at t) write-digits.Post
 write-digits-cast-buf-2 t c = omega arith
 
--- src/writer.rt:26:5
 write-digits-slice-write-buf-2 : (t : ℕ) → write-digits-lts.Need-slice-write-buf-2 (
   write-digits-below t,
   write-digits.Post,
@@ -109,7 +98,6 @@ write-digits-slice-write-buf-2 t c =
     let r = c .before .before .write-digits in
     omega (arith, digits-large-length (s .args .n) (c .before .before .before .before .if1 .left), r .ensures .0, r .kept .1 .0)
 
--- src/writer.rt:27:5
 write-digits-add-result-2 : (t : ℕ) → write-digits-lts.Need-add-result-2 (
   write-digits-below t,
   write-digits.Post,
@@ -119,14 +107,12 @@ write-digits-add-result-2 t c =
     let r = c .before .before .write-digits in
     omega (arith, digits-large-length (s .args .n) (c .before .before .before .before .if1 .left), r .ensures .0)
 
--- src/writer.rt:17:1
 write-digits-same-length-2 : (t : ℕ) → write-digits-lts.Need-same-length-2 (
   write-digits-below t,
   write-digits.Post,
 ) (write-digits-at t) write-digits.Post
 write-digits-same-length-2 t c = simp length-set (c .before .before .write-digits .kept .1 .0)
 
--- src/writer.rt:17:1
 write-digits-returns-2 : (t : ℕ) → write-digits-lts.Need-returns-2 (
   write-digits-below t,
   write-digits.Post,

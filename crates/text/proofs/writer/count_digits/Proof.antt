@@ -1,13 +1,11 @@
 use mathlib.Core.Path.{_≡_, ap}
-use Prim.Native.Nat.{ℕ, _+_, _≤_, _^_}
+use Prim.Native.Nat.{_+_, _≤_}
 use native.Mathlib.Omega.{arith}
 use lib.ListN.{length}
 use Rattle.text.specs.Digits.{digits}
 use Rattle.text.proofs.Decimals.{digits-small, digits-large-length, digits-few}
 use Rattle.text.proofs.writer.count_digits.Statement.{statement}
 use Rattle.text.proofs.writer.count_digits.Tie as tie
-use Rattle.text.proofs.writer.count_digits.Reads as reads
-use Rattle.text.proofs.writer.count_digits.Lts as lts
 
 abbrev Inv-loop : tie.InvT-loop
 Inv-loop n k₀ rest₀ k rest = (k + length (digits rest) ≡ length (digits n) + 1) × (rest ≤ n)
@@ -15,26 +13,21 @@ Inv-loop n k₀ rest₀ k rest = (k + length (digits rest) ≡ length (digits n)
 abbrev μ-loop : tie.MeasureT-loop
 μ-loop n k₀ rest₀ k rest = rest
 
--- src/writer.rt:36:5
 loop-holds : tie.Need-loop-holds Inv-loop μ-loop
 loop-holds c = omega arith
 
--- src/writer.rt:38:9
 add-k : tie.Need-add-k Inv-loop μ-loop
 add-k c =
     let a = c .before .before .args in
     let f = c .before .before .fits .n .fits in
     omega (arith, digits-few 9 (a .n) (omega arith))
 
--- src/writer.rt:36:5
 loop-less : tie.Need-loop-less Inv-loop μ-loop
 loop-less c = omega arith
 
--- src/writer.rt:36:5
 loop-again : tie.Need-loop-again Inv-loop μ-loop
 loop-again c = omega (arith, digits-large-length (c .before .loop .rest) (c .loop-test .taken))
 
--- src/writer.rt:31:1
 returns : tie.Need-returns Inv-loop μ-loop
 returns c = omega (arith, ap length (digits-small (c .before .loop .rest) (c .loop-test .left)))
 

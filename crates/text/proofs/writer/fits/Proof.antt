@@ -5,14 +5,10 @@ use native.Mathlib.Omega.{arith}
 use borrow.Author.Tests.{lt-leb}
 use Rattle.text.proofs.writer.fits.Statement.{statement}
 use Rattle.text.proofs.writer.fits.Tie as tie
-use Rattle.text.proofs.writer.fits.Reads as reads
-use Rattle.text.proofs.writer.fits.Lts as lts
 
--- src/writer.rt:48:9
 returns : tie.Need-returns
 returns c = sym (lt-leb (c .before .args .at + c .before .args .k) (c .before .args .len) (omega arith))
 
--- src/writer.rt:44:1
 returns-2 : tie.Need-returns-2
 returns-2 c = room-from (c .before .args .at) (c .before .args .k) (c .before .args .len) (omega arith)
 

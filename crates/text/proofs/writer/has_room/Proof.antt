@@ -1,5 +1,5 @@
 use mathlib.Core.Path.{_≡_, refl, sym, ap}
-use Prim.Native.Nat.{ℕ, _+_, _-_, _≤_}
+use Prim.Native.Nat.{_+_, _-_, _≤_}
 use native.Mathlib.Omega.{arith}
 use borrow.Author.Needs.{needs}
 use borrow.Author.Tests.{le-leb, lt-leb}
@@ -8,9 +8,6 @@ use Rattle.text.specs.Written.{tabbed}
 use Rattle.text.proofs.Putting.{tabbed-next-long, tabbed-end}
 use Rattle.text.proofs.writer.has_room.Statement.{statement}
 use Rattle.text.proofs.writer.has_room.Tie as tie
-use Rattle.text.proofs.writer.has_room.Reads as reads
-use Rattle.text.proofs.writer.has_room.Lts as lts
-use Rattle.text.proofs.writer.count_digits.Reads as count-digits-reads
 
 abbrev Inv-loop : tie.InvT-loop
 Inv-loop numbers room left₀ i₀ left i = (i ≤ length numbers) × (left + length (tabbed numbers) ≡ room + length (tabbed (drop i numbers)))
@@ -18,23 +15,18 @@ Inv-loop numbers room left₀ i₀ left i = (i ≤ length numbers) × (left + le
 abbrev μ-loop : tie.MeasureT-loop
 μ-loop numbers room left₀ i₀ left i = length numbers - i
 
--- src/writer.rt:93:5
 loop-holds : tie.Need-loop-holds Inv-loop μ-loop
 loop-holds c = (omega arith, refl)
 
--- src/writer.rt:94:30
 mul-count-digits : tie.Need-mul-count-digits Inv-loop μ-loop
 mul-count-digits c = search needs
 
--- src/writer.rt:94:30
 shared-slice-read-count-digits : tie.Need-shared-slice-read-count-digits Inv-loop μ-loop
 shared-slice-read-count-digits c = omega arith
 
--- src/writer.rt:94:13
 count-digits-requires : tie.Need-count-digits-requires Inv-loop μ-loop
 count-digits-requires c κs = tt
 
--- src/writer.rt:96:13
 returns : tie.Need-returns Inv-loop μ-loop
 returns c =
     let l = c .before .before .before .before .loop in
@@ -42,23 +34,18 @@ returns c =
     let k = tabbed-next-long (a .numbers .now) (l .i) (c .before .before .before .loop-test .taken) in
     sym (lt-leb (length (tabbed (a .numbers .now))) (a .room) (omega (arith, l .inv .1, c .before .count-digits .ensures)))
 
--- src/writer.rt:98:16
 sub-left : tie.Need-sub-left Inv-loop μ-loop
 sub-left c = omega arith
 
--- src/writer.rt:98:16
 sub-left-2 : tie.Need-sub-left-2 Inv-loop μ-loop
 sub-left-2 c = omega arith
 
--- src/writer.rt:99:9
 add-i : tie.Need-add-i Inv-loop μ-loop
 add-i c = omega arith
 
--- src/writer.rt:93:5
 loop-less : tie.Need-loop-less Inv-loop μ-loop
 loop-less c = omega arith
 
--- src/writer.rt:93:5
 loop-again : tie.Need-loop-again Inv-loop μ-loop
 loop-again c =
     let l = c .before .before .before .before .loop in
@@ -66,7 +53,6 @@ loop-again c =
     let k = tabbed-next-long (a .numbers .now) (l .i) (c .before .before .before .loop-test .taken) in
     (omega arith, omega (arith, l .inv .1, c .before .count-digits .ensures))
 
--- src/writer.rt:88:1
 returns-2 : tie.Need-returns-2 Inv-loop μ-loop
 returns-2 c =
     let l = c .before .loop in

@@ -1,14 +1,11 @@
-use mathlib.Core.Path.{_≡_, refl}
-use Prim.Native.Nat.{ℕ, _+_, _-_, _≤_}
+use mathlib.Core.Path.{refl}
+use Prim.Native.Nat.{_-_, _≤_}
 use native.Mathlib.Omega.{arith}
 use borrow.Author.Needs.{needs}
 use lib.ListN.{length, getD}
 use Rattle.text.proofs.Putting.{Run, run-step, run-done, tabbed-next-long, tabbed-long}
 use Rattle.text.proofs.writer.write_all_tabbed.Statement.{statement}
 use Rattle.text.proofs.writer.write_all_tabbed.Tie as tie
-use Rattle.text.proofs.writer.write_all_tabbed.Reads as reads
-use Rattle.text.proofs.writer.write_all_tabbed.Lts as lts
-use Rattle.text.proofs.writer.write_tabbed.Reads as write-tabbed-reads
 
 abbrev Inv-loop : tie.InvT-loop
 Inv-loop numbers buf₀ at p₀ i₀ buf p i = (i ≤ length numbers) × Run numbers buf₀ at buf p i
@@ -16,34 +13,27 @@ Inv-loop numbers buf₀ at p₀ i₀ buf p i = (i ≤ length numbers) × Run num
 abbrev μ-loop : tie.MeasureT-loop
 μ-loop numbers buf₀ at p₀ i₀ buf p i = length numbers - i
 
--- src/writer.rt:80:5
 loop-holds : tie.Need-loop-holds Inv-loop μ-loop
 loop-holds c = (omega arith, record { long = refl; place = refl; rest = refl })
 
--- src/writer.rt:81:26
 mul-write-tabbed : tie.Need-mul-write-tabbed Inv-loop μ-loop
 mul-write-tabbed c = search needs
 
--- src/writer.rt:81:26
 shared-slice-read-write-tabbed : tie.Need-shared-slice-read-write-tabbed Inv-loop μ-loop
 shared-slice-read-write-tabbed c = omega arith
 
--- src/writer.rt:81:9
 write-tabbed-requires : tie.Need-write-tabbed-requires Inv-loop μ-loop
 write-tabbed-requires c κs =
     let l = c .before .before .before .loop in
     let a = c .before .before .before .before .before .before .args in
     omega (arith, l .inv .1 .long, l .inv .1 .place, tabbed-next-long (a .numbers .now) (l .i) (c .before .before .loop-test .taken), tabbed-long (getD (a .numbers .now) (l .i) 0))
 
--- src/writer.rt:82:9
 add-i : tie.Need-add-i Inv-loop μ-loop
 add-i c = omega arith
 
--- src/writer.rt:80:5
 loop-less : tie.Need-loop-less Inv-loop μ-loop
 loop-less c = omega arith
 
--- src/writer.rt:80:5
 loop-again : tie.Need-loop-again Inv-loop μ-loop
 loop-again c =
     let l = c .before .before .before .before .before .before .loop in
@@ -53,11 +43,9 @@ loop-again c =
       run-step (a .numbers .now) (a .buf .now) (a .at) (l .buf) (w .last .1 .0) (l .p) (w .result) (l .i) (omega arith) (omega arith) (w .ensures .0) (w .ensures .1) (l .inv .1),
     )
 
--- src/writer.rt:74:1
 same-length : tie.Need-same-length Inv-loop μ-loop
 same-length c = c .before .loop .inv .1 .long
 
--- src/writer.rt:74:1
 returns : tie.Need-returns Inv-loop μ-loop
 returns c =
     let l = c .before .loop in

@@ -1,5 +1,5 @@
 use mathlib.Core.Path.{_≡_, sym, ap, _∙_}
-use Prim.Native.Nat.{ℕ, _+_, _-_, _≤_, _<_}
+use Prim.Native.Nat.{_+_, _-_, _≤_, _<_}
 use native.Mathlib.Omega.{arith}
 use lib.ListN.{length, length-set}
 use borrow.Author.Tests.{leb-true, leb-false, not-true, not-false}
@@ -9,13 +9,7 @@ use Rattle.text.proofs.Putting.{fitted, refused, answer-long, answer-pu
 use borrow.Author.Needs.{needs}
 use Rattle.text.proofs.writer.write_answer.Statement.{statement}
 use Rattle.text.proofs.writer.write_answer.Tie as tie
-use Rattle.text.proofs.writer.write_answer.Reads as reads
-use Rattle.text.proofs.writer.write_answer.Lts as lts
-use Rattle.text.proofs.writer.fits.Reads as fits-reads
-use Rattle.text.proofs.writer.has_room.Reads as has-room-reads
-use Rattle.text.proofs.writer.write_all_tabbed.Reads as write-all-tabbed-reads
 
--- src/writer.rt:108:9
 fits-requires : tie.Need-fits-requires
 fits-requires c κs = search needs
 
@@ -29,7 +23,6 @@ room c =
     let h : length (tabbed (a .numbers .now)) ≤ length (a .buf .now) - a .at - 2 = leb-true _ _ (sym (c .before .has-room .ensures) ∙ not-false _ (c .if2 .left)) in
     omega (arith, two (c .before .before))
 
--- src/writer.rt:109:9
 returns : tie.Need-returns
 returns c =
     let a = c .before .before .before .before .args in
@@ -38,19 +31,15 @@ returns c =
     let told = refused (a .buf .now) line (a .at) (omega (arith, answer-long (a .letter) (a .numbers .now))) in
     (sym (told .0), sym (told .1))
 
--- src/writer.rt:111:27
 sub-has-room : tie.Need-sub-has-room
 sub-has-room c = omega (arith, two c)
 
--- src/writer.rt:111:27
 sub-has-room-2 : tie.Need-sub-has-room-2
 sub-has-room-2 c = omega (arith, two c)
 
--- src/writer.rt:111:9
 has-room-requires : tie.Need-has-room-requires
 has-room-requires c κs = search needs
 
--- src/writer.rt:112:9
 returns-2 : tie.Need-returns-2
 returns-2 c =
     let a = c .before .before .before .before .before .before .args in
@@ -59,36 +48,29 @@ returns-2 c =
     let told = refused (a .buf .now) line (a .at) (omega (arith, two (c .before .before), answer-long (a .letter) (a .numbers .now))) in
     (sym (told .0), sym (told .1))
 
--- src/writer.rt:114:5
 slice-write-buf : tie.Need-slice-write-buf
 slice-write-buf c = omega (arith, room c)
 
--- src/writer.rt:115:44
 add-write-all-tabbed : tie.Need-add-write-all-tabbed
 add-write-all-tabbed c = omega (arith, room (c .before))
 
--- src/writer.rt:115:9
 write-all-tabbed-requires : tie.Need-write-all-tabbed-requires
 write-all-tabbed-requires c κs = simp length-set (omega (arith, room (c .before)))
 
--- src/writer.rt:116:5
 slice-write-buf-2 : tie.Need-slice-write-buf-2
 slice-write-buf-2 c =
     let w = c .before .before .write-all-tabbed in
     let p = c .before .before .before .before in
     omega (arith, w .ensures .0, room p, w .kept .1 .0, length-set (p .before .before .before .before .before .before .args .buf .now) (p .before .before .before .before .before .before .args .at) (p .before .before .before .before .before .before .args .letter))
 
--- src/writer.rt:117:19
 add-t9 : tie.Need-add-t9
 add-t9 c =
     let w = c .before .before .write-all-tabbed in
     omega (arith, w .ensures .0, room (c .before .before .before .before))
 
--- src/writer.rt:105:1
 same-length : tie.Need-same-length
 same-length c = simp length-set (c .before .before .write-all-tabbed .kept .1 .0 ∙ simp length-set)
 
--- src/writer.rt:105:1
 returns-3 : tie.Need-returns-3
 returns-3 c =
     let w = c .before .before .write-all-tabbed in

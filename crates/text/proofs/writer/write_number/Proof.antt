@@ -1,4 +1,4 @@
-use mathlib.Core.Path.{_≡_, sym, ap, _∙_}
+use mathlib.Core.Path.{sym, ap, _∙_}
 use Prim.Native.Nat.{ℕ, _+_, _≤_}
 use lib.Dec.{leb}
 use lib.ListN.{length}
@@ -9,21 +9,13 @@ use Rattle.text.proofs.Putting.{fitted, refused}
 use borrow.Author.Needs.{needs}
 use Rattle.text.proofs.writer.write_number.Statement.{statement}
 use Rattle.text.proofs.writer.write_number.Tie as tie
-use Rattle.text.proofs.writer.write_number.Reads as reads
-use Rattle.text.proofs.writer.write_number.Lts as lts
-use Rattle.text.proofs.writer.count_digits.Reads as count-digits-reads
-use Rattle.text.proofs.writer.fits.Reads as fits-reads
-use Rattle.text.proofs.writer.write_digits.Reads as write-digits-reads
 
--- src/writer.rt:57:9
 count-digits-requires : tie.Need-count-digits-requires
 count-digits-requires c κs = search needs
 
--- src/writer.rt:58:9
 fits-requires : tie.Need-fits-requires
 fits-requires c κs = search needs
 
--- src/writer.rt:59:9
 returns : tie.Need-returns
 returns c =
     let a = c .before .before .before .before .args in
@@ -36,15 +28,12 @@ room c =
     let a = c .before .before .before .before .args in
     leb-true _ _ (sym (ap (λ (k : ℕ). leb (a .at + k) (length (a .buf .now))) (c .before .before .count-digits .ensures)) ∙ sym (c .before .fits2 .ensures) ∙ not-false _ (c .if1 .left))
 
--- src/writer.rt:61:19
 write-digits-requires : tie.Need-write-digits-requires
 write-digits-requires c κs = room (c .before)
 
--- src/writer.rt:54:1
 same-length : tie.Need-same-length
 same-length c = search needs
 
--- src/writer.rt:54:1
 returns-2 : tie.Need-returns-2
 returns-2 c =
     let a = c .before .before .before .before .before .before .before .before .args in

@@ -1,4 +1,4 @@
-use mathlib.Core.Path.{_≡_, refl, ap, _∙_}
+use mathlib.Core.Path.{refl, ap, _∙_}
 use mathlib.Core.List.{List, [], _∷_}
 use Prim.Native.Nat.{ℕ, _+_}
 use native.Mathlib.Omega.{arith}
@@ -9,28 +9,20 @@ use Rattle.text.proofs.Putting.{tabbed-long, put-one, put-put}
 use borrow.Author.Needs.{needs}
 use Rattle.text.proofs.writer.write_tabbed.Statement.{statement}
 use Rattle.text.proofs.writer.write_tabbed.Tie as tie
-use Rattle.text.proofs.writer.write_tabbed.Reads as reads
-use Rattle.text.proofs.writer.write_tabbed.Lts as lts
-use Rattle.text.proofs.writer.write_digits.Reads as write-digits-reads
 
--- src/writer.rt:69:5
 slice-write-buf : tie.Need-slice-write-buf
 slice-write-buf c = omega (arith, tabbed-long (c .before .args .n))
 
--- src/writer.rt:70:26
 add-write-digits : tie.Need-add-write-digits
 add-write-digits c = search needs
 
--- src/writer.rt:70:5
 write-digits-requires : tie.Need-write-digits-requires
 write-digits-requires c κs =
     simp length-set (omega (arith, tabbed-long (c .before .before .args .n)))
 
--- src/writer.rt:65:1
 same-length : tie.Need-same-length
 same-length c = c .before .before .write-digits .kept .1 .0 ∙ simp length-set
 
--- src/writer.rt:65:1
 returns : tie.Need-returns
 unfolding tabbedOne
 returns c =
