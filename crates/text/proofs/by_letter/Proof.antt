@@ -3,33 +3,32 @@ use Prim.Native.Nat.{ℕ}
 use Rattle.base.specs.Iter.{pick}
 use Rattle.text.specs.Lines.{byLetter}
 use Rattle.text.proofs.Shapes.{no-letter}
-use borrow.Author.Needs.{needs}
 use Rattle.text.proofs.by_letter.Statement.{statement}
 use Rattle.text.proofs.by_letter.Tie as tie
 
 shape-o-requires : tie.Need-shape-o-requires
-shape-o-requires c κs = search needs
+shape-o-requires c κs = tt
 
 shape-p-requires : tie.Need-shape-p-requires
-shape-p-requires c κs = search needs
+shape-p-requires c κs = c .before .pre
 
 shape-g-requires : tie.Need-shape-g-requires
-shape-g-requires c κs = search needs
+shape-g-requires c κs = c .before .pre
 
 shape-v-requires : tie.Need-shape-v-requires
-shape-v-requires c κs = search needs
+shape-v-requires c κs = tt
 
 shape-i-requires : tie.Need-shape-i-requires
-shape-i-requires c κs = search needs
+shape-i-requires c κs = tt
 
 shape-n-requires : tie.Need-shape-n-requires
-shape-n-requires c κs = search needs
+shape-n-requires c κs = c .before .pre
 
 shape-u-requires : tie.Need-shape-u-requires
-shape-u-requires c κs = search needs
+shape-u-requires c κs = c .before .pre
 
 shape-r-requires : tie.Need-shape-r-requires
-shape-r-requires c κs = search needs
+shape-r-requires c κs = c .before .pre
 
 returns : tie.Need-returns
 unfolding byLetter pick
