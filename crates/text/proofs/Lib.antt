@@ -4,6 +4,3 @@ pub mod Seeing
 pub mod Shapes
 pub mod Filling
 pub mod Order
-pub mod Decimals
-pub mod Putting
-pub mod RoundTrip

@@ -1,6 +1,5 @@
-// Text lines: a line's letter and its numbers, parted by tabs. `input` has the order of the lines, `writer` the answers.
+// Text lines: a line's letter and its numbers, parted by tabs. `input` has the order of the lines.
 pub mod input;
-pub mod writer;
 
 ghost use mathlib.Core.Path.{_≡_};
 ghost use mathlib.Core.List.{map, []};

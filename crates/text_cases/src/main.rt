@@ -4,7 +4,7 @@
 //
 // The file stdout comes from a reading of the order's text by another program, in Python, and not from this one.
 use text::Line;
-use text::writer::Written;
+use text_writer::Written;
 ghost use mathlib.Core.Path.{_≡_};
 ghost use Prim.Native.Nat.{_+_, _≤_};
 ghost use lib.ListN.{length};
@@ -168,14 +168,14 @@ fn show_written(w: Written, buf: &[u8]) {
 // n written into a buffer of 12 dots.
 fn write_one(n: u32, at: usize) {
     let mut buf = [46u8; 12];
-    let w = text::writer::write_number(n, &mut buf, at);
+    let w = text_writer::write_number(n, &mut buf, at);
     put(b"number");
     show_written(w, &buf);
 }
 
 fn write_line(letter: u8, numbers: &[u32], at: usize) {
     let mut buf = [46u8; 12];
-    let w = text::writer::write_answer(letter, numbers, &mut buf, at);
+    let w = text_writer::write_answer(letter, numbers, &mut buf, at);
     put(b"answer");
     show_written(w, &buf);
 }

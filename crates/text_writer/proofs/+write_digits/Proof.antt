@@ -1,18 +1,18 @@
 use mathlib.Core.Path.{sym, ap, _∙_}
 use native.Mathlib.Omega.{arith}
 use lib.ListN.{length, length-set}
-use Rattle.text.specs.Digits.{digits}
-use Rattle.text.specs.Written.{put}
-use Rattle.text.proofs.Decimals.{digits-small, digits-large, digits-large-length}
-use Rattle.text.proofs.Putting.{put-one, put-last}
+use Rattle.text_writer.specs.Digits.{digits}
+use Rattle.text_writer.specs.Written.{put}
+use Rattle.text_writer.proofs.Decimals.{digits-small, digits-large, digits-large-length}
+use Rattle.text_writer.proofs.Putting.{put-one, put-last}
 use Prim.Native.Nat.{ℕ, _+_, _/_, _%_, _<_}
 use borrow.Fn.Kinds.{In}
 use borrow.Fn.PlainCycle.{Measures, is, falls, and}
-use Rattle.text.proofs.writer.write_digits.Reads as write-digits
-use Rattle.text.proofs.writer.write_digits.Kinds as write-digits-kinds
-use Rattle.text.proofs.writer.+write_digits.Lts-write_digits as write-digits-lts
-use Rattle.text.proofs.writer.+write_digits.{statement}
-use Rattle.text.proofs.writer.+write_digits.Tie.{close}
+use Rattle.text_writer.proofs.write_digits.Reads as write-digits
+use Rattle.text_writer.proofs.write_digits.Kinds as write-digits-kinds
+use Rattle.text_writer.proofs.+write_digits.Lts-write_digits as write-digits-lts
+use Rattle.text_writer.proofs.+write_digits.{statement}
+use Rattle.text_writer.proofs.+write_digits.Tie.{close}
 
 abbrev μ-write-digits : Measures 1 write-digits-kinds.ps ℕ
 μ-write-digits κs a = a .0

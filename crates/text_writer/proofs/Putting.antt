@@ -9,10 +9,10 @@ use lib.ListN.{length, take, drop, set, getD, length-append, length-drop, take-a
 use lib.Seq.{append-snoc, set-split, take-at, drop-drop, drop-append-add, length-take-le, drop-cons}
 use borrow.Author.Tests.{le-leb, lt-leb, leb-true, leb-false}
 use Rattle.base.proofs.Loop.{pick-yes, pick-no, tested}
-use Rattle.text.specs.declared.writer.Written.the-variants.{Next, TooSmall}
+use Rattle.text_writer.specs.declared.Written.the-variants.{Next, TooSmall}
 use Rattle.text.specs.Fields.{newline}
-use Rattle.text.specs.Digits.{digits}
-use Rattle.text.specs.Written.{put, after, next, tabbedOne, tabbed, answerLine}
+use Rattle.text_writer.specs.Digits.{digits}
+use Rattle.text_writer.specs.Written.{put, after, next, tabbedOne, tabbed, answerLine}
 
 head-long : (buf xs : List ℕ) (at : ℕ) → at + length xs ≤ length buf → length (take at buf ++ xs) ≡ at + length xs
 head-long buf xs at h = length-append (take at buf) xs ∙ ap (λ (n : ℕ). n + length xs) (length-take-le at buf (omega arith))

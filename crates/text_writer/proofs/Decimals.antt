@@ -8,7 +8,7 @@ use lib.Dec.{ltb}
 use lib.ListN.{length, length-append}
 use borrow.Author.Tests.{lt-ltb, le-ltb, ltb-true, ltb-false}
 use Rattle.base.proofs.Loop.{pick-yes, pick-no, tested}
-use Rattle.text.specs.Digits.{digitsOf, digits}
+use Rattle.text_writer.specs.Digits.{digitsOf, digits}
 
 -- any bound above n serves
 enough : (f g n : ℕ) → n < f → n < g → digitsOf f n ≡ digitsOf g n

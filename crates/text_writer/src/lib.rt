@@ -3,8 +3,8 @@ ghost use mathlib.Core.Path.{_≡_};
 ghost use Prim.Native.Nat.{_+_, _≤_};
 ghost use lib.Dec.{leb};
 ghost use lib.ListN.{length};
-ghost use Rattle.text.specs.Digits.{digits};
-ghost use Rattle.text.specs.Written.{put, after, next, tabbed, tabbedOne, answerLine};
+ghost use Rattle.text_writer.specs.Digits.{digits};
+ghost use Rattle.text_writer.specs.Written.{put, after, next, tabbed, tabbedOne, answerLine};
 
 pub enum Written {
     // Where the next byte goes.
