@@ -9,7 +9,8 @@ use lib.ListN.{length, take, drop, getD, drop-of-length-le, length-drop}
 use lib.Seq.{drop-cons, drop-drop}
 use borrow.Author.Tests.{eq-eqb, ne-eqb}
 use Rattle.base.proofs.Loop.{pick-yes, pick-no, tested}
-use Rattle.text.specs.Fields.{newline, front, split, linesOf, upto, more}
+use Rattle.text.specs.Fields.{newline, front, split, linesOf, upto}
+use Rattle.text.specs.Steps.{more}
 
 -- ---- where a piece ends
 module _ (sep : ℕ) (l : List ℕ) (i : ℕ) where

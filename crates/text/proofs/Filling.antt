@@ -10,9 +10,10 @@ use lib.Seq.{take-all, drop-cons, append-snoc, take-suc-set, drop-set-lt, set-ou
 use borrow.Author.Tests.{le-leb, lt-leb, ltb-true, ltb-false}
 use Rattle.base.proofs.Loop.{pick-yes, pick-no, pick-ind, tested}
 use Rattle.text.specs.declared.Field.{Field}
-use Rattle.text.specs.Fields.{tab, upto, more}
+use Rattle.text.specs.Fields.{tab, upto}
 use Rattle.text.specs.Number.{fieldOf, numberOf}
-use Rattle.text.specs.Lines.{rest, numbersOf, numbersFrom, over, store}
+use Rattle.text.specs.Lines.{rest, numbersOf, numbersFrom, over}
+use Rattle.text.specs.Steps.{more, store}
 use Rattle.text.proofs.Cut.{split-first, more-at, more-none}
 
 -- what is left, number by number, the first of them number j

@@ -12,9 +12,10 @@ use Rattle.base.specs.Iter.{pick}
 use Rattle.base.proofs.Loop.{pick-yes, pick-no, tested}
 use Rattle.text.specs.declared.Field.{Field}
 use Rattle.text.specs.declared.Seen.{Seen}
-use Rattle.text.specs.Fields.{tab, upto, more}
+use Rattle.text.specs.Fields.{tab, upto}
 use Rattle.text.specs.Number.{none, fieldOf}
-use Rattle.text.specs.Lines.{allNumbers, seenOf, seeNext}
+use Rattle.text.specs.Lines.{allNumbers, seenOf}
+use Rattle.text.specs.Steps.{more, seeNext}
 use Rattle.text.proofs.Cut.{more-at}
 
 -- what is left, field by field

@@ -15,9 +15,10 @@ use Rattle.base.proofs.Loop.{pick-yes, pick-no, tested}
 use Rattle.text.specs.declared.Field.{Field}
 use Rattle.text.specs.declared.Seen.{Seen}
 use Rattle.text.specs.declared.Line.the-variants.{RLast, Malformed}
-use Rattle.text.specs.Fields.{tab, upto, more}
+use Rattle.text.specs.Fields.{tab, upto}
 use Rattle.text.specs.Number.{none, fieldOf, numberOf}
-use Rattle.text.specs.Lines.{allNumbers, seenOf, Fitting, within, byLetter, shaped, asksLast, readLine}
+use Rattle.text.specs.Lines.{allNumbers, seenOf, within, byLetter, shaped, asksLast, readLine}
+use Rattle.text.specs.Steps.{more, Fitting}
 use Rattle.text.proofs.Cut.{upto-within, split-first}
 use Rattle.text.proofs.Runs.{field-small}
 

@@ -29,8 +29,3 @@ linesOf (b ∷ l) = pick (eqb b newline) ([] ∷ linesOf l) (front b (linesOf l)
 unfoldable pub upto : ℕ → List ℕ → ℕ
 upto sep [] = 0
 upto sep (b ∷ l) = pick (eqb b sep) 0 (suc (upto sep l))
-
--- the pieces after the first: l starts at the separator that ends it, or is empty
-unfoldable pub more : ℕ → List ℕ → List (List ℕ)
-more sep [] = []
-more sep (b ∷ l) = split sep l

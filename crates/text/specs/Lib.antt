@@ -2,3 +2,4 @@ pub mod Fields
 pub mod Number
 pub mod Lines
 pub mod Input
+pub mod Steps

@@ -7,9 +7,10 @@ ghost use Prim.Native.Nat.{_+_, _-_, _*_, _≤_, _<_};
 ghost use mathlib.Core.Bool.{false};
 ghost use Rattle.base.specs.Iter.{pick};
 ghost use lib.ListN.{length, take, drop};
-ghost use Rattle.text.specs.Fields.{tab, newline, upto, more};
+ghost use Rattle.text.specs.Fields.{tab, newline, upto};
 ghost use Rattle.text.specs.Number.{none, digitsField, sized, fieldOf, numberOf, readNumber};
-ghost use Rattle.text.specs.Lines.{seenOf, seeNext, Fitting, within, shapeO, shapeP, shapeG, shapeV, shapeI, shapeN, shapeU, shapeR, byLetter, asksLast, readLine, numbersFrom, over, store};
+ghost use Rattle.text.specs.Lines.{seenOf, within, shapeO, shapeP, shapeG, shapeV, shapeI, shapeN, shapeU, shapeR, byLetter, asksLast, readLine, numbersFrom, over};
+ghost use Rattle.text.specs.Steps.{more, seeNext, Fitting, store};
 
 // A field as it was read: whether it is a number, its sign and its size.
 pub struct Field {

@@ -4,9 +4,10 @@ use Prim.Native.Nat.{ℕ}
 use native.Mathlib.Omega.{arith}
 use lib.ListN.{drop, getD}
 use Rattle.text.specs.declared.Seen.{Seen}
-use Rattle.text.specs.Fields.{tab, upto, more}
+use Rattle.text.specs.Fields.{tab, upto}
 use Rattle.text.specs.Number.{fieldOf}
-use Rattle.text.specs.Lines.{seenOf, Fitting, byLetter}
+use Rattle.text.specs.Lines.{seenOf, byLetter}
+use Rattle.text.specs.Steps.{more, Fitting}
 use Rattle.text.proofs.Cut.{upto-within}
 use Rattle.text.proofs.Shapes.{line-last, line-letter, line-field, line-shaped, fitting}
 use borrow.Author.Needs.{needs}

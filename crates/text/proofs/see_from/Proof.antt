@@ -4,9 +4,10 @@ use Prim.Native.Nat.{ℕ, _+_, _-_, _≤_}
 use native.Mathlib.Omega.{arith}
 use lib.ListN.{length, drop}
 use Rattle.text.specs.declared.Seen.{Seen}
-use Rattle.text.specs.Fields.{tab, more}
+use Rattle.text.specs.Fields.{tab}
 use Rattle.text.specs.Number.{fieldOf}
 use Rattle.text.specs.Lines.{seenOf}
+use Rattle.text.specs.Steps.{more}
 use Rattle.text.proofs.Cut.{upto-in, more-none}
 use Rattle.text.proofs.Seeing.{look, look-all, look-end, see-step, counted, none-counted}
 use Rattle.text.proofs.see_from.Statement.{statement}

@@ -1,9 +1,9 @@
 use mathlib.Core.Path.{_≡_}
+use Rattle.text.specs.Steps.{seeNext}
 use mathlib.Core.Bool.{Bool}
 use Prim.Native.Nat.{ℕ}
 use Rattle.text.specs.declared.Field.{Field}
 use Rattle.text.specs.declared.Seen.{Seen}
-use Rattle.text.specs.Lines.{seeNext}
 use borrow.Author.Needs.{needs}
 use Rattle.text.proofs.see_next.Statement.{statement}
 use Rattle.text.proofs.see_next.Tie as tie
