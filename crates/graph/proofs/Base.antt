@@ -7,11 +7,11 @@ use mathlib.Core.Logic.{_⊎_, inl, inr, ⊎-elim}
 use mathlib.Core.Bool.{Bool, true, false}
 use mathlib.Core.List.{List}
 use lib.ListN.{length, getD}
-use Rattle.graph.specs.Search.{Scan, at, Graph, endA, endB, marked}
+use Rattle.graph.specs.Search.{Scan, at, parentOf, edgeTo, reachedYet, Graph, endA, endB, marked}
 use Rattle.graph.specs.Bounds.{Ok, Within, Fine}
 use Rattle.graph.specs.Paths.{Leads, Seen}
-use Rattle.graph.proofs.Keep.{marked-ok}
-use Rattle.graph.proofs.Mark.{lt-cases, up, up-old, up-new, count-marked, at-old, at-new, vertex-old, vertex-new, edge-old, edge-new, seen-cases, seen-new, seen-old, other}
+use Rattle.graph.proofs.Keep.{at-low}
+use Rattle.graph.proofs.Mark.{marked-ok, lt-cases, up, up-old, up-new, count-marked, at-old, at-new, vertex-old, vertex-new, edge-old, edge-new, seen-cases, seen-new, seen-old, other}
 
 -- vertex q stands at a place whose level is at most n
 pub record Hit (lev : ℕ → ℕ) (s : Scan) (q n : ℕ) : Type 0 where
@@ -24,9 +24,9 @@ pub record Hit (lev : ℕ → ℕ) (s : Scan) (q n : ℕ) : Type 0 where
 pub record Parent (e : Graph) (edges : ℕ) (lev : ℕ → ℕ) (s : Scan) (i : ℕ) : Type 0 where
   pub j : ℕ
   pub before : j < i
-  pub vertex : at s j ≡ getD (s .fromVertex) (at s i) 0
+  pub vertex : at s j ≡ parentOf s (at s i)
   pub level : lev i ≡ suc (lev j)
-  pub leads : Leads e edges (getD (s .fromEdge) (at s i) 0) (at s j) (at s i)
+  pub leads : Leads e edges (edgeTo s (at s i)) (at s j) (at s i)
 
 pub record Base (e : Graph) (edges vertices start : ℕ) (lev : ℕ → ℕ) (s : Scan) : Type 0 where
   pub ok : Ok vertices s
@@ -53,13 +53,13 @@ hit-ext x h = record {
   near = rw (x .level (h .k) (h .lt)) (h .near);
 }
 
--- a edge leads to a vertex
+-- an edge leads to a vertex
 pub leads-below : {n edges g p q : ℕ} {e : Graph} → Fine n edges (e .ends) → Leads e edges g p q → q < n
 leads-below {n} {edges} {g} f l =
     ⊎-elim (λ w. subst (λ k. k < n) (w .1) (f .within g (l .known) .b)) (λ w. subst (λ k. k < n) (w .1) (f .within g (l .known) .a)) (l .ends)
 
 module _ (e : Graph) (edges vertices start : ℕ) (lev : ℕ → ℕ) (s : Scan) (h g q : ℕ) (f : Fine vertices edges (e .ends)) (b : Base e edges vertices start lev s)
-    (hc : h < s .count) (near : (i : ℕ) → i < s .count → lev i ≤ suc (lev h)) (l : Leads e edges g (at s h) q) (fresh : getD (s .seen) q false ≡ false) where
+    (hc : h < s .count) (near : (i : ℕ) → i < s .count → lev i ≤ suc (lev h)) (l : Leads e edges g (at s h) q) (fresh : reachedYet s q ≡ false) where
   abbrev t : Scan
   t = marked (at s h) g q s
 
@@ -73,7 +73,7 @@ module _ (e : Graph) (edges vertices start : ℕ) (lev : ℕ → ℕ) (s : Scan)
   count-t = count-marked (at s h) g q s
 
   old : (i : ℕ) → i < s .count → at t i ≡ at s i
-  old i k = at-old (at s h) g q s i k
+  old i k = at-old (at s h) g q s vertices (b .ok) below fresh i k
 
   new : at t (s .count) ≡ q
   new = at-new (at s h) g q s vertices (b .ok) below fresh
@@ -96,7 +96,7 @@ module _ (e : Graph) (edges vertices start : ℕ) (lev : ℕ → ℕ) (s : Scan)
   t-listed r w =
       ⊎-elim (λ x. (s .count, omega (arith, count-t), new ∙ sym x))
       (λ x. let (i, k, y) = b .listed r x in (i, omega (arith, count-t), old i k ∙ y))
-      (seen-cases (at s h) g q s r w)
+      (seen-cases (at s h) g q s vertices (b .ok) below fresh r w)
 
   t-only : (i : ℕ) → i < t .count → Seen t (at t i)
   t-only =
@@ -117,9 +117,9 @@ module _ (e : Graph) (edges vertices start : ℕ) (lev : ℕ → ℕ) (s : Scan)
       record {
         j = p .j;
         before = p .before;
-        vertex = rw (old (p .j) kj, old i k, vertex-old (at s h) g q s (at s i) (differs i k)) (p .vertex);
+        vertex = rw (old (p .j) kj, old i k, vertex-old (at s h) g q s vertices (b .ok) below fresh (at s i) (at-low i (f .vertices) (b .ok) k) (differs i k)) (p .vertex);
         level = up-old lev (s .count) (suc (lev h)) i k ∙ p .level ∙ ap suc (sym (up-old lev (s .count) (suc (lev h)) (p .j) kj));
-        leads = rw (old (p .j) kj, old i k, edge-old (at s h) g q s (at s i) (differs i k)) (p .leads);
+        leads = rw (old (p .j) kj, old i k, edge-old (at s h) g q s vertices (b .ok) below fresh (at s i) (at-low i (f .vertices) (b .ok) k) (differs i k)) (p .leads);
       }
 
   parent-new : Parent e edges lev′ t (s .count)
@@ -144,7 +144,7 @@ module _ (e : Graph) (edges vertices start : ℕ) (lev : ℕ → ℕ) (s : Scan)
 
   pub marked-base : Base e edges vertices start lev′ t
   marked-base = record {
-    ok = marked-ok vertices (at s h) g q s (f .vertices) (leads-below f l) (b .ok) fresh;
+    ok = marked-ok (at s h) g q s vertices (b .ok) below fresh (leads-below f l) (at-low h (f .vertices) (b .ok) hc);
     some = omega (arith, count-t);
     first = old 0 (b .some) ∙ b .first;
     flat = up-old lev (s .count) (suc (lev h)) 0 (b .some) ∙ b .flat;

@@ -9,7 +9,7 @@ use mathlib.Core.List.{List}
 use lib.ListN.{length, getD, replicate, getD-replicate}
 use borrow.Author.Tests.{eqb-true, eqb-false, ltb-true, ltb-false}
 use Rattle.base.specs.Iter.{iter, pick}
-use Rattle.graph.specs.Search.{Scan, at, Graph, endA, endB, marked, reached, visited, walked, popped, drained, searchedOn}
+use Rattle.graph.specs.Search.{Scan, at, reachedYet, Graph, endA, endB, marked, reached, visited, walked, popped, drained, searchedOn}
 use Rattle.graph.specs.Bounds.{Ok, Within, Fine, Fresh}
 use Rattle.graph.specs.Paths.{Leads, Seen}
 use Rattle.base.proofs.Loop.{pick-ind, iter-ind}
@@ -20,7 +20,7 @@ use Rattle.graph.proofs.Base.{Hit, Parent, Base, Ext, hit-ext, marked-b
 suc-cases : (i c : ℕ) → i < suc c → (i < c) ⊎ (i ≡ c)
 suc-cases i c h = ⊎-elim (λ e. inr e) (λ l. inl l) (eq-or-lt-of-le (le-of-suc-le-suc h))
 
--- a edge, seen from a vertex: it leads nowhere, or to one vertex, which is reached
+-- an edge, seen from a vertex: it leads nowhere, or to one vertex, which is reached
 visited-view : (e : Graph) (edges p g : ℕ) (s : Scan) (P : Scan → Type 0) → g < edges → (((q : ℕ) → Leads e edges g p q → ⊥) → P s) →
     ((r : ℕ) → Leads e edges g p r → ((q : ℕ) → Leads e edges g p q → q ≡ r) → P (reached p g r s)) → P (visited e p g s)
 unfolding visited
@@ -80,7 +80,7 @@ module _ (e : Graph) (edges vertices start : ℕ) (f : Fine vertices edges (e .e
   }
 
   walk-fresh : (h k r : ℕ) (s : Scan) (w : Walk e edges vertices start h (at s h) k s) → Leads e edges k (at s h) r → ((q : ℕ) → Leads e edges k (at s h) q → q ≡ r) →
-      getD (s .seen) r false ≡ false → Walk e edges vertices start h (at s h) (suc k) (marked (at s h) k r s)
+      reachedYet s r ≡ false → Walk e edges vertices start h (at s h) (suc k) (marked (at s h) k r s)
   walk-fresh h k r s w l only fresh =
       let lev = w .lev in
       let c = s .count in
@@ -171,7 +171,7 @@ module _ (e : Graph) (edges vertices start : ℕ) (f : Fine vertices edges (e .e
           some = omega arith;
           first = z;
           flat = refl;
-          listed = λ q t. ⊎-elim (λ x. (0, omega arith, z ∙ sym x)) (λ x. absurd (true≢false (sym x ∙ fr .nothing q))) (seen-cases start 0 start s q t);
+          listed = λ q t. ⊎-elim (λ x. (0, omega arith, z ∙ sym x)) (λ x. absurd (true≢false (sym x ∙ fr .nothing q))) (seen-cases start 0 start s vertices (fresh-ok vertices s fr) b (fr .nothing start) q t);
           only = λ i k. let i0 : i ≡ 0 = omega arith in rw (i0, z) (seen-new start 0 start s vertices (fresh-ok vertices s fr) b (fr .nothing start));
           once = λ i j ki kj _. omega arith;
           parent = λ i k. inl (omega arith);

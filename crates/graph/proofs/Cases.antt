@@ -15,7 +15,7 @@ small : searched line 4 4 0 .count ≡ 3
 unfolding line searchedOn popped visited reached marked passes iter pick blank
 small = refl
 
-order : take 3 (searched line 4 4 2 .order) ≡ 2 ∷ 1 ∷ 0 ∷ []
+order : take 3 (searched line 4 4 2 .words) ≡ 2 ∷ 1 ∷ 0 ∷ []
 unfolding line searchedOn popped visited reached marked passes iter pick blank
 order = refl
 

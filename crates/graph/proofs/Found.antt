@@ -9,7 +9,7 @@ use mathlib.Core.List.{List, [], _∷_}
 use lib.ListN.{length, getD}
 use borrow.Author.Tests.{eqb-true, eqb-false}
 use Rattle.base.specs.Iter.{pick}
-use Rattle.graph.specs.Search.{Scan, at, Graph, searched, searchedOn}
+use Rattle.graph.specs.Search.{Scan, at, parentOf, edgeTo, Graph, searched, searchedOn}
 use Rattle.graph.specs.Bounds.{Fine, Fresh}
 use Rattle.graph.specs.Paths.{Leads, Chain, here, there, Seen, climb, Found}
 use Rattle.base.proofs.Loop.{pick-ind}
@@ -25,9 +25,9 @@ pub record Climbs (e : Graph) (edges start : ℕ) (lev i q : ℕ) (l : List ℕ)
 
 module _ (e : Graph) (edges vertices start : ℕ) (lev : ℕ → ℕ) (s : Scan) (b : Base e edges vertices start lev s) where
   climbs-more : (n i : ℕ) (p : Parent e edges lev s i) → Climbs e edges start (lev (p .j)) (p .j) (at s (p .j)) (climb s start n (at s (p .j))) →
-      Climbs e edges start (lev i) i (at s i) (getD (s .fromEdge) (at s i) 0 ∷ climb s start n (getD (s .fromVertex) (at s i) 0))
+      Climbs e edges start (lev i) i (at s i) (edgeTo s (at s i) ∷ climb s start n (parentOf s (at s i)))
   climbs-more n i p c =
-      subst (λ x. Climbs e edges start (lev i) i (at s i) (getD (s .fromEdge) (at s i) 0 ∷ climb s start n x)) (p .vertex)
+      subst (λ x. Climbs e edges start (lev i) i (at s i) (edgeTo s (at s i) ∷ climb s start n x)) (p .vertex)
       (record {
         chain = there _ (c .chain) (p .leads);
         level = omega (arith, p .level, c .level);

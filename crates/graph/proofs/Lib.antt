@@ -1,8 +1,11 @@
 pub mod Ones
-pub mod Keep
 pub mod Mark
+pub mod Keep
 pub mod Base
 pub mod Bfs
 pub mod Found
 pub mod Joined
 pub mod Cases
+pub mod Lists
+pub mod Walkable
+pub mod Labels

@@ -1,3 +1,5 @@
+pub mod Lists
 pub mod Search
 pub mod Bounds
 pub mod Paths
+pub mod Labels

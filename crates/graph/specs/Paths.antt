@@ -7,7 +7,7 @@ use mathlib.Core.List.{List, [], _∷_}
 use lib.Dec.{eqb}
 use lib.ListN.{length, getD}
 use Rattle.base.specs.Iter.{pick}
-use Rattle.graph.specs.Search.{Scan, at, Graph, isOpen, endA, endB}
+use Rattle.graph.specs.Search.{Scan, at, parentOf, edgeTo, reachedYet, Graph, isOpen, endA, endB}
 
 -- edge g can be passed, from p to q
 pub record Leads (e : Graph) (edges g p q : ℕ) : Type 0 where
@@ -22,12 +22,12 @@ pub data Chain (e : Graph) (edges p : ℕ) : List ℕ → ℕ → Type 0 where
 
 -- vertex q was reached
 abbrev pub Seen : Scan → ℕ → Type 0
-Seen s q = getD (s .seen) q false ≡ true
+Seen s q = reachedYet s q ≡ true
 
 -- the edges by which a vertex was reached, back to the start; in n steps at most
 unfoldable pub climb : Scan → ℕ → ℕ → ℕ → List ℕ
 climb s start zero q = []
-climb s start (suc n) q = pick (eqb q start) [] (getD (s .fromEdge) q 0 ∷ climb s start n (getD (s .fromVertex) q 0))
+climb s start (suc n) q = pick (eqb q start) [] (edgeTo s q ∷ climb s start n (parentOf s q))
 
 -- What a search finds: the vertices that chains lead to, each once, and for each a shortest chain.
 pub record Found (e : Graph) (edges vertices start : ℕ) (s : Scan) : Type 0 where

@@ -6,43 +6,42 @@ use lib.Dec.{eqb, ltb}
 use lib.ListN.{getD, set, replicate}
 use Rattle.base.specs.Iter.{iter, pick}
 
--- A search under way: the vertices in the order in which they were reached, the vertex and the edge that each was reached by,
--- which ones were reached, and how many.
+-- A search under way: how many vertices were reached, and in 256 words how. The vertices in the order in which they were reached
+-- stand from word 0 on; the vertex that q was reached from is word 64 + q, the edge is word 128 + q, and word 192 + q is 1 if q was reached.
 pub record Scan : Type 0 where
-  pub order : List ℕ
-  pub fromVertex : List ℕ
-  pub fromEdge : List ℕ
-  pub seen : List Bool
+  pub words : List ℕ
   pub count : ℕ
+
+abbrev pub scanOf : List ℕ → ℕ → Scan
+scanOf w c = record { words = w; count = c }
 
 -- the vertex at place i of the order
 abbrev pub at : Scan → ℕ → ℕ
-at s i = getD (s .order) i 0
+at s i = getD (s .words) i 0
 
 -- the vertex and the edge that q was reached by
 abbrev pub parentOf : Scan → ℕ → ℕ
-parentOf s q = getD (s .fromVertex) q 0
+parentOf s q = getD (s .words) (64 + q) 0
 
 abbrev pub edgeTo : Scan → ℕ → ℕ
-edgeTo s q = getD (s .fromEdge) q 0
+edgeTo s q = getD (s .words) (128 + q) 0
 
 -- whether q was reached
 abbrev pub reachedYet : Scan → ℕ → Bool
-reachedYet s q = getD (s .seen) q false
+reachedYet s q = eqb (getD (s .words) (192 + q) 0) 1
 
+-- vertex q is reached, from p by edge g
 unfoldable pub marked : ℕ → ℕ → ℕ → Scan → Scan
 marked p g q s = record {
-  order = set (s .order) (s .count) q;
-  fromVertex = set (s .fromVertex) q p;
-  fromEdge = set (s .fromEdge) q g;
-  seen = set (s .seen) q true;
+  words = set (set (set (set (s .words) (s .count) q) (64 + q) p) (128 + q) g) (192 + q) 1;
   count = s .count + 1;
 }
 
+-- the same where it was not reached before
 unfoldable pub reached : ℕ → ℕ → ℕ → Scan → Scan
-reached p g q s = pick (getD (s .seen) q false) s (marked p g q s)
+reached p g q s = pick (reachedYet s q) s (marked p g q s)
 
--- whether a edge in this state can be passed
+-- whether an edge in this state can be passed: 0 undecided, 1 disconnected (document 01: shut), 2 connected (open)
 unfoldable pub passes : Bool → ℕ → Bool
 passes true x = not (eqb x 1)
 passes false x = eqb x 2
@@ -79,20 +78,15 @@ walked e edges p s = iter (visited e p) edges s
 
 -- the vertex at place h of the order, if that many were reached
 unfoldable pub popped : Graph → ℕ → ℕ → Scan → Scan
-popped e edges h s = pick (ltb h (s .count)) (walked e edges (getD (s .order) h 0) s) s
+popped e edges h s = pick (ltb h (s .count)) (walked e edges (at s h) s) s
 
 -- the loop over the order: each vertex is at one place below the number of vertices
 abbrev pub drained : Graph → ℕ → ℕ → Scan → Scan
 drained e edges vertices s = iter (popped e edges) vertices s
 
+-- nothing is reached yet
 unfoldable pub blank : Scan
-blank = record {
-  order = replicate 64 0;
-  fromVertex = replicate 64 0;
-  fromEdge = replicate 64 0;
-  seen = replicate 64 false;
-  count = 0;
-}
+blank = record { words = replicate 256 0; count = 0 }
 
 -- all that is reached from a vertex, in arrays that were lent
 unfoldable pub searchedOn : Graph → ℕ → ℕ → ℕ → Scan → Scan

@@ -1,0 +1,4 @@
+// The walks over a graph of at most 64 vertices and 128 edges.
+mod bounds;
+pub mod regions;
+mod search;

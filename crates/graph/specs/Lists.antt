@@ -1,0 +1,24 @@
+-- Loops over the first entries of a list, and sums.
+use Prim.Native.Nat.{ℕ, zero, suc, _+_}
+use mathlib.Core.Bool.{Bool, true, false, _&&_}
+use mathlib.Core.List.{List}
+use lib.ListN.{getD, set}
+use Rattle.base.specs.Iter.{iter, pick}
+
+-- entry i becomes f of its place and of what it was
+unfoldable pub put : (ℕ → ℕ → ℕ) → ℕ → List ℕ → List ℕ
+put f i l = set l i (f i (getD l i 0))
+
+-- the first n entries, each by f; the others stay
+abbrev pub mapped : (ℕ → ℕ → ℕ) → ℕ → List ℕ → List ℕ
+mapped f n l = iter (put f) n l
+
+-- whether each of the first n passes the test
+unfoldable pub every : (ℕ → Bool) → ℕ → Bool
+every b zero = true
+every b (suc n) = every b n && b n
+
+-- the sum of w over those below n that b takes in
+unfoldable pub total : (ℕ → Bool) → (ℕ → ℕ) → ℕ → ℕ
+total b w zero = 0
+total b w (suc n) = total b w n + pick (b n) (w n) 0

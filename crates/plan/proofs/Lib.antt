@@ -1,0 +1,4 @@
+pub mod CheckCases
+pub mod Passed
+pub mod Proper
+pub mod Passes

@@ -1,0 +1,71 @@
+use mathlib.Core.Path.{_≡_, refl, sym, ap, ap₂, _∙_}
+use mathlib.Core.Bool.{Bool, true, false, not, _&&_, _||_}
+use Prim.Native.Nat.{ℕ, pred, _+_, _-_, _/_, _%_, _≤_, _<_}
+use native.Mathlib.Omega.{arith}
+use lib.Dec.{ltb, leb, eqb}
+use borrow.Author.Tests.{lt-ltb, le-ltb, le-leb, lt-leb, eq-eqb, ne-eqb}
+use Rattle.base.proofs.Tests.{or-yes, or-next, and-no, and-next}
+use Rattle.plan.specs.Words.{word, verticesOf, edgesOf, variablesOf, slotsOf}
+use Rattle.plan.specs.Check.{countsBad}
+use borrow.Author.Needs.{needs}
+use Rattle.plan.proofs.check.counts_bad.Statement.{statement}
+use Rattle.plan.proofs.check.counts_bad.Tie as tie
+
+num-vertices-requires : tie.Need-num-vertices-requires
+num-vertices-requires c κs = search needs
+
+returns : tie.Need-returns
+unfolding countsBad
+returns c = or-yes _ (lt-ltb 64 (verticesOf ((c .before .before .args) .plan .now)) (omega arith))
+
+num-edges-requires : tie.Need-num-edges-requires
+num-edges-requires c κs = search needs
+
+returns-2 : tie.Need-returns-2
+unfolding countsBad
+returns-2 c = or-next _ _ (le-ltb 64 (verticesOf ((c .before .before .before .before .args) .plan .now)) (omega arith)) (or-yes _ (lt-ltb 128 (edgesOf ((c .before .before .before .before .args) .plan .now)) (omega arith)))
+
+num-variables-requires : tie.Need-num-variables-requires
+num-variables-requires c κs = search needs
+
+returns-3 : tie.Need-returns-3
+unfolding countsBad
+returns-3 c = or-next _ _ (le-ltb 64 (verticesOf ((c .before .before .before .before .before .before .args) .plan .now)) (omega arith)) (or-next _ _ (le-ltb 128 (edgesOf ((c .before .before .before .before .before .before .args) .plan .now)) (omega arith)) (or-yes _ (lt-ltb 2176 (variablesOf ((c .before .before .before .before .before .before .args) .plan .now)) (omega arith))))
+
+num-slots-requires : tie.Need-num-slots-requires
+num-slots-requires c κs = search needs
+
+returns-4 : tie.Need-returns-4
+unfolding countsBad
+returns-4 c = or-next _ _ (le-ltb 64 (verticesOf ((c .before .before .before .before .before .before .before .before .args) .plan .now)) (omega arith)) (or-next _ _ (le-ltb 128 (edgesOf ((c .before .before .before .before .before .before .before .before .args) .plan .now)) (omega arith)) (or-next _ _ (le-ltb 2176 (variablesOf ((c .before .before .before .before .before .before .before .before .args) .plan .now)) (omega arith)) (or-yes _ (lt-ltb 2176 (slotsOf ((c .before .before .before .before .before .before .before .before .args) .plan .now)) (omega arith)))))
+
+element-copy-out-if5 : tie.Need-element-copy-out-if5
+element-copy-out-if5 c = search needs
+
+returns-5 : tie.Need-returns-5
+unfolding countsBad
+returns-5 c = or-next _ _ (le-ltb 64 (verticesOf ((c .before .before .before .before .before .before .before .before .before .before .args) .plan .now)) (omega arith)) (or-next _ _ (le-ltb 128 (edgesOf ((c .before .before .before .before .before .before .before .before .before .before .args) .plan .now)) (omega arith)) (or-next _ _ (le-ltb 2176 (variablesOf ((c .before .before .before .before .before .before .before .before .before .before .args) .plan .now)) (omega arith)) (or-next _ _ (le-ltb 2176 (slotsOf ((c .before .before .before .before .before .before .before .before .before .before .args) .plan .now)) (omega arith)) (or-yes _ (lt-ltb 1 (word ((c .before .before .before .before .before .before .before .before .before .before .args) .plan .now) 2) (omega arith))))))
+
+element-copy-out-result : tie.Need-element-copy-out-result
+element-copy-out-result c = search needs
+
+returns-6 : tie.Need-returns-6
+unfolding countsBad
+returns-6 c = or-next _ _ (le-ltb 64 (verticesOf ((c .before .before .before .before .before .before .before .before .before .before .before .args) .plan .now)) (omega arith)) (or-next _ _ (le-ltb 128 (edgesOf ((c .before .before .before .before .before .before .before .before .before .before .before .args) .plan .now)) (omega arith)) (or-next _ _ (le-ltb 2176 (variablesOf ((c .before .before .before .before .before .before .before .before .before .before .before .args) .plan .now)) (omega arith)) (or-next _ _ (le-ltb 2176 (slotsOf ((c .before .before .before .before .before .before .before .before .before .before .before .args) .plan .now)) (omega arith)) (or-next _ _ (le-ltb 1 (word ((c .before .before .before .before .before .before .before .before .before .before .before .args) .plan .now) 2) (omega arith)) refl))))
+
+pub counts-bad-spec : {M : Type 1} → statement M
+counts-bad-spec =
+    tie.close
+    (tie.spec
+    num-vertices-requires
+    returns
+    num-edges-requires
+    returns-2
+    num-variables-requires
+    returns-3
+    num-slots-requires
+    returns-4
+    element-copy-out-if5
+    returns-5
+    element-copy-out-result
+    returns-6)

@@ -1,0 +1,68 @@
+use mathlib.Core.Path.{_≡_, refl, sym, ap, ap₂, _∙_}
+use Prim.Native.Nat.{ℕ, pred, _+_, _-_, _/_, _%_, _≤_, _<_}
+use native.Mathlib.Omega.{arith}
+use Rattle.plan.proofs.CheckCases.{occurrence-unused, occurrence-other, occurrence-first, occurrence-next}
+use borrow.Author.Needs.{needs}
+use Rattle.plan.proofs.check.occurrence_bad.Statement.{statement}
+use Rattle.plan.proofs.check.occurrence_bad.Tie as tie
+
+occurrence-at-requires : tie.Need-occurrence-at-requires
+occurrence-at-requires c κs = search needs
+
+cast-used-slot : tie.Need-cast-used-slot
+cast-used-slot c = search needs
+
+used-slot-requires : tie.Need-used-slot-requires
+used-slot-requires c κs = search needs
+
+cast-lit : tie.Need-cast-lit
+cast-lit c = search needs
+
+lit-requires : tie.Need-lit-requires
+lit-requires c κs = search needs
+
+variable-at-requires : tie.Need-variable-at-requires
+variable-at-requires c κs = search needs
+
+returns : tie.Need-returns
+returns c = occurrence-other ((c .before .before .before .before .before .before .args) .plan .now) ((c .before .before .before .before .before .before .args) .k) ((c .before .before .before .before .before .before .args) .i) ((c .before .before .before .before .before .occurrence-at) .result) ((c .before .before .before .before .before .occurrence-at) .ensures) (sym ((c .before .before .before .before .used-slot) .ensures) ∙ (c .before .before .before .if1) .taken) ((c .before .before .lit) .result) ((c .before .variable-at) .result) ((c .before .before .lit) .ensures) ((c .before .variable-at) .ensures) ((c .if2) .taken)
+
+start-at-requires : tie.Need-start-at-requires
+start-at-requires c κs = search needs
+
+cast-if3 : tie.Need-cast-if3
+cast-if3 c = search needs
+
+returns-2 : tie.Need-returns-2
+returns-2 c = occurrence-first ((c .before .before .before .before .before .before .before .before .args) .plan .now) ((c .before .before .before .before .before .before .before .before .args) .k) ((c .before .before .before .before .before .before .before .before .args) .i) ((c .before .before .before .before .before .before .before .occurrence-at) .result) ((c .before .before .before .before .before .before .before .occurrence-at) .ensures) (sym ((c .before .before .before .before .before .before .used-slot) .ensures) ∙ (c .before .before .before .before .before .if1) .taken) ((c .before .before .before .before .lit) .result) ((c .before .before .before .variable-at) .result) ((c .before .before .before .before .lit) .ensures) ((c .before .before .before .variable-at) .ensures) ((c .before .before .if2) .left) (omega arith)
+
+sub-occurrence-at : tie.Need-sub-occurrence-at
+sub-occurrence-at c = search needs
+
+occurrence-at-requires-2 : tie.Need-occurrence-at-requires-2
+occurrence-at-requires-2 c κs = search needs
+
+returns-3 : tie.Need-returns-3
+returns-3 c = occurrence-next ((c .before .before .before .before .before .before .before .before .before .args) .plan .now) ((c .before .before .before .before .before .before .before .before .before .args) .k) ((c .before .before .before .before .before .before .before .before .before .args) .i) ((c .before .before .before .before .before .before .before .before .occurrence-at) .result) ((c .before .before .before .before .before .before .before .before .occurrence-at) .ensures) (sym ((c .before .before .before .before .before .before .before .used-slot) .ensures) ∙ (c .before .before .before .before .before .before .if1) .taken) ((c .before .before .before .before .before .lit) .result) ((c .before .before .before .before .variable-at) .result) ((c .before .before .before .before .before .lit) .ensures) ((c .before .before .before .before .variable-at) .ensures) ((c .before .before .before .if2) .left) ((c .occurrence-at2) .result) (omega arith) ((c .occurrence-at2) .ensures)
+
+returns-4 : tie.Need-returns-4
+returns-4 c = occurrence-unused ((c .before .before .before .args) .plan .now) ((c .before .before .before .args) .k) ((c .before .before .before .args) .i) ((c .before .before .occurrence-at) .result) ((c .before .before .occurrence-at) .ensures) (sym ((c .before .used-slot) .ensures) ∙ (c .if1) .left)
+
+pub occurrence-bad-spec : {M : Type 1} → statement M
+occurrence-bad-spec =
+    tie.close
+    (tie.spec
+    occurrence-at-requires
+    cast-used-slot
+    used-slot-requires
+    cast-lit
+    lit-requires
+    variable-at-requires
+    returns
+    start-at-requires
+    cast-if3
+    returns-2
+    sub-occurrence-at
+    occurrence-at-requires-2
+    returns-3
+    returns-4)

@@ -1,0 +1,46 @@
+use mathlib.Core.Path.{_≡_, sym, _∙_}
+use mathlib.Core.Bool.{Bool, true, false, not, _&&_, _||_}
+use Prim.Native.Nat.{ℕ, suc, pred, _+_, _-_, _≤_, _<_}
+use native.Mathlib.Omega.{arith}
+use lib.IntN.{pos}
+use lib.Dec.{eqb, ltb}
+use borrow.Author.Needs.{needs}
+use Rattle.base.specs.Lists.{some}
+use Rattle.base.specs.Range.{inRange, toNat}
+use Rattle.base.proofs.Some.{some-zero, some-found, some-more, some-done}
+use Prim.Native.Nat.{_*_}
+use Rattle.plan.specs.Check.{entryBad, slotBad, vertexBad, edgeBad, occurrenceBad, variableBad}
+use Rattle.plan.proofs.check.some_occurrence_bad.Statement.{statement}
+use Rattle.plan.proofs.check.some_occurrence_bad.Tie as tie
+
+abbrev Inv-loop : tie.InvT-loop
+Inv-loop plan k from n i₀ i = (i ≤ n) × (some (λ i. occurrenceBad plan k (from + i)) i ≡ false)
+
+abbrev μ-loop : tie.MeasureT-loop
+μ-loop plan k from n i₀ i = n - i
+
+loop-holds : tie.Need-loop-holds Inv-loop μ-loop
+loop-holds c = (omega arith, some-zero _)
+
+occurrence-bad-from-requires : tie.Need-occurrence-bad-from-requires Inv-loop μ-loop
+occurrence-bad-from-requires c κs = search needs
+
+returns : tie.Need-returns Inv-loop μ-loop
+returns c = sym (some-found _ _ (c .before .before .before .loop .i) (omega arith) (sym (c .before .occurrence-bad-from .ensures) ∙ c .if1 .taken))
+
+add-i : tie.Need-add-i Inv-loop μ-loop
+add-i c = omega arith
+
+loop-less : tie.Need-loop-less Inv-loop μ-loop
+loop-less c = omega arith
+
+loop-again : tie.Need-loop-again Inv-loop μ-loop
+loop-again c =
+    let l = c .before .before .before .loop in
+    (omega arith, some-more _ (l .i) (l .inv .1) (sym (c .before .occurrence-bad-from .ensures) ∙ c .if1 .left))
+
+returns-2 : tie.Need-returns-2 Inv-loop μ-loop
+returns-2 c = sym (some-done _ (c .before .loop .i) _ (c .before .loop .inv .1) (omega arith) (omega arith))
+
+pub some-occurrence-bad-spec : {M : Type 1} → statement M
+some-occurrence-bad-spec = tie.close (tie.spec Inv-loop μ-loop loop-holds occurrence-bad-from-requires returns add-i loop-less loop-again returns-2)

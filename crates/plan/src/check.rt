@@ -1,0 +1,341 @@
+// The plan's own test. Every call begins with it, so that a corrupted state is refused and never reaches an index; it is
+// linear in what the plan uses.
+use crate::dom_lit;
+use crate::domain;
+use crate::domain_len;
+use crate::lit;
+use crate::num_edges;
+use crate::num_slots;
+use crate::num_variables;
+use crate::num_vertices;
+use crate::occurrence_at;
+use crate::place;
+use crate::position;
+use crate::start_at;
+use crate::variable_at;
+use crate::weight;
+ghost use mathlib.Core.Path.{_≡_};
+ghost use mathlib.Core.Bool.{not, _&&_, _||_};
+ghost use Prim.Native.Nat.{ℕ, pred, _+_, _-_, _*_, _/_, _%_, _<_, _≤_};
+ghost use lib.Dec.{eqb, ltb, leb};
+ghost use Rattle.base.specs.Iter.{iter};
+ghost use Rattle.base.specs.Lists.{some};
+ghost use Rattle.plan.specs.Words.{word, verticesOf, edgesOf, variablesOf, slotsOf, domainLenOf, startAt};
+ghost use Rattle.plan.specs.Check.{countsBad, usedSlot, slotBad, entryBad, vertexBad, edgeBad, occurrenceBad, variableOrderBad, variableBad, slotCount, startsBad, planBad, Counts};
+
+fn counts_bad(plan: &[u32; 15241]) -> bool
+    ensures { λ r. ⌜ r ≡ countsBad (now (plan .entry)) ⌝ }
+{
+    if 64 < num_vertices(plan) {
+        return true;
+    }
+    if 128 < num_edges(plan) {
+        return true;
+    }
+    if 2176 < num_variables(plan) {
+        return true;
+    }
+    if 2176 < num_slots(plan) {
+        return true;
+    }
+    if 1 < plan[2] {
+        return true;
+    }
+    1 < plan[3]
+}
+
+// Whether a slot holds a literal.
+pub fn used_slot(plan: &[u32; 15241], s: usize) -> bool
+    ensures { λ r. ⌜ r ≡ usedSlot (now (plan .entry)) s ⌝ }
+{
+    if s < 2048 {
+        let v = s / 32;
+        if v < num_vertices(plan) as usize {
+            return s % 32 + 1 < domain_len(plan, v) as usize;
+        }
+        return false;
+    }
+    s - 2048 < num_edges(plan) as usize
+}
+
+fn slot_bad(plan: &[u32; 15241], s: usize) -> bool
+    ensures { λ r. ⌜ r ≡ slotBad (now (plan .entry)) s ⌝ }
+{
+    let l = lit(plan, s);
+    if 8191 < l {
+        return true;
+    }
+    let p = place(plan, s);
+    if num_variables(plan) <= p / 2 {
+        return true;
+    }
+    if variable_at(plan, (p / 2) as usize) != l / 2 {
+        return true;
+    }
+    if p % 2 != l % 2 {
+        return true;
+    }
+    let at = position(plan, s);
+    if num_slots(plan) <= at {
+        return true;
+    }
+    occurrence_at(plan, at as usize) as usize != s
+}
+
+fn entry_bad(plan: &[u32; 15241], v: usize, j: usize) -> bool
+    ensures { λ r. ⌜ r ≡ entryBad (now (plan .entry)) v j ⌝ }
+{
+    if 1000000 < domain(plan, v, j) {
+        return true;
+    }
+    if j == 0 {
+        return false;
+    }
+    domain(plan, v, j) <= domain(plan, v, j - 1)
+}
+
+fn some_entry_bad(plan: &[u32; 15241], v: usize, len: usize) -> bool
+    ensures { λ r. ⌜ r ≡ some (entryBad (now (plan .entry)) v) len ⌝ }
+{
+    let mut j = 0;
+    while j < len {
+        if entry_bad(plan, v, j) {
+            return true;
+        }
+        j += 1;
+    }
+    false
+}
+
+fn dom_slot_bad(plan: &[u32; 15241], v: usize, j: usize) -> bool
+    requires { ⌜ (v < 64) × (j < 32) ⌝ }
+    ensures { λ r. ⌜ r ≡ slotBad (now (plan .entry)) (32 * v + j) ⌝ }
+{
+    slot_bad(plan, 32 * v + j)
+}
+
+fn some_dom_slot_bad(plan: &[u32; 15241], v: usize, count: usize) -> bool
+    requires { ⌜ (v < 64) × (count ≤ 32) ⌝ }
+    ensures { λ r. ⌜ r ≡ some (λ j. slotBad (now (plan .entry)) (32 * v + j)) count ⌝ }
+{
+    let mut j = 0;
+    while j < count {
+        if dom_slot_bad(plan, v, j) {
+            return true;
+        }
+        j += 1;
+    }
+    false
+}
+
+// A domain of k sizes has k - 1 literals, an empty one none.
+fn less_one(k: usize) -> usize
+    ensures { λ r. ⌜ r ≡ pred k ⌝ }
+{
+    if k == 0 {
+        return 0;
+    }
+    k - 1
+}
+
+fn vertex_bad(plan: &[u32; 15241], v: usize) -> bool
+    requires { ⌜ v < 64 ⌝ }
+    ensures { λ r. ⌜ r ≡ vertexBad (now (plan .entry)) v ⌝ }
+{
+    if 1000000 < weight(plan, v) {
+        return true;
+    }
+    let len = domain_len(plan, v) as usize;
+    if 32 < len {
+        return true;
+    }
+    if some_entry_bad(plan, v, len) {
+        return true;
+    }
+    some_dom_slot_bad(plan, v, less_one(len))
+}
+
+fn some_vertex_bad(plan: &[u32; 15241], n: usize) -> bool
+    requires { ⌜ n ≤ 64 ⌝ }
+    ensures { λ r. ⌜ r ≡ some (vertexBad (now (plan .entry))) n ⌝ }
+{
+    let mut v = 0;
+    while v < n {
+        if vertex_bad(plan, v) {
+            return true;
+        }
+        v += 1;
+    }
+    false
+}
+
+fn wide(x: u8) -> u32
+    ensures { λ r. ⌜ r ≡ x ⌝ }
+{
+    x as u32
+}
+
+fn edge_bad<'a>(plan: &'a [u32; 15241], edges: &'a [[u8; 2]; 128], g: usize) -> bool
+    requires { ⌜ g < 128 ⌝ }
+    ensures { λ r. ⌜ r ≡ edgeBad (now (plan .entry)) (now (edges .entry)) g ⌝ }
+{
+    let n = num_vertices(plan);
+    if n <= wide(edges[g][0]) {
+        return true;
+    }
+    if n <= wide(edges[g][1]) {
+        return true;
+    }
+    slot_bad(plan, 2048 + g)
+}
+
+fn some_edge_bad<'a>(plan: &'a [u32; 15241], edges: &'a [[u8; 2]; 128], m: usize) -> bool
+    requires { ⌜ m ≤ 128 ⌝ }
+    ensures { λ r. ⌜ r ≡ some (edgeBad (now (plan .entry)) (now (edges .entry))) m ⌝ }
+{
+    let mut g = 0;
+    while g < m {
+        if edge_bad(plan, edges, g) {
+            return true;
+        }
+        g += 1;
+    }
+    false
+}
+
+fn occurrence_bad(plan: &[u32; 15241], k: usize, i: usize) -> bool
+    ensures { λ r. ⌜ r ≡ occurrenceBad (now (plan .entry)) k i ⌝ }
+{
+    let s = occurrence_at(plan, i);
+    if used_slot(plan, s as usize) {
+        if lit(plan, s as usize) / 2 != variable_at(plan, k) {
+            return true;
+        }
+        if i <= start_at(plan, k) as usize {
+            return false;
+        }
+        return s <= occurrence_at(plan, i - 1);
+    }
+    true
+}
+
+fn occurrence_bad_from(plan: &[u32; 15241], k: usize, from: usize, i: usize) -> bool
+    requires { ⌜ from + i ≤ 2176 ⌝ }
+    ensures { λ r. ⌜ r ≡ occurrenceBad (now (plan .entry)) k (from + i) ⌝ }
+{
+    occurrence_bad(plan, k, from + i)
+}
+
+fn some_occurrence_bad(plan: &[u32; 15241], k: usize, from: usize, n: usize) -> bool
+    requires { ⌜ from + n ≤ 2176 ⌝ }
+    ensures { λ r. ⌜ r ≡ some (λ i. occurrenceBad (now (plan .entry)) k (from + i)) n ⌝ }
+{
+    let mut i = 0;
+    while i < n {
+        if occurrence_bad_from(plan, k, from, i) {
+            return true;
+        }
+        i += 1;
+    }
+    false
+}
+
+// Whether distinct variable k is out of range or not over the one before it.
+fn variable_order_bad(plan: &[u32; 15241], k: usize) -> bool
+    ensures { λ r. ⌜ r ≡ variableOrderBad (now (plan .entry)) k ⌝ }
+{
+    if 4095 < variable_at(plan, k) {
+        return true;
+    }
+    if k == 0 {
+        return false;
+    }
+    variable_at(plan, k) <= variable_at(plan, k - 1)
+}
+
+fn variable_bad(plan: &[u32; 15241], k: usize) -> bool
+    requires { ⌜ (k < 2176) × (slotsOf (now plan) ≤ 2176) ⌝ }
+    ensures { λ r. ⌜ r ≡ variableBad (now (plan .entry)) k ⌝ }
+{
+    if variable_order_bad(plan, k) {
+        return true;
+    }
+    let from = start_at(plan, k) as usize;
+    let end = start_at(plan, k + 1) as usize;
+    if end <= from {
+        return true;
+    }
+    if (num_slots(plan) as usize) < end {
+        return true;
+    }
+    some_occurrence_bad(plan, k, from, end - from)
+}
+
+fn some_variable_bad(plan: &[u32; 15241], n: usize) -> bool
+    requires { ⌜ (n ≤ 2176) × (slotsOf (now plan) ≤ 2176) ⌝ }
+    ensures { λ r. ⌜ r ≡ some (variableBad (now (plan .entry))) n ⌝ }
+{
+    let mut k = 0;
+    while k < n {
+        if variable_bad(plan, k) {
+            return true;
+        }
+        k += 1;
+    }
+    false
+}
+
+fn add_slots(plan: &[u32; 15241], v: usize, n: usize) -> usize
+    requires { ⌜ n + pred (domainLenOf (now plan) v) < 1000000 ⌝ }
+    ensures { λ r. ⌜ r ≡ n + pred (domainLenOf (now (plan .entry)) v) ⌝ }
+{
+    n + less_one(domain_len(plan, v) as usize)
+}
+
+// How many slots are in use.
+fn slot_count(plan: &[u32; 15241]) -> usize
+    requires { ⌜ Counts (now plan) ⌝ }
+    ensures { λ r. ⌜ r ≡ slotCount (now (plan .entry)) ⌝ }
+{
+    let vertices = num_vertices(plan) as usize;
+    let mut n = num_edges(plan) as usize;
+    let mut v = 0;
+    while v < vertices {
+        n = add_slots(plan, v, n);
+        v += 1;
+    }
+    n
+}
+
+fn starts_bad(plan: &[u32; 15241]) -> bool
+    requires { ⌜ Counts (now plan) ⌝ }
+    ensures { λ r. ⌜ r ≡ startsBad (now (plan .entry)) ⌝ }
+{
+    let slots = num_slots(plan);
+    if start_at(plan, 0) != 0 {
+        return true;
+    }
+    if start_at(plan, num_variables(plan) as usize) != slots {
+        return true;
+    }
+    slot_count(plan) != slots as usize
+}
+
+// Whether the words and the edge table are a plan that the calls can work on.
+pub fn plan_ok<'a>(plan: &'a [u32; 15241], edges: &'a [[u8; 2]; 128]) -> bool
+    ensures { λ r. ⌜ r ≡ not (planBad (now (plan .entry)) (now (edges .entry))) ⌝ }
+{
+    if counts_bad(plan) {
+        return false;
+    }
+    if some_vertex_bad(plan, num_vertices(plan) as usize) {
+        return false;
+    }
+    if some_edge_bad(plan, edges, num_edges(plan) as usize) {
+        return false;
+    }
+    if some_variable_bad(plan, num_variables(plan) as usize) {
+        return false;
+    }
+    !starts_bad(plan)
+}
