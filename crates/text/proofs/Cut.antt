@@ -1,8 +1,7 @@
 -- Cutting at separators, as code walks: the first piece, and what is left after it.
 use mathlib.Core.Path.{_≡_, refl, sym, ap, ap₂, _∙_}
 use mathlib.Core.List.{List, [], _∷_}
-use mathlib.Core.Bool.{Bool, true, false}
-use Prim.Native.Nat.{ℕ, zero, suc, _+_, _-_, _≤_, _<_}
+use Prim.Native.Nat.{ℕ, suc, _+_, _-_, _≤_, _<_}
 use native.Mathlib.Omega.{arith}
 use native.Mathlib.Numerals.{add-one}
 use lib.Dec.{eqb}
@@ -10,7 +9,8 @@ use lib.ListN.{length, take, drop, getD, drop-of-length-le, length-drop}
 use lib.Seq.{drop-cons, drop-drop}
 use borrow.Author.Tests.{eq-eqb, ne-eqb}
 use Rattle.base.proofs.Loop.{pick-yes, pick-no, tested}
-use Rattle.text.specs.Fields.{newline, front, split, linesOf, upto, more}
+use Rattle.text.specs.Fields.{newline, front, split, linesOf, upto}
+use Rattle.text.specs.Steps.{more}
 
 -- ---- where a piece ends
 module _ (sep : ℕ) (l : List ℕ) (i : ℕ) where

@@ -3,17 +3,17 @@ use mathlib.Core.Path.{_≡_, refl, sym, ap, ap₂, _∙_}
 use mathlib.Core.List.{List, [], _∷_, _++_, map}
 use Prim.Native.Nat.{ℕ, zero, suc, _+_, _-_, _≤_, _<_}
 use native.Mathlib.Omega.{arith}
-use native.Mathlib.Numerals.{add-one}
 use lib.IntN.{ℤ, pos}
 use lib.Dec.{leb, ltb}
-use lib.ListN.{length, take, drop, getD, set, length-set, length-drop, take-append-drop, drop-of-length-le}
+use lib.ListN.{length, take, drop, set, length-set, length-drop, take-append-drop, drop-of-length-le}
 use lib.Seq.{take-all, drop-cons, append-snoc, take-suc-set, drop-set-lt, set-out}
 use borrow.Author.Tests.{le-leb, lt-leb, ltb-true, ltb-false}
 use Rattle.base.proofs.Loop.{pick-yes, pick-no, pick-ind, tested}
 use Rattle.text.specs.declared.Field.{Field}
-use Rattle.text.specs.Fields.{tab, split, upto, more}
+use Rattle.text.specs.Fields.{tab, upto}
 use Rattle.text.specs.Number.{fieldOf, numberOf}
-use Rattle.text.specs.Lines.{rest, numbersOf, numbersFrom, over, store}
+use Rattle.text.specs.Lines.{rest, numbersOf, numbersFrom, over}
+use Rattle.text.specs.Steps.{more, store}
 use Rattle.text.proofs.Cut.{split-first, more-at, more-none}
 
 -- what is left, number by number, the first of them number j

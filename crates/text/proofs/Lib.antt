@@ -4,3 +4,4 @@ pub mod Seeing
 pub mod Shapes
 pub mod Filling
 pub mod Order
+pub mod Examples

@@ -1,8 +1,8 @@
 -- The numbers of a line, gathered field by field.
-use mathlib.Core.Path.{_≡_, refl, sym, ap, ap₂, _∙_}
+use mathlib.Core.Path.{_≡_, refl, sym, ap, _∙_}
 use mathlib.Core.List.{List, [], _∷_, _++_, map, append-assoc, append-nil}
 use mathlib.Core.Bool.{Bool, true, false}
-use Prim.Native.Nat.{ℕ, zero, suc, _+_, _-_, _≤_, _<_}
+use Prim.Native.Nat.{ℕ, _+_, _-_, _≤_, _<_}
 use native.Mathlib.Omega.{arith}
 use lib.Dec.{eqb, ltb}
 use lib.ListN.{length, take, drop, getD, length-append, List·getD-append, List·getD-eq-default}
@@ -12,9 +12,10 @@ use Rattle.base.specs.Iter.{pick}
 use Rattle.base.proofs.Loop.{pick-yes, pick-no, tested}
 use Rattle.text.specs.declared.Field.{Field}
 use Rattle.text.specs.declared.Seen.{Seen}
-use Rattle.text.specs.Fields.{tab, upto, more}
+use Rattle.text.specs.Fields.{tab, upto}
 use Rattle.text.specs.Number.{none, fieldOf}
-use Rattle.text.specs.Lines.{allNumbers, seenOf, seeNext}
+use Rattle.text.specs.Lines.{allNumbers, seenOf}
+use Rattle.text.specs.Steps.{more, seeNext}
 use Rattle.text.proofs.Cut.{more-at}
 
 -- what is left, field by field

@@ -2,23 +2,23 @@
 use mathlib.Core.Path.{_≡_, refl, sym, ap, _∙_}
 use mathlib.Core.List.{List, [], _∷_, map}
 use mathlib.Core.Bool.{Bool, true, false, false≢true}
-use Prim.Native.Nat.{ℕ, zero, suc, _+_, _-_, _≤_, _<_, zero-le}
+use Prim.Native.Nat.{ℕ, zero, suc, _≤_, _<_, zero-le}
 use native.Mathlib.Omega.{arith}
-use lib.IntN.{ℤ, pos, negsuc, negℤ}
+use lib.IntN.{ℤ, pos, negℤ}
 use lib.Signed.{leZ}
 use lib.Dec.{leb, eqb}
-use lib.ListN.{length, take, drop, getD, length-take}
+use lib.ListN.{length, take, drop, getD}
 use lib.Seq.{length-take-le, getD-take}
 use borrow.Author.Tests.{eq-eqb, ne-eqb, le-leb, leb-true, eqb-true, eqb-false}
 use Rattle.base.specs.Iter.{pick}
 use Rattle.base.proofs.Loop.{pick-yes, pick-no, tested}
 use Rattle.text.specs.declared.Field.{Field}
 use Rattle.text.specs.declared.Seen.{Seen}
-use Rattle.text.specs.declared.Line.{Line}
 use Rattle.text.specs.declared.Line.the-variants.{RLast, Malformed}
-use Rattle.text.specs.Fields.{tab, split, upto, more}
+use Rattle.text.specs.Fields.{tab, upto}
 use Rattle.text.specs.Number.{none, fieldOf, numberOf}
-use Rattle.text.specs.Lines.{allNumbers, seenOf, Fitting, within, byLetter, shaped, asksLast, readLine}
+use Rattle.text.specs.Lines.{allNumbers, seenOf, within, byLetter, shaped, asksLast, readLine}
+use Rattle.text.specs.Steps.{more, Fitting}
 use Rattle.text.proofs.Cut.{upto-within, split-first}
 use Rattle.text.proofs.Runs.{field-small}
 

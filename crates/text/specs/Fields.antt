@@ -1,6 +1,6 @@
 -- "Tabs part fields, one record a line": a run of bytes cut at a separator.
 use mathlib.Core.List.{List, [], _∷_}
-use Prim.Native.Nat.{ℕ, zero, suc}
+use Prim.Native.Nat.{ℕ, suc}
 use lib.Dec.{eqb}
 use Rattle.base.specs.Iter.{pick}
 
@@ -29,8 +29,3 @@ linesOf (b ∷ l) = pick (eqb b newline) ([] ∷ linesOf l) (front b (linesOf l)
 unfoldable pub upto : ℕ → List ℕ → ℕ
 upto sep [] = 0
 upto sep (b ∷ l) = pick (eqb b sep) 0 (suc (upto sep l))
-
--- the pieces after the first: l starts at the separator that ends it, or is empty
-unfoldable pub more : ℕ → List ℕ → List (List ℕ)
-more sep [] = []
-more sep (b ∷ l) = split sep l

@@ -1,8 +1,7 @@
--- The whole input: which order of lines is well formed.
+-- "Any other shape is malformed, as are .. O past the first line, and P or G after V, I, N, U or R": the whole input.
 use mathlib.Core.List.{List, [], _∷_}
 use mathlib.Core.Bool.{Bool, true, false, not}
 use Prim.Native.Nat.{ℕ}
-use lib.IntN.{ℤ}
 use lib.Dec.{leb}
 use lib.ListN.{length}
 use Rattle.base.specs.Iter.{pick}
@@ -42,6 +41,6 @@ unfoldable pub inOrder : Bool → Bool → List (List ℕ) → Bool
 inOrder first called [] = true
 inOrder first called (l ∷ ls) = pick (admitted first called (readLine l)) (inOrder false (calls called (readLine l)) ls) false
 
--- an input of at most 1 MiB whose lines are
+-- an input of at most 1 MiB (a longer one is malformed) whose lines are; the empty one is well formed
 unfoldable pub wellFormed : List ℕ → Bool
 wellFormed input = pick (leb (length input) 1048576) (inOrder true false (linesOf input)) false

@@ -2,5 +2,4 @@ pub mod Fields
 pub mod Number
 pub mod Lines
 pub mod Input
-pub mod Digits
-pub mod Written
+pub mod Steps

@@ -1,11 +1,11 @@
 -- The shape of one line: its letter, and the numbers that follow, parted by tabs.
 use mathlib.Core.List.{List, [], _∷_, map}
 use mathlib.Core.Bool.{Bool, true, false}
-use Prim.Native.Nat.{ℕ, _+_, _-_, _<_}
-use lib.IntN.{ℤ, pos, natAbs}
+use Prim.Native.Nat.{ℕ, _-_}
+use lib.IntN.{ℤ, pos}
 use lib.Signed.{leZ}
 use lib.Dec.{leb, eqb}
-use lib.ListN.{length, getD, set, drop}
+use lib.ListN.{length, getD, drop}
 use Rattle.base.specs.Iter.{pick}
 use Rattle.text.specs.declared.Field.{Field}
 use Rattle.text.specs.declared.Seen.{Seen}
@@ -23,24 +23,7 @@ allNumbers (f ∷ fs) = pick (f .ok) (allNumbers fs) false
 unfoldable pub seenOf : List Field → Seen
 seenOf fs = record { ok = allNumbers fs; count = length fs; a = getD fs 0 none; b = getD fs 1 none; c = getD fs 2 none }
 
--- one field more
-unfoldable pub seeNext : Seen → Field → Seen
-seeNext s f =
-    record {
-      ok = pick (s .ok) (f .ok) false;
-      count = s .count + 1;
-      a = pick (eqb (s .count) 0) f (s .a);
-      b = pick (eqb (s .count) 1) f (s .b);
-      c = pick (eqb (s .count) 2) f (s .c);
-    }
-
--- what holds of the first three, so that each fits an i32
-pub record Fitting (s : Seen) : Type 0 where
-  pub a : s .a .size < 1000000000
-  pub b : s .b .size < 1000000000
-  pub c : s .c .size < 1000000000
-
--- a number from 0 to most
+-- a number from 0 to most; a minus before 0 changes nothing
 unfoldable pub within : ℕ → Field → Bool
 within most f = pick (leZ (pos 0) (numberOf f)) (leZ (numberOf f) (pos most)) false
 
@@ -136,7 +119,3 @@ unfoldable pub over : List ℤ → List ℤ → List ℤ
 over [] out = out
 over (x ∷ xs) [] = []
 over (x ∷ xs) (y ∷ out) = x ∷ over xs out
-
--- number j of a line into a buffer that takes those from number `from` on
-unfoldable pub store : ℕ → ℕ → ℤ → List ℤ → List ℤ
-store from j x out = pick (leb from j) (set out (j - from) x) out

@@ -1,16 +1,16 @@
-// Text lines: a line's letter and its numbers, parted by tabs. `input` has the order of the lines, `writer` the answers.
+// Text lines: a line's letter and its numbers, parted by tabs. `input` has the order of the lines.
 pub mod input;
-pub mod writer;
 
 ghost use mathlib.Core.Path.{_≡_};
 ghost use mathlib.Core.List.{map, []};
-ghost use Prim.Native.Nat.{_+_, _-_, _*_, _≤_, _<_};
+ghost use Prim.Native.Nat.{_+_, _≤_, _<_};
 ghost use mathlib.Core.Bool.{false};
 ghost use Rattle.base.specs.Iter.{pick};
-ghost use lib.ListN.{length, take, drop};
-ghost use Rattle.text.specs.Fields.{tab, newline, upto, more};
+ghost use lib.ListN.{length, drop};
+ghost use Rattle.text.specs.Fields.{tab, newline, upto};
 ghost use Rattle.text.specs.Number.{none, digitsField, sized, fieldOf, numberOf, readNumber};
-ghost use Rattle.text.specs.Lines.{seenOf, seeNext, Fitting, within, shapeO, shapeP, shapeG, shapeV, shapeI, shapeN, shapeU, shapeR, byLetter, asksLast, readLine, numbersFrom, over, store};
+ghost use Rattle.text.specs.Lines.{seenOf, within, shapeO, shapeP, shapeG, shapeV, shapeI, shapeN, shapeU, shapeR, byLetter, asksLast, readLine, numbersFrom, over};
+ghost use Rattle.text.specs.Steps.{more, seeNext, Fitting, store};
 
 // A field as it was read: whether it is a number, its sign and its size.
 pub struct Field {
@@ -33,17 +33,19 @@ pub struct Seen {
     pub c: Field,
 }
 
+// What a line is. Values are as they were read: only V's and O's are tested here.
 pub enum Line {
     O {
         same_size: bool,
         extra_walls: bool,
     },
-    // count numbers follow k on the line: the first `sizes` of them are sizes, the others literals.
+    // A vertex (a pen). count numbers follow k on the line: the first `sizes` of them are sizes, the others literals.
     P {
         weight: i32,
         sizes: usize,
         count: usize,
     },
+    // An edge (a gate) from u to v.
     G {
         u: i32,
         v: i32,

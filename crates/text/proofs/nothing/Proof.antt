@@ -1,4 +1,4 @@
-use mathlib.Core.Path.{_≡_, refl}
+use mathlib.Core.Path.{refl}
 use Rattle.text.specs.Number.{none}
 use Rattle.text.proofs.nothing.Statement.{statement}
 use Rattle.text.proofs.nothing.Tie as tie

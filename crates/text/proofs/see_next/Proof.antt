@@ -1,34 +1,25 @@
-use mathlib.Core.Path.{_≡_, refl}
+use mathlib.Core.Path.{_≡_}
+use Rattle.text.specs.Steps.{seeNext}
 use mathlib.Core.Bool.{Bool}
 use Prim.Native.Nat.{ℕ}
 use Rattle.text.specs.declared.Field.{Field}
 use Rattle.text.specs.declared.Seen.{Seen}
-use Rattle.text.specs.Lines.{seeNext}
 use borrow.Author.Needs.{needs}
 use Rattle.text.proofs.see_next.Statement.{statement}
 use Rattle.text.proofs.see_next.Tie as tie
-use Rattle.text.proofs.see_next.Reads as reads
-use Rattle.text.proofs.see_next.Lts as lts
-use Rattle.text.proofs.both.Reads as both-reads
-use Rattle.text.proofs.pick_field.Reads as pick-field-reads
 
--- src/lib.rt:206:13
 both-requires : tie.Need-both-requires
 both-requires c κs = search needs
 
--- src/lib.rt:207:16
 add-t5 : tie.Need-add-t5
 add-t5 c = search needs
 
--- src/lib.rt:208:12
 pick-field-requires : tie.Need-pick-field-requires
 pick-field-requires c κs = search needs
 
--- src/lib.rt:209:12
 pick-field-requires-2 : tie.Need-pick-field-requires-2
 pick-field-requires-2 c κs = search needs
 
--- src/lib.rt:210:12
 pick-field-requires-3 : tie.Need-pick-field-requires-3
 pick-field-requires-3 c κs = search needs
 

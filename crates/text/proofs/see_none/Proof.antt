@@ -1,8 +1,7 @@
-use mathlib.Core.Path.{_≡_, refl, sym, ap}
+use mathlib.Core.Path.{ap}
 use mathlib.Core.Bool.{true}
 use borrow.Author.Needs.{needs}
 use Rattle.text.specs.declared.Field.{Field}
-use Rattle.text.specs.declared.Seen.{Seen}
 use Rattle.text.specs.Lines.{allNumbers, seenOf}
 use Rattle.text.proofs.see_none.Statement.{statement}
 use Rattle.text.proofs.see_none.Tie as tie

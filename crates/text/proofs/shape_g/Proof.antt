@@ -1,4 +1,4 @@
-use mathlib.Core.Path.{_≡_, sym, ap, _∙_}
+use mathlib.Core.Path.{_≡_, sym, _∙_}
 use borrow.Author.Tests.{eq-eqb, ne-eqb}
 use Rattle.base.proofs.Loop.{pick-yes, pick-no}
 use lib.IntN.{ℤ}
@@ -10,31 +10,23 @@ use Rattle.text.specs.Lines.{shapeG}
 use borrow.Author.Needs.{needs}
 use Rattle.text.proofs.shape_g.Statement.{statement}
 use Rattle.text.proofs.shape_g.Tie as tie
-use Rattle.text.proofs.shape_g.Reads as reads
-use Rattle.text.proofs.shape_g.Lts as lts
-use Rattle.text.proofs.signed.Reads as signed-reads
 
 made : {a a′ b b′ d d′ : ℤ} → a ≡ a′ → b ≡ b′ → d ≡ d′ → _≡_ {A = Line} (G a b d) (G a′ b′ d′)
 made p q r = rw (p, q, r)
 
--- src/lib.rt:294:9
 returns : tie.Need-returns
 unfolding shapeG
 returns c = sym (pick-no _ _ (ne-eqb _ _ (c .if1 .taken)))
 
--- src/lib.rt:296:9
 signed-requires : tie.Need-signed-requires
 signed-requires c κs = search needs
 
--- src/lib.rt:297:9
 signed-requires-2 : tie.Need-signed-requires-2
 signed-requires-2 c κs = search needs
 
--- src/lib.rt:298:9
 signed-requires-3 : tie.Need-signed-requires-3
 signed-requires-3 c κs = search needs
 
--- src/lib.rt:288:1
 returns-2 : tie.Need-returns-2
 unfolding shapeG
 returns-2 c =

@@ -1,4 +1,4 @@
-use mathlib.Core.Path.{_≡_, sym, ap₂, _∙_}
+use mathlib.Core.Path.{sym, ap₂, _∙_}
 use borrow.Author.Tests.{eq-eqb, ne-eqb}
 use Rattle.base.proofs.Loop.{pick-yes, pick-no}
 use mir.Syntax.{w32}
@@ -8,24 +8,17 @@ use Rattle.text.specs.Lines.{shapeN}
 use borrow.Author.Needs.{needs}
 use Rattle.text.proofs.shape_n.Statement.{statement}
 use Rattle.text.proofs.shape_n.Tie as tie
-use Rattle.text.proofs.shape_n.Reads as reads
-use Rattle.text.proofs.shape_n.Lts as lts
-use Rattle.text.proofs.signed.Reads as signed-reads
 
--- src/lib.rt:339:9
 returns : tie.Need-returns
 unfolding shapeN
 returns c = sym (pick-no _ _ (ne-eqb _ _ (c .if1 .taken)))
 
--- src/lib.rt:341:9
 signed-requires : tie.Need-signed-requires
 signed-requires c κs = search needs
 
--- src/lib.rt:342:9
 signed-requires-2 : tie.Need-signed-requires-2
 signed-requires-2 c κs = search needs
 
--- src/lib.rt:333:1
 returns-2 : tie.Need-returns-2
 unfolding shapeN
 returns-2 c =

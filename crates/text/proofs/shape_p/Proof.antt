@@ -1,4 +1,4 @@
-use mathlib.Core.Path.{_≡_, sym, ap, _∙_}
+use mathlib.Core.Path.{sym, ap, _∙_}
 use borrow.Author.Tests.{le-leb, lt-leb, not-true, not-false}
 use Rattle.base.proofs.Loop.{pick-yes, pick-no}
 use Prim.Native.Nat.{_-_}
@@ -10,21 +10,14 @@ use Rattle.text.specs.Lines.{shapeP}
 use borrow.Author.Needs.{needs}
 use Rattle.text.proofs.shape_p.Statement.{statement}
 use Rattle.text.proofs.shape_p.Tie as tie
-use Rattle.text.proofs.shape_p.Reads as reads
-use Rattle.text.proofs.shape_p.Lts as lts
-use Rattle.text.proofs.is_within.Reads as is-within-reads
-use Rattle.text.proofs.signed.Reads as signed-reads
 
--- src/lib.rt:273:9
 returns : tie.Need-returns
 unfolding shapeP
 returns c = sym (pick-no _ _ (lt-leb _ _ (c .if1 .taken)))
 
--- src/lib.rt:276:9
 is-within-requires : tie.Need-is-within-requires
 is-within-requires c κs = search needs
 
--- src/lib.rt:277:9
 returns-2 : tie.Need-returns-2
 unfolding shapeP
 returns-2 c =
@@ -32,15 +25,12 @@ returns-2 c =
     (pick-yes _ _ (le-leb _ _ (c .before .before .if1 .left))
     ∙ pick-no _ _ (sym (c .before .is-within .ensures) ∙ not-true _ (c .if2 .taken)))
 
--- src/lib.rt:279:9
 signed-requires : tie.Need-signed-requires
 signed-requires c κs = search needs
 
--- src/lib.rt:283:16
 cast-t8 : tie.Need-cast-t8
 cast-t8 c = search needs
 
--- src/lib.rt:267:1
 returns-3 : tie.Need-returns-3
 unfolding shapeP
 returns-3 c =

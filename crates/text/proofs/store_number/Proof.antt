@@ -1,4 +1,4 @@
-use mathlib.Core.Path.{_≡_, sym, ap, _∙_}
+use mathlib.Core.Path.{sym, ap, _∙_}
 use Prim.Native.Nat.{_-_}
 use native.Mathlib.Omega.{arith}
 use mir.Syntax.{w32}
@@ -10,37 +10,27 @@ use Rattle.text.proofs.Filling.{store-before, store-at}
 use borrow.Author.Needs.{needs}
 use Rattle.text.proofs.store_number.Statement.{statement}
 use Rattle.text.proofs.store_number.Tie as tie
-use Rattle.text.proofs.store_number.Reads as reads
-use Rattle.text.proofs.store_number.Lts as lts
-use Rattle.text.proofs.signed.Reads as signed-reads
 
--- src/lib.rt:428:9
 returns : tie.Need-returns
 returns c = sym (store-before (c .before .args .from) (c .before .args .j) (numberOf (c .before .args .f)) (c .before .args .out .now) (c .if1 .taken))
 
--- src/lib.rt:432:9
 returns-2 : tie.Need-returns-2
 returns-2 c =
     let a = c .before .before .args in
     sym (store-at (a .from) (a .j) (numberOf (a .f)) (a .out .now) (omega arith) ∙ set-out (a .out .now) (a .j - a .from) (numberOf (a .f)) (c .if2 .taken))
 
--- src/lib.rt:434:14
 signed-requires : tie.Need-signed-requires
 signed-requires c κs = search needs
 
--- src/lib.rt:434:5
 mul-t7 : tie.Need-mul-t7
 mul-t7 c = search needs
 
--- src/lib.rt:434:5
 slice-set-from-out : tie.Need-slice-set-from-out
 slice-set-from-out c = search needs
 
--- src/lib.rt:423:1
 same-length : tie.Need-same-length
 same-length c = search needs
 
--- src/lib.rt:423:1
 returns-3 : tie.Need-returns-3
 returns-3 c =
     let a = c .before .before .before .args in

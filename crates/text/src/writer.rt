@@ -1,4 +1,0 @@
-pub enum Written {
-    Next(usize),
-    TooSmall,
-}
