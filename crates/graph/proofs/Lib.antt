@@ -9,3 +9,4 @@ pub mod Cases
 pub mod Lists
 pub mod Walkable
 pub mod Labels
+pub mod Buckets

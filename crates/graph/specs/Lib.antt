@@ -3,3 +3,4 @@ pub mod Search
 pub mod Bounds
 pub mod Paths
 pub mod Labels
+pub mod Buckets

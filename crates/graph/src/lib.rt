@@ -2,3 +2,4 @@
 mod bounds;
 pub mod regions;
 mod search;
+pub mod weights;
