@@ -10,3 +10,4 @@ pub mod Lists
 pub mod Walkable
 pub mod Labels
 pub mod Buckets
+pub mod Spots

@@ -61,19 +61,19 @@ tightest upper l b r n = iter (λ v a. pick (eqb (labelOf l v) r && tighter uppe
 -- the bounds of all regions, and the vertices that have them
 pub record Marks : Type 0 where
   pub bounds : List ℕ
-  pub vertices : List ℕ
+  pub holders : List ℕ
 
 abbrev pub marks : List ℕ → List ℕ → Marks
-marks b v = record { bounds = b; vertices = v }
+marks b v = record { bounds = b; holders = v }
 
 -- vertex v takes the place of its region's mark, if its bound is tighter
 unfoldable pub claim : Bool → List ℕ → (ℕ → ℕ) → ℕ → Marks → Marks
 claim upper l b v x =
-    pick (tighter upper (b v) (getD (x .bounds) (labelOf l v) 0)) (marks (set (x .bounds) (labelOf l v) (b v)) (set (x .vertices) (labelOf l v) v)) x
+    pick (tighter upper (b v) (getD (x .bounds) (labelOf l v) 0)) (marks (set (x .bounds) (labelOf l v) (b v)) (set (x .holders) (labelOf l v) v)) x
 
 -- no region has a bound at first
 unfoldable pub claimed : Bool → List ℕ → (ℕ → ℕ) → ℕ → Marks → Marks
-claimed upper l b n x = iter (claim upper l b) n (marks (mapped (λ _ _. loosest upper) n (x .bounds)) (mapped (λ _ _. 0) n (x .vertices)))
+claimed upper l b n x = iter (claim upper l b) n (marks (mapped (λ _ _. loosest upper) n (x .bounds)) (mapped (λ _ _. 0) n (x .holders)))
 
 -- the regions' bounds, where each label is a vertex
 unfoldable pub boundsOf : Bool → List ℕ → List ℕ → ℕ → ℕ → Marks → Marks

@@ -1,5 +1,6 @@
 // The walks over a graph of at most 64 vertices and 128 edges.
 mod bounds;
+pub mod limits;
 pub mod regions;
 mod search;
 pub mod weights;
