@@ -11,3 +11,4 @@ pub mod Walkable
 pub mod Labels
 pub mod Buckets
 pub mod Spots
+pub mod Region

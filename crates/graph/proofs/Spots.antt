@@ -9,12 +9,12 @@ use mathlib.Core.List.{List, [], _∷_}
 use lib.Dec.{eqb, ltb}
 use lib.ListN.{length, getD, set, length-set}
 use lib.Seq.{getD-set-same, getD-set-other}
-use borrow.Author.Tests.{eq-eqb, ne-eqb, ltb-true, ltb-false, eqb-true}
+use borrow.Author.Tests.{eq-eqb, ne-eqb, ltb-true, ltb-false, eqb-true, lt-ltb, le-ltb}
 use Rattle.base.specs.Iter.{iter, pick}
 use Rattle.base.proofs.Loop.{iter-ind, iter-done, pick-ind, eq-or-not, pick-yes, pick-no, tested}
 use Rattle.graph.specs.Lists.{mapped}
 use Rattle.graph.specs.Labels.{labelOf}
-use Rattle.graph.specs.Buckets.{Spot, spot, tighter, loosest, tightest, Marks, marks, claim, claimed}
+use Rattle.graph.specs.Buckets.{Spot, spot, tighter, loosest, tightest, Holds, Tightest, Marks, marks, claim, claimed}
 use Rattle.graph.proofs.Lists.{mapped-at, mapped-length, and-left, and-right, and-no′}
 
 -- the loop over the vertices is left
@@ -89,3 +89,46 @@ claimed-spot upper l b n a h hp low r k =
     let p = iter-ind (Claims upper l b z) (claim upper l b) z n (record { len = refl; lenH = refl; is = λ q. refl })
     (λ v x lt p. claim-step upper l b z v x (omega (arith, low v lt)) (omega (arith, low v lt)) p) in
     p .is r ∙ ap (iter (step upper l b r) n) (spot-eq (mapped-at (λ _ _. loosest upper) (a .bounds) r n h k) (mapped-at (λ _ _. 0) (a .holders) r n hp k))
+
+-- a bound that is tighter than y is tighter than one that y is as tight as
+over : (upper : Bool) (x y c : ℕ) → tighter upper x y ≡ false → tighter upper c y ≡ true → (tighter upper x c ≡ false) × (tighter upper c x ≡ true)
+unfolding tighter pick
+over true x y c e f = let h = ltb-false x y e in let k = ltb-true c y f in (le-ltb x c (omega (arith, h, k)), lt-ltb c x (omega (arith, h, k)))
+over false x y c e f = let h = ltb-false y x e in let k = ltb-true y c f in (le-ltb c x (omega (arith, h, k)), lt-ltb x c (omega (arith, h, k)))
+
+itself : (upper : Bool) (x : ℕ) → tighter upper x x ≡ false
+unfolding tighter pick
+itself true x = le-ltb x x (le-refl x)
+itself false x = le-ltb x x (le-refl x)
+
+module _ (upper : Bool) (l : List ℕ) (b : ℕ → ℕ) (r : ℕ) where
+  -- vertex k is of the region, and its bound is tighter
+  taken : (k : ℕ) (a : Spot) → labelOf l k ≡ r → tighter upper (b k) (a .bound) ≡ true → Tightest upper l b r k a → Tightest upper l b r (suc k) (spot (b k) k)
+  taken k a e t w = record {
+    tight = λ v h i. ⊎-elim (λ (x : v ≡ k). subst (λ v. tighter upper (b v) (b k) ≡ false) (sym x) (itself upper (b k)))
+        (λ (x : v ≡ k → ⊥). over upper (b v) (a .bound) (b k) (w .tight v (omega arith) i) t .0) (eq-or-not v k);
+    held = inr (record {
+      known = lt-suc-self k;
+      inside = e;
+      is = refl;
+      first = λ v h i. over upper (b v) (a .bound) (b k) (w .tight v h i) t .1;
+    });
+  }
+
+  -- vertex k is not, or its bound is not
+  kept : (k : ℕ) (a : Spot) → (labelOf l k ≡ r → tighter upper (b k) (a .bound) ≡ false) → Tightest upper l b r k a → Tightest upper l b r (suc k) a
+  kept k a e w = record {
+    tight = λ v h i. ⊎-elim (λ (x : v ≡ k). subst (λ v. labelOf l v ≡ r → tighter upper (b v) (a .bound) ≡ false) (sym x) e i)
+        (λ (x : v ≡ k → ⊥). w .tight v (omega arith) i) (eq-or-not v k);
+    held = ⊎-elim (λ x. inl x) (λ x. inr (record { known = le-step (x .known); inside = x .inside; is = x .is; first = x .first })) (w .held);
+  }
+
+  -- the bound of a region is the tightest of its vertices
+  pub tightest-is : (n : ℕ) → Tightest upper l b r n (tightest upper l b r n)
+  unfolding tightest
+  tightest-is n =
+      iter-ind (Tightest upper l b r) _ (spot (loosest upper) 0) n
+      (record { tight = λ v h. absurd (not-suc-le-zero h); held = inl refl })
+      (λ k a _ w. pick-ind (Tightest upper l b r (suc k)) _ _ _
+      (λ t. taken k a (eqb-true (labelOf l k) r (and-left (eqb (labelOf l k) r) (tighter upper (b k) (a .bound)) t)) (and-right (eqb (labelOf l k) r) (tighter upper (b k) (a .bound)) t) w)
+      (λ t. kept k a (λ i. sym (and-same (eqb (labelOf l k) r) (tighter upper (b k) (a .bound)) (eq-eqb (labelOf l k) r i)) ∙ t) w))

@@ -1,6 +1,8 @@
 -- What each region has, in one pass over the vertices: its weight (document 01: heads), and its tightest bounds with a vertex that has them.
 -- A number of vertex v is word first + v of a list that was lent.
-use Prim.Native.Nat.{ℕ, _+_}
+use Prim.Native.Nat.{ℕ, _+_, _<_}
+use mathlib.Core.Path.{_≡_}
+use mathlib.Core.Logic.{_⊎_}
 use mathlib.Core.Bool.{Bool, true, false, _&&_}
 use mathlib.Core.List.{List}
 use lib.Dec.{eqb, ltb}
@@ -57,6 +59,18 @@ loosest upper = pick upper 2147483647 0
 -- the tightest bound of the vertices with label r, and the first vertex that has it
 unfoldable pub tightest : Bool → List ℕ → (ℕ → ℕ) → ℕ → ℕ → Spot
 tightest upper l b r n = iter (λ v a. pick (eqb (labelOf l v) r && tighter upper (b v) (a .bound)) (spot (b v) v) a) n (spot (loosest upper) 0)
+
+-- the vertex of the spot has the bound and is of the region, and the bounds of those before it are looser
+pub record Holds (upper : Bool) (l : List ℕ) (b : ℕ → ℕ) (r n : ℕ) (a : Spot) : Type 0 where
+  pub known : a .vertex < n
+  pub inside : labelOf l (a .vertex) ≡ r
+  pub is : b (a .vertex) ≡ a .bound
+  pub first : (v : ℕ) → v < a .vertex → labelOf l v ≡ r → tighter upper (a .bound) (b v) ≡ true
+
+-- what `tightest` is: no vertex of the region has a tighter bound, and if there is one at all its vertex is the first that has it
+pub record Tightest (upper : Bool) (l : List ℕ) (b : ℕ → ℕ) (r n : ℕ) (a : Spot) : Type 0 where
+  pub tight : (v : ℕ) → v < n → labelOf l v ≡ r → tighter upper (b v) (a .bound) ≡ false
+  pub held : (a .bound ≡ loosest upper) ⊎ Holds upper l b r n a
 
 -- the bounds of all regions, and the vertices that have them
 pub record Marks : Type 0 where
