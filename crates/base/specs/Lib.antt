@@ -1,1 +1,3 @@
 pub mod Iter
+pub mod Lists
+pub mod Range

@@ -1,0 +1,24 @@
+// Range tests on numbers from outside, shared by every reader of them. The definitions of loops stand in specs/.
+ghost use mathlib.Core.Path.{_≡_};
+ghost use lib.Signed.{ltZ, leZ};
+ghost use Rattle.base.specs.Range.{inRange, toNat};
+
+// Whether n lies from 0 to `most`.
+pub fn in_range(n: i32, most: i32) -> bool
+    ensures { λ r. ⌜ r ≡ inRange most n ⌝ }
+{
+    if n < 0 {
+        return false;
+    }
+    n <= most
+}
+
+// n itself, and 0 for a negative number.
+pub fn to_nat(n: i32) -> u32
+    ensures { λ r. ⌜ r ≡ toNat n ⌝ }
+{
+    if n < 0 {
+        return 0;
+    }
+    n as u32
+}

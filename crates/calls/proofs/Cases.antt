@@ -1,0 +1,118 @@
+-- Document 01's cases, its table of refusals and some points that it leaves to be read closely, whole: lines and answers.
+use Prim.Native.Nat.{ℕ}
+use mathlib.Core.Path.{_≡_, refl}
+use mathlib.Core.Bool.{true, false}
+use mathlib.Core.List.{List, [], _∷_}
+use Rattle.division.specs.Plan.{Plan}
+use Rattle.division.proofs.Cases.{planWith, plan, planG}
+use Rattle.calls.specs.Lines.{value, init, told, only, back, why, last, output}
+use Rattle.calls.proofs.Computes.{answers}
+
+planB : List ℕ → Plan
+planB ds = plan 1 0 [] [] (3 ∷ []) (ds ∷ []) []
+
+planD : Plan
+planD = plan 1 1 ((0 ∷ 0 ∷ []) ∷ []) (0 ∷ []) (1 ∷ []) [] []
+
+planE : Plan
+planE = plan 2 2 ((0 ∷ 1 ∷ []) ∷ (0 ∷ 1 ∷ []) ∷ []) (0 ∷ 2 ∷ []) (1 ∷ 1 ∷ []) [] []
+
+planH : Plan
+planH = plan 2 1 ((0 ∷ 1 ∷ []) ∷ []) (0 ∷ []) (2 ∷ 3 ∷ []) ((2 ∷ []) ∷ (4 ∷ []) ∷ []) []
+
+-- two vertices of fixed size 0 and a third one; the option that keeps regions of one size apart is on
+planS : Plan
+planS = planWith true false 3 2 ((2 ∷ 0 ∷ []) ∷ (2 ∷ 1 ∷ []) ∷ []) (0 ∷ 2 ∷ []) (0 ∷ 0 ∷ 1 ∷ []) ((0 ∷ []) ∷ (0 ∷ []) ∷ []) []
+
+caseG : output planG (init ∷ told 0 ∷ told 4 ∷ last ∷ back 4 ∷ back 0 ∷ told 5 ∷ why 0 ∷ []) ≡
+    (0 ∷ []) ∷ (0 ∷ []) ∷ (1 ∷ []) ∷ (3 ∷ 4 ∷ 0 ∷ []) ∷ (0 ∷ []) ∷ (0 ∷ []) ∷ (0 ∷ 0 ∷ 2 ∷ []) ∷ (3 ∷ 5 ∷ []) ∷ []
+unfolding planWith plan planG answers
+caseG = refl
+
+table : List (List (List ℕ))
+table =
+    -- A, B, C, C2
+    output (plan 0 0 [] [] [] [] []) (init ∷ []) ∷
+    output (planB (2 ∷ [])) (init ∷ last ∷ []) ∷
+    output (planB (4 ∷ [])) (init ∷ last ∷ []) ∷
+    output (planB (3 ∷ [])) (init ∷ []) ∷
+    -- D, D2
+    output planD (told 0 ∷ last ∷ []) ∷
+    output planD (init ∷ why 1 ∷ []) ∷
+    -- E with refusal 16, E2, F
+    output planE (told 1 ∷ why 3 ∷ back 1 ∷ why 3 ∷ []) ∷
+    output planE (told 0 ∷ why 2 ∷ []) ∷
+    output planE (value 1 1 ∷ told 1 ∷ last ∷ []) ∷
+    -- H
+    output planH (init ∷ last ∷ []) ∷
+    []
+
+cases : table ≡
+    ((0 ∷ []) ∷ []) ∷
+    ((1 ∷ []) ∷ (3 ∷ []) ∷ []) ∷
+    ((1 ∷ []) ∷ (3 ∷ []) ∷ []) ∷
+    ((0 ∷ []) ∷ []) ∷
+    ((1 ∷ []) ∷ (3 ∷ 0 ∷ []) ∷ []) ∷
+    ((0 ∷ []) ∷ (3 ∷ []) ∷ []) ∷
+    ((0 ∷ 3 ∷ []) ∷ (3 ∷ 1 ∷ []) ∷ (0 ∷ []) ∷ (4 ∷ 16 ∷ []) ∷ []) ∷
+    ((0 ∷ 2 ∷ []) ∷ (3 ∷ 0 ∷ []) ∷ []) ∷
+    ((1 ∷ []) ∷ (3 ∷ 1 ∷ 2 ∷ []) ∷ []) ∷
+    ((1 ∷ []) ∷ (3 ∷ []) ∷ []) ∷
+    []
+unfolding table planB planD planE planH planWith plan planG answers
+cases = refl
+
+refusals : List (List (List ℕ))
+refusals =
+    -- 7, 8, 9, 10, 11
+    output planG (value 0 5 ∷ init ∷ []) ∷
+    output planG (init ∷ init ∷ []) ∷
+    output planG (told 8 ∷ back 8 ∷ why 8 ∷ []) ∷
+    output planG (told 4 ∷ told 5 ∷ []) ∷
+    output planG (told 0 ∷ told 4 ∷ back 0 ∷ []) ∷
+    -- 12
+    output (plan 1 0 [] [] (4 ∷ []) ((2 ∷ 4 ∷ 6 ∷ []) ∷ []) ((0 ∷ 2 ∷ []) ∷ [])) (only 2 ∷ told 1 ∷ []) ∷
+    -- 13
+    output planS (init ∷ []) ∷
+    -- 14
+    output planE (value 0 2 ∷ value 1 1 ∷ init ∷ []) ∷
+    -- 15
+    output planG (init ∷ why 4 ∷ []) ∷
+    []
+
+refusals-shown : refusals ≡
+    ((4 ∷ 7 ∷ []) ∷ []) ∷
+    ((0 ∷ []) ∷ (4 ∷ 8 ∷ []) ∷ []) ∷
+    ((4 ∷ 9 ∷ []) ∷ (4 ∷ 9 ∷ []) ∷ (4 ∷ 9 ∷ []) ∷ []) ∷
+    ((0 ∷ 1 ∷ 3 ∷ []) ∷ (4 ∷ 10 ∷ []) ∷ []) ∷
+    ((0 ∷ []) ∷ (1 ∷ []) ∷ (4 ∷ 11 ∷ []) ∷ []) ∷
+    ((2 ∷ []) ∷ (4 ∷ 12 ∷ []) ∷ []) ∷
+    ((4 ∷ 13 ∷ []) ∷ []) ∷
+    ((4 ∷ 14 ∷ []) ∷ []) ∷
+    ((0 ∷ []) ∷ (4 ∷ 15 ∷ []) ∷ []) ∷
+    []
+unfolding refusals planE planS planWith plan planG answers
+refusals-shown = refl
+
+points : List (List (List ℕ))
+points =
+    -- crossed bounds in initialize's last pass
+    output (plan 1 0 [] [] (4 ∷ []) ((2 ∷ 4 ∷ 6 ∷ []) ∷ []) ((0 ∷ 2 ∷ []) ∷ [])) (only 2 ∷ only 1 ∷ value 0 0 ∷ value 1 0 ∷ init ∷ []) ∷
+    -- a consistent initialize that notified nothing leaves the last list
+    output (plan 1 1 ((0 ∷ 0 ∷ []) ∷ []) (0 ∷ []) (0 ∷ []) [] []) (told 0 ∷ back 0 ∷ init ∷ last ∷ []) ∷
+    -- the lowest matching edge decides answers
+    output (plan 2 3 ((0 ∷ 1 ∷ []) ∷ (0 ∷ 1 ∷ []) ∷ (0 ∷ 1 ∷ []) ∷ []) (0 ∷ 2 ∷ 4 ∷ []) (1 ∷ 1 ∷ []) [] []) (value 0 1 ∷ value 2 2 ∷ only 0 ∷ told 2 ∷ []) ∷
+    output (plan 3 4 ((2 ∷ 1 ∷ []) ∷ (0 ∷ 1 ∷ []) ∷ (0 ∷ 1 ∷ []) ∷ (0 ∷ 2 ∷ []) ∷ []) (0 ∷ 2 ∷ 4 ∷ 6 ∷ []) (1 ∷ 1 ∷ 1 ∷ []) [] []) (only 0 ∷ only 2 ∷ told 7 ∷ back 7 ∷ why 4 ∷ []) ∷
+    -- a reason fetched after an undo
+    output (plan 2 1 ((0 ∷ 1 ∷ []) ∷ []) (2 ∷ []) (1 ∷ 1 ∷ []) ((1 ∷ 2 ∷ []) ∷ []) ((0 ∷ []) ∷ [])) (told 3 ∷ back 3 ∷ why 0 ∷ []) ∷
+    []
+
+points-shown : points ≡
+    ((2 ∷ []) ∷ (2 ∷ []) ∷ (4 ∷ 12 ∷ []) ∷ []) ∷
+    ((1 ∷ []) ∷ (0 ∷ []) ∷ (0 ∷ []) ∷ (3 ∷ 0 ∷ []) ∷ []) ∷
+    ((2 ∷ []) ∷ (4 ∷ 14 ∷ []) ∷ []) ∷
+    ((2 ∷ []) ∷ (2 ∷ []) ∷ (0 ∷ 4 ∷ []) ∷ (0 ∷ []) ∷ (4 ∷ 16 ∷ []) ∷ []) ∷
+    ((0 ∷ 0 ∷ []) ∷ (0 ∷ []) ∷ (3 ∷ []) ∷ []) ∷
+    []
+unfolding points planWith plan planG answers
+points-shown = refl

@@ -1,0 +1,13 @@
+pub mod View
+pub mod Looks
+pub mod Stands
+pub mod Recent
+pub mod Claim
+pub mod Fetchable
+pub mod Order
+pub mod Room
+pub mod Marks
+pub mod Count
+pub mod Store
+pub mod Computes
+pub mod Cases

@@ -1,0 +1,183 @@
+-- The calls, on a world that holds what stands, what is recorded, the list last left, and whether an initialize was consistent.
+use Prim.Native.Nat.{ℕ}
+use mathlib.Core.Bool.{Bool, true, false, not, _||_}
+use mathlib.Core.List.{List, [], _∷_, _++_}
+use lib.Dec.{eqb}
+use Rattle.base.specs.Iter.{pick}
+use Rattle.sat.specs.Literal.{negate}
+use Rattle.division.specs.Plan.{Plan}
+use Rattle.division.specs.Reasons.{Reason}
+use Rattle.division.specs.Conflicts.{conflictList}
+use Rattle.division.specs.Analysis.{Verdict, going, conflict, crossed, zeroSize, Proposal, Out}
+use Rattle.division.specs.Noting.{noteAll}
+use Rattle.division.specs.Runs.{analysis, fetched, reasonOf}
+use Rattle.calls.specs.Table.{knows, entered, badTable, has}
+use Rattle.calls.specs.Look.{Judgement, fine, clash, stopped, Looked, looked, gone}
+
+pub record World : Type 0 where
+  -- the newest first
+  pub standing : List ℕ
+  pub reasons : List Proposal
+  -- the list last left
+  pub last : List ℕ
+  pub done : Bool
+
+unfoldable pub built : World
+built = record { standing = []; reasons = []; last = []; done = false }
+
+-- room: all other buffers that the call is lent pass refusal 7's tests
+pub data Call : Type 0 where
+  initialize : (room : Bool) (table : List ℕ) → Call
+  propagate : (room : Bool) (table : List ℕ) (l : ℕ) (pending : Bool) → Call
+  undo : (room : Bool) (l : ℕ) → Call
+  calcReason : (room : Bool) (l : ℕ) → Call
+  calcLast : (room : Bool) → Call
+
+pub data Answer : Type 0 where
+  consistent : Answer
+  conflicting : Answer
+  noted : Answer
+  undone : Answer
+  refused : (n : ℕ) → Answer
+  reason : (ls : List ℕ) → Answer
+
+unfoldable pub accepted : Answer → Bool
+accepted consistent = true
+accepted conflicting = true
+accepted noted = true
+accepted undone = true
+accepted (refused n) = false
+accepted (reason ls) = true
+
+-- the table that a call is lent; one that is lent none has the empty one
+unfoldable pub tableOf : Call → List ℕ
+tableOf (initialize room t) = t
+tableOf (propagate room t l pending) = t
+tableOf (undo room l) = []
+tableOf (calcReason room l) = []
+tableOf (calcLast room) = []
+
+pub record Outcome : Type 0 where
+  pub answer : Answer
+  pub world : World
+  pub table : List ℕ
+  pub handed : List ℕ
+
+unfoldable pub refuse : ℕ → World → List ℕ → Outcome
+refuse n w t = record { answer = refused n; world = w; table = t; handed = [] }
+
+-- l stands, or its negation
+unfoldable pub taken : World → ℕ → Bool
+taken w l = has (w .standing) l || has (w .standing) (negate l)
+
+-- the world after a notification that was analyzed
+unfoldable pub noting : World → ℕ → Looked → World
+noting w l o = record { standing = l ∷ w .standing; reasons = o .records ++ w .reasons; last = o .left; done = w .done }
+
+-- and after one that was only noted
+unfoldable pub adding : World → ℕ → World
+adding w l = record { standing = l ∷ w .standing; reasons = w .reasons; last = w .last; done = w .done }
+
+unfoldable pub settledBy : World → List ℕ → ℕ → Looked → Judgement → Outcome
+settledBy w t l o fine = record { answer = consistent; world = noting w l o; table = o .table; handed = o .handed }
+settledBy w t l o clash = record { answer = conflicting; world = noting w l o; table = o .table; handed = o .handed }
+settledBy w t l o (stopped n) = refuse n w t
+
+unfoldable pub settled : Plan → World → List ℕ → ℕ → Outcome
+settled d w t l = settledBy w t l (looked d (l ∷ w .standing) t) (looked d (l ∷ w .standing) t .judgement)
+
+unfoldable pub onPropagate : Plan → World → Bool → List ℕ → ℕ → Bool → Outcome
+onPropagate d w room t l pending =
+    pick (not room || badTable d t) (refuse 7 w t)
+    (pick (not (knows d l)) (refuse 9 w t)
+    (pick (taken w l) (refuse 10 w t)
+    (pick pending (record { answer = noted; world = adding w l; table = t; handed = [] }) (settled d w t l))))
+
+unfoldable pub takeBack : World → ℕ → List ℕ → Outcome
+takeBack w l [] = refuse 11 w []
+takeBack w l (x ∷ xs) = pick (eqb x l) (record { answer = undone; world = record { standing = xs; reasons = w .reasons; last = w .last; done = w .done }; table = []; handed = [] }) (refuse 11 w [])
+
+unfoldable pub onUndo : Plan → World → Bool → ℕ → Outcome
+onUndo d w room l = pick (not room) (refuse 7 w []) (pick (not (knows d l)) (refuse 9 w []) (takeBack w l (w .standing)))
+
+unfoldable pub give : World → List ℕ → Outcome
+give w ls = record { answer = reason ls; world = w; table = []; handed = [] }
+
+unfoldable pub giveReason : Plan → World → List Reason → Outcome
+giveReason d w [] = refuse 15 w []
+giveReason d w (r ∷ rs) = pick (gone d (noteAll d (w .standing)) r) (refuse 16 w []) (give w (fetched d (w .standing) r))
+
+unfoldable pub onCalcReason : Plan → World → Bool → ℕ → Outcome
+onCalcReason d w room l = pick (not room) (refuse 7 w []) (pick (not (knows d l)) (refuse 9 w []) (giveReason d w (reasonOf l (w .reasons))))
+
+unfoldable pub onCalcLast : World → Bool → Outcome
+onCalcLast w room = pick (not room) (refuse 7 w []) (give w (w .last))
+
+-- initialize on its way
+pub record Going : Type 0 where
+  pub judgement : Judgement
+  pub world : World
+  pub table : List ℕ
+  pub handed : List ℕ
+
+unfoldable pub joinBy : Going → ℕ → Looked → Judgement → Going
+joinBy a l o fine = record { judgement = fine; world = noting (a .world) l o; table = o .table; handed = a .handed ++ o .handed }
+joinBy a l o clash = record { judgement = clash; world = noting (a .world) l o; table = o .table; handed = a .handed ++ o .handed }
+joinBy a l o (stopped n) = record { judgement = stopped n; world = a .world; table = a .table; handed = a .handed }
+
+-- one notification more, unless there was a conflict or a refusal
+unfoldable pub oneBy : Plan → ℕ → Going → Judgement → Going
+oneBy d l a fine =
+    pick (taken (a .world) l) (record { judgement = stopped 10; world = a .world; table = a .table; handed = a .handed })
+    (joinBy a l (looked d (l ∷ a .world .standing) (a .table)) (looked d (l ∷ a .world .standing) (a .table) .judgement))
+oneBy d l a clash = a
+oneBy d l a (stopped n) = a
+
+unfoldable pub propagateAll : Plan → List ℕ → Going → Going
+propagateAll d [] a = a
+propagateAll d (l ∷ ls) a = propagateAll d ls (oneBy d l a (a .judgement))
+
+-- the last pass, whose records are kept and not handed on
+unfoldable pub lastBy : Plan → World → List ℕ → Going → Out → Verdict → Outcome
+lastBy d w t a o going = record {
+  answer = consistent;
+  world = record { standing = a .world .standing; reasons = o .props ++ a .world .reasons; last = a .world .last; done = true };
+  table = a .table;
+  handed = a .handed;
+}
+lastBy d w t a o (conflict c) = record {
+  answer = conflicting;
+  world = record { standing = a .world .standing; reasons = o .props ++ a .world .reasons; last = conflictList d (noteAll d (a .world .standing)) c; done = a .world .done };
+  table = a .table;
+  handed = a .handed;
+}
+lastBy d w t a o crossed = refuse 12 w t
+lastBy d w t a o zeroSize = refuse 13 w t
+
+unfoldable pub finishBy : Plan → World → List ℕ → Going → Judgement → Outcome
+finishBy d w t a fine = lastBy d w t a (analysis d (a .world .standing)) (analysis d (a .world .standing) .verdict)
+finishBy d w t a clash = record { answer = conflicting; world = a .world; table = a .table; handed = a .handed }
+finishBy d w t a (stopped n) = refuse n w t
+
+unfoldable pub entry : World → List ℕ → Going
+entry w t = record { judgement = fine; world = w; table = t; handed = [] }
+
+unfoldable pub onInitialize : Plan → World → Bool → List ℕ → Outcome
+onInitialize d w room t =
+    let a = propagateAll d (entered d t) (entry w t) in
+    pick (not room || badTable d t) (refuse 7 w t) (pick (w .done) (refuse 8 w t) (finishBy d w t a (a .judgement)))
+
+unfoldable pub call : Plan → Call → World → Outcome
+call d (initialize room t) w = onInitialize d w room t
+call d (propagate room t l pending) w = onPropagate d w room t l pending
+call d (undo room l) w = onUndo d w room l
+call d (calcReason room l) w = onCalcReason d w room l
+call d (calcLast room) w = onCalcLast w room
+
+-- the calls in their order
+unfoldable pub after : Plan → World → List Call → World
+after d w [] = w
+after d w (c ∷ cs) = after d (call d c w .world) cs
+
+unfoldable pub run : Plan → List Call → World
+run d cs = after d built cs

@@ -1,0 +1,11 @@
+pub mod Plan
+pub mod Division
+pub mod Regions
+pub mod State
+pub mod Noting
+pub mod Reasons
+pub mod Conflicts
+pub mod Analysis
+pub mod Views
+pub mod Buckets
+pub mod Runs

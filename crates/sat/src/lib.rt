@@ -1,0 +1,94 @@
+// Variables and literals: `Var` and `Lit` of sat.rs. Variable v gives literal 2v, and 2v + 1 for its negation.
+ghost use mathlib.Core.Path.{_≡_};
+ghost use Rattle.sat.specs.Literal.{literal, variable, isNegated, negate, litOf, varOf};
+
+pub struct Var(pub u16);
+
+pub struct Lit(pub u16);
+
+// A variable that may be missing.
+pub enum OptVar {
+    Some(Var),
+    Nothing,
+}
+
+// A literal that may be missing: `Option<Lit>` of the Rust.
+pub enum OptLit {
+    Some(Lit),
+    Nothing,
+}
+
+fn signed(var: u16, negated: bool) -> u16
+    ensures { λ r. ⌜ r ≡ literal var negated ⌝ }
+{
+    let positive = 2 * (var % 32768);
+    if negated {
+        return positive + 1;
+    }
+    positive
+}
+
+impl Var {
+    // How many variables there are.
+    pub const COUNT: u16 = 4096;
+
+    pub fn as_lit(self, negated: bool) -> Lit
+        ensures { λ r. ⌜ r .0 ≡ literal (self .0) negated ⌝ }
+    {
+        Lit(signed(self.0, negated))
+    }
+
+    // The variable that a number from outside stands for.
+    pub fn from_i32(n: i32) -> OptVar
+        ensures { λ r. ⌜ r ≡ varOf n ⌝ }
+    {
+        if base::in_range(n, 4095) {
+            return OptVar::Some(Var(base::to_nat(n) as u16));
+        }
+        OptVar::Nothing
+    }
+}
+
+impl Lit {
+    // The largest literal.
+    pub const MAX: u16 = 8191;
+
+    pub fn new(var: Var, negated: bool) -> Lit
+        ensures { λ r. ⌜ r .0 ≡ literal (var .0) negated ⌝ }
+    {
+        Lit(signed(var.0, negated))
+    }
+
+    pub fn var(self) -> Var
+        ensures { λ r. ⌜ r .0 ≡ variable (self .0) ⌝ }
+    {
+        Var(self.0 / 2)
+    }
+
+    pub fn is_negated(self) -> bool
+        ensures { λ r. ⌜ r ≡ isNegated (self .0) ⌝ }
+    {
+        self.0 % 2 == 1
+    }
+
+    // `!lit` of the Rust.
+    pub fn negation(self) -> Lit
+        ensures { λ r. ⌜ r .0 ≡ negate (self .0) ⌝ }
+    {
+        let l = self.0;
+        if l % 2 == 0 {
+            return Lit(l + 1);
+        }
+        Lit(l - 1)
+    }
+
+    // The literal that a number from outside stands for.
+    pub fn from_i32(n: i32) -> OptLit
+        ensures { λ r. ⌜ r ≡ litOf n ⌝ }
+    {
+        if base::in_range(n, 8191) {
+            return OptLit::Some(Lit(base::to_nat(n) as u16));
+        }
+        OptLit::Nothing
+    }
+}
