@@ -12,10 +12,11 @@ use lib.Seq.{getD-set-same, getD-set-other}
 use borrow.Author.Tests.{eq-eqb, ne-eqb, ltb-true, ltb-false, eqb-true}
 use Rattle.base.specs.Iter.{iter, pick}
 use Rattle.base.proofs.Loop.{iter-ind, iter-done, pick-ind, eq-or-not, pick-yes, pick-no, tested}
-use Rattle.graph.specs.Lists.{put, mapped, every, total}
+use Rattle.graph.specs.Lists.{put, mapped, every}
+use Rattle.base.specs.Lists.{total}
 use Rattle.graph.specs.Labels.{labelOf}
 use Rattle.graph.specs.Buckets.{numberOf, labelsBelow, weightOf, pour, poured, weighable, weighed, Spot, spot, tighter, loosest, tightest, Marks, marks, claim, claimed, boundsOf}
-use Rattle.graph.proofs.Lists.{mapped-at, mapped-past, mapped-length, every-at, and-left, and-right, and-both, and-no, and-no′}
+use Rattle.graph.proofs.Lists.{mapped-at, mapped-past, mapped-length, every-at, and-both, and-no, and-no′}
 use Rattle.graph.proofs.Mark.{set-keeps}
 use Rattle.graph.proofs.Walkable.{pick-false}
 

@@ -1,11 +1,11 @@
--- Loops over the first entries of a list, and sums.
+-- Loops over the first entries of a list.
 use Prim.Native.Nat.{ℕ, zero, suc, _+_, _<_, _≤_, zero-le}
 use native.Mathlib.Nat.{not-suc-le-zero, le-step, lt-suc-self, le-antisymm}
 use native.Mathlib.Numerals.{add-one}
 use native.Mathlib.Omega.{arith}
 use mathlib.Core.Path.{_≡_, refl, sym, _∙_, ap, ap₂, subst}
 use mathlib.Core.Logic.{_⊎_, inl, inr, ⊎-elim}
-use mathlib.Core.Bool.{Bool, true, false, _&&_}
+use mathlib.Core.Bool.{Bool, true, false, _&&_, true≢false}
 use mathlib.Core.List.{List, [], _∷_}
 use lib.Dec.{ltb}
 use lib.ListN.{length, getD, set, length-set}
@@ -13,16 +13,8 @@ use borrow.Author.Tests.{lt-ltb, le-ltb}
 use lib.Seq.{getD-set-same, getD-set-other}
 use Rattle.base.specs.Iter.{iter, pick}
 use Rattle.base.proofs.Loop.{iter-ind, eq-or-not, tested, pick-yes, pick-no}
-use Rattle.graph.specs.Lists.{put, mapped, every, total}
-
-pub and-left : (a b : Bool) → (a && b) ≡ true → a ≡ true
-and-left true b e = refl
-and-left false b e = e
-
-pub and-right : (a b : Bool) → (a && b) ≡ true → b ≡ true
-and-right true true e = refl
-and-right true false e = e
-and-right false b e = absurd (mathlib.Core.Bool.false≢true e)
+use Rattle.graph.specs.Lists.{put, mapped, every}
+use Rattle.base.proofs.Tests.{and-left, and-right}
 
 pub and-both : (a b : Bool) → a ≡ true → b ≡ true → (a && b) ≡ true
 and-both true true p q = refl
@@ -34,7 +26,7 @@ and-no true b e = e
 and-no false b e = refl
 
 pub and-no′ : (a b : Bool) → a ≡ false → (a && b) ≡ false
-and-no′ true b e = absurd (mathlib.Core.Bool.true≢false e)
+and-no′ true b e = absurd (true≢false e)
 and-no′ false b e = refl
 
 -- the lists of a loop over the first entries, at place i

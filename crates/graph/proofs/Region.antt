@@ -10,7 +10,7 @@ use lib.Dec.{eqb}
 use lib.ListN.{length, getD}
 use borrow.Author.Tests.{eqb-true, eq-eqb}
 use Rattle.base.specs.Iter.{pick}
-use Rattle.graph.specs.Lists.{total}
+use Rattle.base.specs.Lists.{total}
 use Rattle.graph.specs.Search.{Graph, reachedYet, searched}
 use Rattle.graph.specs.Bounds.{Fine}
 use Rattle.graph.specs.Paths.{Joined, Found}

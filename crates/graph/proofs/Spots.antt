@@ -14,8 +14,9 @@ use Rattle.base.specs.Iter.{iter, pick}
 use Rattle.base.proofs.Loop.{iter-ind, iter-done, pick-ind, eq-or-not, pick-yes, pick-no, tested}
 use Rattle.graph.specs.Lists.{mapped}
 use Rattle.graph.specs.Labels.{labelOf}
-use Rattle.graph.specs.Buckets.{Spot, spot, tighter, loosest, tightest, Holds, Tightest, Marks, marks, claim, claimed}
-use Rattle.graph.proofs.Lists.{mapped-at, mapped-length, and-left, and-right, and-no′}
+use Rattle.graph.specs.Buckets.{Spot, spot, tighter, loosest, tightest, Holds, Tightest, leastIn, mostIn, Marks, marks, claim, claimed}
+use Rattle.graph.proofs.Lists.{mapped-at, mapped-length, and-no′}
+use Rattle.base.proofs.Tests.{and-left, and-right}
 
 -- the loop over the vertices is left
 pub claimed-done : (upper : Bool) (l : List ℕ) (b : ℕ → ℕ) (n v t : ℕ) (a : Marks) (b₀ h₀ : List ℕ) (x : Marks) → t ≡ loosest upper → b₀ ≡ mapped (λ _ _. t) n (a .bounds) →
@@ -132,3 +133,11 @@ module _ (upper : Bool) (l : List ℕ) (b : ℕ → ℕ) (r : ℕ) where
       (λ k a _ w. pick-ind (Tightest upper l b r (suc k)) _ _ _
       (λ t. taken k a (eqb-true (labelOf l k) r (and-left (eqb (labelOf l k) r) (tighter upper (b k) (a .bound)) t)) (and-right (eqb (labelOf l k) r) (tighter upper (b k) (a .bound)) t) w)
       (λ t. kept k a (λ i. sym (and-same (eqb (labelOf l k) r) (tighter upper (b k) (a .bound)) (eq-eqb (labelOf l k) r i)) ∙ t) w))
+
+pub tightest-least : (l : List ℕ) (b : ℕ → ℕ) (r n : ℕ) → tightest true l b r n ≡ leastIn (labelOf l) b r n
+unfolding tightest leastIn tighter loosest pick
+tightest-least l b r n = refl
+
+pub tightest-most : (l : List ℕ) (b : ℕ → ℕ) (r n : ℕ) → tightest false l b r n ≡ mostIn (labelOf l) b r n
+unfolding tightest mostIn tighter loosest pick
+tightest-most l b r n = refl

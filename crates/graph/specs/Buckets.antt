@@ -8,7 +8,8 @@ use mathlib.Core.List.{List}
 use lib.Dec.{eqb, ltb}
 use lib.ListN.{length, getD, set}
 use Rattle.base.specs.Iter.{iter, pick}
-use Rattle.graph.specs.Lists.{mapped, every, total}
+use Rattle.base.specs.Lists.{total}
+use Rattle.graph.specs.Lists.{mapped, every}
 use Rattle.graph.specs.Labels.{labelOf}
 
 -- the number of vertex v
@@ -59,6 +60,13 @@ loosest upper = pick upper 2147483647 0
 -- the tightest bound of the vertices with label r, and the first vertex that has it
 unfoldable pub tightest : Bool → List ℕ → (ℕ → ℕ) → ℕ → ℕ → Spot
 tightest upper l b r n = iter (λ v a. pick (eqb (labelOf l v) r && tighter upper (b v) (a .bound)) (spot (b v) v) a) n (spot (loosest upper) 0)
+
+-- the same by name, for upper and for lower bounds
+unfoldable pub leastIn : (ℕ → ℕ) → (ℕ → ℕ) → ℕ → ℕ → Spot
+leastIn id b r n = iter (λ i a. pick (eqb (id i) r && ltb (b i) (a .bound)) (spot (b i) i) a) n (spot 2147483647 0)
+
+unfoldable pub mostIn : (ℕ → ℕ) → (ℕ → ℕ) → ℕ → ℕ → Spot
+mostIn id b r n = iter (λ i a. pick (eqb (id i) r && ltb (a .bound) (b i)) (spot (b i) i) a) n (spot 0 0)
 
 -- the vertex of the spot has the bound and is of the region, and the bounds of those before it are looser
 pub record Holds (upper : Bool) (l : List ℕ) (b : ℕ → ℕ) (r n : ℕ) (a : Spot) : Type 0 where
