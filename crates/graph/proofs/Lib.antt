@@ -12,3 +12,5 @@ pub mod Labels
 pub mod Buckets
 pub mod Spots
 pub mod Region
+pub mod Written
+pub mod Walk

@@ -4,3 +4,5 @@ pub mod Bounds
 pub mod Paths
 pub mod Labels
 pub mod Buckets
+pub mod Written
+pub mod Walk

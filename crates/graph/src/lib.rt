@@ -3,4 +3,5 @@ mod bounds;
 pub mod limits;
 pub mod regions;
 mod search;
+pub mod walks;
 pub mod weights;
