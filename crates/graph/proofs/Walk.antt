@@ -4,7 +4,7 @@ use native.Mathlib.Nat.{not-suc-le-zero, le-antisymm}
 use native.Mathlib.Numerals.{add-one}
 use native.Mathlib.Omega.{arith}
 use mathlib.Core.Path.{_≡_, refl, sym, _∙_, ap, ap₂, subst}
-use mathlib.Core.Bool.{Bool, true, false, not, _&&_, _||_}
+use mathlib.Core.Bool.{Bool, true, false, not, _&&_, _||_, true≢false, false≢true}
 use mathlib.Core.List.{List, [], _∷_, _++_, map}
 use lib.Dec.{eqb}
 use lib.ListN.{length, getD}
@@ -16,8 +16,8 @@ use Rattle.sat.specs.Literal.{negate}
 use Rattle.graph.specs.Search.{Scan, scanOf, Graph, endA, endB, at, parentOf, edgeTo, reachedYet}
 use Rattle.graph.specs.Paths.{climb}
 use Rattle.graph.specs.Written.{Out, outOf, pushed, written}
-use Rattle.graph.specs.Walk.{pathBack, treeList, leaves, wallsOf, borderList, orderList}
-use Rattle.graph.proofs.Written.{pushed-length, written-collect, written-tab}
+use Rattle.graph.specs.Walk.{pathBack, treeList, leadsOut, leaves, wallAt, wallsOf, sideAt, borderList, orderList}
+use Rattle.graph.proofs.Written.{pushed-length, written-length, written-collect, written-tab}
 
 pub step-length : (x : ℕ) (o p : Out) → p ≡ pushed x o → length (p .text) ≡ length (o .text)
 step-length x o p e = ap (λ (y : Out). length (y .text)) e ∙ pushed-length x o
@@ -70,3 +70,47 @@ tree-done lits s i last o o′ z e h k =
     less : (n : ℕ) → n - 1 ≡ pred n
     less zero = refl
     less (suc n) = omega arith
+
+-- the loop over a vertex's edges, the loop over the vertices, and the loop over the order are left
+pub walls-done : (lits : ℕ → ℕ) (e : Graph) (edges : ℕ) (seen : ℕ → Bool) (p k : ℕ) (o o′ : Out) → o′ ≡ iter (wallAt lits e seen p) k o → k ≤ edges → edges ≤ k → o′ ≡ written (wallsOf lits e edges seen p) o
+unfolding wallAt wallsOf
+walls-done lits e edges seen p k o o′ h i j = iter-done _ _ _ _ _ h i j ∙ written-collect (λ g. pick (leaves e seen p g) (lits g ∷ []) []) edges o
+
+pub border-done : (lits : ℕ → ℕ) (e : Graph) (edges vertices : ℕ) (seen : ℕ → Bool) (k : ℕ) (o o′ : Out) → o′ ≡ iter (sideAt lits e edges seen) k o → k ≤ vertices → vertices ≤ k →
+    o′ ≡ written (borderList lits e edges vertices seen) o
+unfolding sideAt borderList
+border-done lits e edges vertices seen k o o′ h i j = iter-done _ _ _ _ _ h i j ∙ written-collect (λ p. pick (seen p) (wallsOf lits e edges seen p) []) vertices o
+
+pub order-done : (s : Scan) (k : ℕ) (o o′ : Out) → o′ ≡ iter (λ i x. pushed (at s i) x) k o → k ≤ s .count → s .count ≤ k → o′ ≡ written (orderList s) o
+unfolding orderList
+order-done s k o o′ h i j = iter-done _ _ _ _ _ h i j ∙ written-tab (at s) (s .count) o
+
+-- a choice of what to write
+pub written-yes : (b : Bool) (l : List ℕ) (o o′ : Out) → b ≡ true → o′ ≡ written l o → o′ ≡ written (pick b l []) o
+unfolding pick
+written-yes true l o o′ e h = h
+written-yes false l o o′ e h = absurd (false≢true e)
+
+pub written-no : (b : Bool) (l : List ℕ) (o : Out) → b ≡ false → o ≡ written (pick b l []) o
+unfolding pick written
+written-no true l o e = absurd (true≢false e)
+written-no false l o e = refl
+
+pub pushed-as : (x y : ℕ) (o o′ : Out) → x ≡ y → o′ ≡ pushed x o → o′ ≡ pushed y o
+pushed-as x y o o′ e h = h ∙ ap (λ (z : ℕ). pushed z o) e
+
+pub written-length-of : (l : List ℕ) (o o′ : Out) → o′ ≡ written l o → length (o′ .text) ≡ length (o .text)
+written-length-of l o o′ e = ap (λ (y : Out). length (y .text)) e ∙ written-length l o
+
+-- the test of an edge, by what was read
+pub leaves-one : (e : Graph) (seen : ℕ → Bool) (p g : ℕ) (x : Bool) → getD (e .state) g 0 ≡ 1 → x ≡ leadsOut seen (endA e g) (endB e g) p → x ≡ true → true ≡ leaves e seen p g
+unfolding leaves
+leaves-one e seen p g x h i t = simp (eq-eqb (getD (e .state) g 0) 1 h, ← i, t)
+
+pub leaves-other : (e : Graph) (seen : ℕ → Bool) (p g : ℕ) (x y : Bool) → getD (e .state) g 0 ≡ 1 → x ≡ leadsOut seen (endA e g) (endB e g) p → x ≡ false → y ≡ leadsOut seen (endB e g) (endA e g) p → y ≡ leaves e seen p g
+unfolding leaves
+leaves-other e seen p g x y h i t j = simp (eq-eqb (getD (e .state) g 0) 1 h, ← i, t, ← j)
+
+pub leaves-none : (e : Graph) (seen : ℕ → Bool) (p g : ℕ) → (getD (e .state) g 0 ≡ 1 → ⊥) → false ≡ leaves e seen p g
+unfolding leaves
+leaves-none e seen p g h = simp (ne-eqb (getD (e .state) g 0) 1 h)

@@ -9,6 +9,7 @@ use Rattle.base.specs.Lists.{collect, tab}
 use Rattle.sat.specs.Literal.{negate}
 use Rattle.graph.specs.Search.{Graph, endA, endB, Scan, searched, at, edgeTo, reachedYet}
 use Rattle.graph.specs.Paths.{climb}
+use Rattle.graph.specs.Written.{Out, written}
 
 -- a word of a list that was lent
 abbrev pub wordAt : List ℕ → ℕ → ℕ
@@ -31,21 +32,32 @@ treeList lits s = collect (λ i. negate (lits (edgeTo s (at s (suc i)))) ∷ [])
 unfoldable pub decidedList : (ℕ → ℕ) → Graph → ℕ → ℕ → ℕ → List ℕ
 decidedList lits e edges vertices u = treeList lits (searched e edges vertices u)
 
+-- whether one end is vertex p and the other was not reached
+unfoldable pub leadsOut : (ℕ → Bool) → ℕ → ℕ → ℕ → Bool
+leadsOut seen one other p = eqb one p && not (seen other)
+
 -- whether edge g is disconnected and leads from vertex p out of what was reached
 unfoldable pub leaves : Graph → (ℕ → Bool) → ℕ → ℕ → Bool
-leaves e seen p g =
-    eqb (getD (e .state) g 0) 1 && ((eqb (endA e g) p && not (seen (endB e g))) || (eqb (endB e g) p && not (seen (endA e g))))
+leaves e seen p g = eqb (getD (e .state) g 0) 1 && (leadsOut seen (endA e g) (endB e g) p || leadsOut seen (endB e g) (endA e g) p)
 
 -- the literals of the edges that lead from vertex p out of what was reached
 unfoldable pub wallsOf : (ℕ → ℕ) → Graph → ℕ → (ℕ → Bool) → ℕ → List ℕ
 wallsOf lits e edges seen p = collect (λ g. pick (leaves e seen p g) (lits g ∷ []) []) edges
 
--- The Rust's `reason_potential_region`: the literals of the disconnected edges that leave what u can be joined to.
+-- those of every vertex that was reached, in rising order
 unfoldable pub borderList : (ℕ → ℕ) → Graph → ℕ → ℕ → (ℕ → Bool) → List ℕ
 borderList lits e edges vertices seen = collect (λ p. pick (seen p) (wallsOf lits e edges seen p) []) vertices
 
+-- The Rust's `reason_potential_region`: the literals of the disconnected edges that leave what u can be joined to.
 unfoldable pub potentialList : (ℕ → ℕ) → Graph → ℕ → ℕ → ℕ → List ℕ
 potentialList lits e edges vertices u = borderList lits e edges vertices (reachedYet (searched e edges vertices u))
+
+-- one edge and one vertex of it, written
+unfoldable pub wallAt : (ℕ → ℕ) → Graph → (ℕ → Bool) → ℕ → ℕ → Out → Out
+wallAt lits e seen p g o = written (pick (leaves e seen p g) (lits g ∷ []) []) o
+
+unfoldable pub sideAt : (ℕ → ℕ) → Graph → ℕ → (ℕ → Bool) → ℕ → Out → Out
+sideAt lits e edges seen p o = written (pick (seen p) (wallsOf lits e edges seen p) []) o
 
 -- A region of the Rust's `Regions`: the vertices of u's region in the order of the search from u, the lowest one there.
 unfoldable pub orderList : Scan → List ℕ
