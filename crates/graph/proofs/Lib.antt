@@ -14,3 +14,4 @@ pub mod Spots
 pub mod Region
 pub mod Written
 pub mod Walk
+pub mod Answers

@@ -6,3 +6,4 @@ pub mod Labels
 pub mod Buckets
 pub mod Written
 pub mod Walk
+pub mod Answers

@@ -10,6 +10,20 @@ ghost use Rattle.graph.specs.Search.{scanOf, graph, reachedYet};
 ghost use Rattle.graph.specs.Bounds.{Within, Fine};
 ghost use Rattle.graph.specs.Written.{outOf, pushed, written};
 ghost use Rattle.graph.specs.Walk.{wordAt, pathBack, treeList, leadsOut, leaves, wallAt, wallsOf, sideAt, borderList, orderList};
+ghost use Rattle.graph.specs.Answers.{answerOf, startable, ready, connectedPath, decidedRegion, potentialRegion, regionVertices};
+
+// How many vertices and edges there are, and where the literals of the edges start in the words that are lent.
+pub struct Shape {
+    pub num_vertices: usize,
+    pub num_edges: usize,
+    pub first_lit: usize,
+}
+
+// The place past a list that was written; or there is none, and nothing was written.
+pub enum Listed {
+    Past(usize),
+    Missing,
+}
 
 // One word more, if there is room: the place past it.
 fn push(out: &mut [u32], at: usize, x: u32) -> usize
@@ -212,4 +226,169 @@ fn write_order(scan: &[u8; 256], count: usize, out: &mut [u32], at: usize) -> us
         n = push(out, n, word(scan[i]));
     }
     n
+}
+
+// Whether the graph can be walked from vertex u.
+fn startable(edges: &[[u8; 2]; 128], state: &[u32], shape: Shape, u: usize) -> bool
+    ensures { λ r. ⌜ r ≡ startable (now (edges .entry)) (now (state .entry)) shape u ⌝ }
+{
+    if walkable(edges, state, shape.num_edges, shape.num_vertices) {
+        return u < shape.num_vertices;
+    }
+    false
+}
+
+// Whether, besides, each edge has a literal.
+fn ready(edges: &[[u8; 2]; 128], state: &[u32], lits: &[u32], shape: Shape, u: usize) -> bool
+    ensures { λ r. ⌜ r ≡ ready (now (edges .entry)) (now (state .entry)) (now (lits .entry)) shape u ⌝ }
+{
+    if startable(edges, state, shape, u) {
+        let first = shape.first_lit;
+        if lits.len() < first {
+            return false;
+        }
+        if lits.len() - first < shape.num_edges {
+            return false;
+        }
+        return true;
+    }
+    false
+}
+
+// The vertices of u's region in the order of the search from u, for the Rust's `Regions`.
+pub fn region_vertices(
+    edges: [[u8; 2]; 128],
+    state: &[u32],
+    potential: bool,
+    shape: Shape,
+    u: usize,
+    out: &mut [u32],
+    at: usize,
+) -> Listed
+    ensures { λ r. ⌜ answerOf r (now (out .exit)) ≡ regionVertices edges (now (state .entry)) potential shape u (outOf (now (out .entry)) at) ⌝ }
+{
+    if startable(&edges, state, shape, u) {
+        let mut scan = [0u8; 256];
+        let count = search(
+            &edges,
+            state,
+            potential,
+            shape.num_edges,
+            shape.num_vertices,
+            u as u8,
+            &mut scan,
+        );
+        return Listed::Past(write_order(&scan, count, out, at));
+    }
+    Listed::Missing
+}
+
+// The negated literals of the connected edges from v back to u, on a shortest way: the Rust's `reason_connected_path`. There is no
+// list where v is no vertex or not joined to u.
+pub fn reason_connected_path(
+    edges: [[u8; 2]; 128],
+    state: &[u32],
+    lits: &[u32],
+    shape: Shape,
+    u: usize,
+    v: usize,
+    out: &mut [u32],
+    at: usize,
+) -> Listed
+    ensures { λ r. ⌜ answerOf r (now (out .exit)) ≡ connectedPath edges (now (state .entry)) (now (lits .entry)) shape u v (outOf (now (out .entry)) at) ⌝ }
+{
+    if ready(&edges, state, lits, shape, u) {
+        if v < shape.num_vertices {
+            let mut scan = [0u8; 256];
+            search(
+                &edges,
+                state,
+                false,
+                shape.num_edges,
+                shape.num_vertices,
+                u as u8,
+                &mut scan,
+            );
+            if scan[192 + v] == 1 {
+                let first = shape.first_lit;
+                return Listed::Past(write_path(
+                    &scan,
+                    &lits[first..],
+                    u as u8,
+                    v as u8,
+                    shape.num_vertices,
+                    out,
+                    at,
+                ));
+            }
+        }
+    }
+    Listed::Missing
+}
+
+// The negated literals of the connected edges by which the vertices of u's region are reached: the Rust's `reason_decided_region`.
+pub fn reason_decided_region(
+    edges: [[u8; 2]; 128],
+    state: &[u32],
+    lits: &[u32],
+    shape: Shape,
+    u: usize,
+    out: &mut [u32],
+    at: usize,
+) -> Listed
+    ensures { λ r. ⌜ answerOf r (now (out .exit)) ≡ decidedRegion edges (now (state .entry)) (now (lits .entry)) shape u (outOf (now (out .entry)) at) ⌝ }
+{
+    if ready(&edges, state, lits, shape, u) {
+        let mut scan = [0u8; 256];
+        let count = search(
+            &edges,
+            state,
+            false,
+            shape.num_edges,
+            shape.num_vertices,
+            u as u8,
+            &mut scan,
+        );
+        let first = shape.first_lit;
+        return Listed::Past(write_tree(&scan, &lits[first..], count, out, at));
+    }
+    Listed::Missing
+}
+
+// The literals of the disconnected edges that leave what u can be joined to: the Rust's `reason_potential_region`.
+pub fn reason_potential_region(
+    edges: [[u8; 2]; 128],
+    state: &[u32],
+    lits: &[u32],
+    shape: Shape,
+    u: usize,
+    out: &mut [u32],
+    at: usize,
+) -> Listed
+    ensures { λ r. ⌜ answerOf r (now (out .exit)) ≡ potentialRegion edges (now (state .entry)) (now (lits .entry)) shape u (outOf (now (out .entry)) at) ⌝ }
+{
+    if ready(&edges, state, lits, shape, u) {
+        let mut scan = [0u8; 256];
+        search(
+            &edges,
+            state,
+            true,
+            shape.num_edges,
+            shape.num_vertices,
+            u as u8,
+            &mut scan,
+        );
+        let first = shape.first_lit;
+        return Listed::Past(write_border(
+            &edges,
+            state,
+            &scan,
+            shape.num_vertices,
+            shape.num_edges,
+            &lits[first..],
+            out,
+            at,
+        ));
+    }
+    Listed::Missing
 }
