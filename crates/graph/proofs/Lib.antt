@@ -9,3 +9,9 @@ pub mod Cases
 pub mod Lists
 pub mod Walkable
 pub mod Labels
+pub mod Buckets
+pub mod Spots
+pub mod Region
+pub mod Written
+pub mod Walk
+pub mod Answers

@@ -11,7 +11,8 @@ use Rattle.base.specs.Iter.{pick}
 use Rattle.base.proofs.Loop.{pick-no}
 use Rattle.graph.specs.Lists.{every}
 use Rattle.graph.specs.Bounds.{Within, Fine, endsBelow, walkable}
-use Rattle.graph.proofs.Lists.{every-at, every-all, and-left, and-right, and-both}
+use Rattle.graph.proofs.Lists.{every-at, every-all, and-both}
+use Rattle.base.proofs.Tests.{and-left, and-right}
 
 -- a test that makes the whole fail was not met
 pub pick-false : (a b : Bool) → pick a false b ≡ true → (a ≡ false) × (b ≡ true)

@@ -3,3 +3,7 @@ pub mod Search
 pub mod Bounds
 pub mod Paths
 pub mod Labels
+pub mod Buckets
+pub mod Written
+pub mod Walk
+pub mod Answers
