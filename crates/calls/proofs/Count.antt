@@ -23,12 +23,13 @@ use Rattle.calls.specs.Table.{some, most, knows, variables, rising, badT
 use Rattle.calls.specs.Look.{Looked, offers, handOn, stop, clashes, offered, looked}
 use Rattle.calls.specs.Calls.{World, Call, Outcome, refuse, noting, settledBy, give, Going, joinBy, lastBy, finishBy, entry, call, run}
 use Rattle.calls.specs.Claim.{answered}
+use Rattle.calls.specs.Marks.{Marked}
 use Rattle.calls.proofs.View.{Saw, saw, sawStop, sawConflict, sawFalse, sawFine, Steps, over, more, ends, halts, Did, away, added, agreed, clashed, took, gave, gaveLast, began, beganLast, beganClash, did}
 use Rattle.calls.proofs.Looks.{halted, hand-in, offer-in}
 use Rattle.calls.proofs.Stands.{add-consistent, or-left, fine-on, clash-on, not-halted, run-consistent}
 use Rattle.calls.proofs.Fetchable.{good, is-known}
 use Rattle.calls.proofs.Order.{swept-in}
-use Rattle.calls.proofs.Marks.{Marked, unmarked, marked-then, marked-set, enter-same, enter-long, hand-marked, looked-marked}
+use Rattle.calls.proofs.Marks.{unmarked, marked-then, marked-set, enter-same, enter-long, hand-marked, looked-marked}
 
 pub data Distinct : List ℕ → Type 0 where
   alone : Distinct []

@@ -99,11 +99,11 @@ module _ (d : Plan) (k : Proper d) where
   some-true t zero i h e = absurd (not-suc-le-zero h)
   some-true t (suc n) i h e = ⊎-elim (λ q. or-one (some t n) _ (some-true t n i q e)) (λ q. or-two (some t n) (t n) (subst (λ z. t z ≡ true) q e)) (lt-cases i n (omega arith))
 
-  edge-known : (l g : ℕ) → g < d .edges → l / 2 ≡ d .edgeLit g / 2 → knows d l ≡ true
+  pub edge-known : (l g : ℕ) → g < d .edges → l / 2 ≡ d .edgeLit g / 2 → knows d l ≡ true
   unfolding knows
   edge-known l g h e = or-one (some (λ i. eqb (l / 2) (d .edgeLit i / 2)) (d .edges)) _ (some-true _ _ g h (eq-eqb _ _ e))
 
-  size-known : (l v j : ℕ) → v < d .vertices → suc j < d .domainLen v → l / 2 ≡ d .domLit v j / 2 → knows d l ≡ true
+  pub size-known : (l v j : ℕ) → v < d .vertices → suc j < d .domainLen v → l / 2 ≡ d .domLit v j / 2 → knows d l ≡ true
   unfolding knows
   size-known l v j h m e =
       or-two (some (λ i. eqb (l / 2) (d .edgeLit i / 2)) (d .edges)) _

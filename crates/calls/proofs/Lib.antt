@@ -11,3 +11,4 @@ pub mod Count
 pub mod Store
 pub mod Computes
 pub mod Cases
+pub mod Refusals

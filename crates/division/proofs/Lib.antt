@@ -24,3 +24,5 @@ pub mod Whole
 pub mod Computes
 pub mod Cases
 pub mod Stale
+pub mod Labels
+pub mod Verdicts
