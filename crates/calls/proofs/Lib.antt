@@ -3,6 +3,7 @@ pub mod Looks
 pub mod Stands
 pub mod Recent
 pub mod Claim
+pub mod Known
 pub mod Fetchable
 pub mod Order
 pub mod Room

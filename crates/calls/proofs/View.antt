@@ -47,12 +47,12 @@ pub data Steps (d : Plan) : Going → List ℕ → Going → Type 0 where
       Steps d a (l ∷ ls) (joinBy a l o clash)
   halts : {a : Going} {ls : List ℕ} {b : Going} (n : ℕ) → b .judgement ≡ stopped n → Steps d a ls b
 
-clash-stays : (d : Plan) (ls : List ℕ) (a : Going) → a .judgement ≡ clash → propagateAll d ls a ≡ a
+pub clash-stays : (d : Plan) (ls : List ℕ) (a : Going) → a .judgement ≡ clash → propagateAll d ls a ≡ a
 unfolding propagateAll oneBy
 clash-stays d [] a e = refl
 clash-stays d (l ∷ ls) a e = ap (λ (j : Judgement). propagateAll d ls (oneBy d l a j)) e ∙ clash-stays d ls a e
 
-stop-stays : (d : Plan) (ls : List ℕ) (a : Going) (n : ℕ) → a .judgement ≡ stopped n → propagateAll d ls a ≡ a
+pub stop-stays : (d : Plan) (ls : List ℕ) (a : Going) (n : ℕ) → a .judgement ≡ stopped n → propagateAll d ls a ≡ a
 unfolding propagateAll oneBy
 stop-stays d [] a n e = refl
 stop-stays d (l ∷ ls) a n e = ap (λ (j : Judgement). propagateAll d ls (oneBy d l a j)) e ∙ stop-stays d ls a n e
