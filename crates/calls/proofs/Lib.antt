@@ -13,3 +13,4 @@ pub mod Store
 pub mod Computes
 pub mod Cases
 pub mod Refusals
+pub mod Truths

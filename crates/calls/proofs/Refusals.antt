@@ -16,7 +16,7 @@ use Rattle.division.specs.Noting.{noteAll}
 use Rattle.division.specs.Reasons.{Reason}
 use Rattle.division.specs.Plan.{Plan}
 use Rattle.division.specs.Runs.{analysis, reasonOf}
-use Rattle.division.specs.Analysis.{Verdict, going, conflict, crossed, zeroSize, Proposal}
+use Rattle.division.specs.Analysis.{Verdict, going, conflict, crossed, zeroSize}
 use Rattle.division.proofs.Verdicts.{verdict-crosses, crosses-verdict, verdict-zero, zero-verdict}
 use Rattle.calls.specs.Table.{codeOf, coded, currentIn, someCurrent, tooHigh, badTable, has, variables, falseIn, entered}
 use Rattle.calls.specs.Look.{fine, clash, stopped, Looked, looked, lookedBy, offered, offers, firstFalse, stop, clashes, gone, Judgement}
@@ -24,12 +24,9 @@ use Rattle.calls.specs.Calls.{consistent, conflicting, noted, undone, re
 use Rattle.calls.specs.Refusals.{BadTable, short, high, Known, Stands, Stops, at12, at13, at14, roomOf, Applies, First, Stage, CrossedAt, ZeroAt}
 use Rattle.calls.proofs.Looks.{stop-not-fine, stop-not-clash}
 use Rattle.calls.proofs.Known.{known, unknown}
+use Rattle.calls.proofs.Stands.{or-left}
 use Rattle.calls.proofs.View.{or-right, stop-stays, clash-stays}
-use Rattle.calls.proofs.Claim.{has-in, in-has}
-
-or-false : (a b : Bool) → (a || b) ≡ false → a ≡ false
-or-false true b e = e
-or-false false b e = refl
+use Rattle.calls.proofs.Claim.{has-in, in-has, one-reason}
 
 -- 7
 high-at : (t : List ℕ) → tooHigh t ≡ true → (i : ℕ) × (i < length t) × (4 < getD t i 0)
@@ -40,7 +37,7 @@ high-at (c ∷ t) e = ⊎-elim (λ x. (0, omega arith, ltb-true _ _ x)) (λ x. l
 not-high : (t : List ℕ) → tooHigh t ≡ false → (i : ℕ) → i < length t → 4 < getD t i 0 → ⊥
 unfolding tooHigh
 not-high [] e i h l = omega arith
-not-high (c ∷ t) e zero h l = omega (arith, ltb-false 4 c (or-false _ _ e))
+not-high (c ∷ t) e zero h l = omega (arith, ltb-false 4 c (or-left _ _ e))
 not-high (c ∷ t) e (suc i) h l = not-high t (or-right (ltb 4 c) _ e) i (omega arith) l
 
 bad-table : (d : Plan) (t : List ℕ) → badTable d t ≡ true → BadTable d t
@@ -49,7 +46,7 @@ bad-table d t e = ⊎-elim (λ x. short (ltb-true _ _ x)) (λ x. let (i, h, y) =
 
 good-table : (d : Plan) (t : List ℕ) → badTable d t ≡ false → BadTable d t → ⊥
 unfolding badTable
-good-table d t e (short l) = omega (arith, ltb-false (length t) (variables d) (or-false _ _ e))
+good-table d t e (short l) = omega (arith, ltb-false (length t) (variables d) (or-left _ _ e))
 good-table d t e (high i h l) = not-high t (or-right (ltb (length t) (variables d)) _ e) i h l
 
 -- 10
@@ -59,7 +56,7 @@ stands w l e = ⊎-elim (λ x. inl (has-in _ _ x)) (λ x. inr (has-in _ _ x)) (o
 
 not-stands : (w : World) (l : ℕ) → taken w l ≡ false → Stands w l → ⊥
 unfolding taken
-not-stands w l e (inl m) = true≢false (sym (in-has _ _ m) ∙ or-false _ _ e)
+not-stands w l e (inl m) = true≢false (sym (in-has _ _ m) ∙ or-left _ _ e)
 not-stands w l e (inr m) = true≢false (sym (in-has _ _ m) ∙ or-right (has (w .standing) l) _ e)
 
 -- 14
@@ -67,8 +64,8 @@ not-current : (t ls : List ℕ) → someCurrent t ls ≡ false → Every (λ l. 
 unfolding someCurrent currentIn coded
 not-current t [] e = none
 not-current t (l ∷ ls) e =
-    let x = or-false (eqb (codeOf t l) 3 || eqb (codeOf t l) 4) _ e in
-    more (eqb-false _ _ (or-false _ _ x), eqb-false _ _ (or-right (eqb (codeOf t l) 3) _ x)) (not-current t ls (or-right (eqb (codeOf t l) 3 || eqb (codeOf t l) 4) _ e))
+    let x = or-left (eqb (codeOf t l) 3 || eqb (codeOf t l) 4) _ e in
+    more (eqb-false _ _ (or-left _ _ x), eqb-false _ _ (or-right (eqb (codeOf t l) 3) _ x)) (not-current t ls (or-right (eqb (codeOf t l) 3 || eqb (codeOf t l) 4) _ e))
 
 current-none : (t ls : List ℕ) → Every (λ l. (codeOf t l ≡ 3 → ⊥) × (codeOf t l ≡ 4 → ⊥)) ls → someCurrent t ls ≡ false
 unfolding someCurrent currentIn coded
@@ -158,7 +155,7 @@ lacks : (d : Plan) (room : Bool) (t : List ℕ) → (not room || badTable d t) �
 lacks d room t e = ⊎-elim (λ x. inl (not-false room x)) (λ x. inr (bad-table d t x)) (or-cases (not room) _ e)
 
 not-lacks : (d : Plan) (room : Bool) (t : List ℕ) → (not room || badTable d t) ≡ false → Lacks d room t → ⊥
-not-lacks d room t e (inl r) = true≢false (sym (not-not room (or-false _ _ e)) ∙ r)
+not-lacks d room t e (inl r) = true≢false (sym (not-not room (or-left _ _ e)) ∙ r)
 not-lacks d room t e (inr b) = good-table d t (or-right (not room) _ e) b
 
 module _ (d : Plan) (w : World) where
@@ -307,17 +304,6 @@ module _ (d : Plan) (w : World) where
   to-reason (Applies.unknownReason room l k) = is9 refl k
   to-reason (Applies.noReason room l e) = is15 refl e
   to-reason (Applies.pathGone room l r e g) = is16 refl r e g
-
-  one-reason : (l : ℕ) (ps : List Proposal) (r : Reason) (rs : List Reason) → reasonOf l ps ≡ r ∷ rs → rs ≡ []
-  unfolding reasonOf
-  one-reason l [] r rs e = absurd (nil-cons e)
-    where
-      nil-cons : {x : Reason} {k : List Reason} → [] ≡ x ∷ k → ⊥
-      nil-cons q = let z : _≡_ {A = ℕ} 0 _ = ap length q in omega arith
-  one-reason l (p ∷ ps) r rs e = pick-ind (λ (z : List Reason). z ≡ r ∷ rs → rs ≡ []) (eqb l (p .lit)) (p .why ∷ []) (reasonOf l ps) (λ _ q. tails q) (λ _ q. one-reason l ps r rs q) e
-    where
-      tails : {a b : Reason} {k m : List Reason} → a ∷ k ≡ b ∷ m → m ≡ k
-      tails q = cc
 
   judge-reason : (room : Bool) (l : ℕ) → Judged d w (calcReason room l) (onCalcReason d w room l .answer)
   unfolding onCalcReason giveReason refuse give accepted roomOf

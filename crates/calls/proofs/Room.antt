@@ -102,7 +102,7 @@ module _ (d : Plan) (k : Proper d) where
   after-formed [] w g f = f
   after-formed (c ∷ cs) w g f = after-formed cs (call d c w .world) (call-consistent d w c g) (call-formed w c g f)
 
-  run-formed : (cs : List Call) → AllFormed (run d cs)
+  pub run-formed : (cs : List Call) → AllFormed (run d cs)
   unfolding run built
   run-formed cs = after-formed cs built (λ l a b. mathlib.Core.List.List·Memᴰ·not-nil a) nothing
 
