@@ -83,12 +83,12 @@ did-exact : (d : Plan) (k : Proper d) (pl : Plain d) (w : World) → Consistent 
 unfolding refuse accepted settledBy noting isConflict
 did-exact d k pl w g (away c n) a v = absurd (false≢true a)
 did-exact d k pl w g (added room t l p e f) a v = absurd (false≢true e)
-did-exact d k pl w g (agreed room t l p o e f q bt) a v =
+did-exact d k pl w g (agreed room t l p pf o e f q bt) a v =
     let c = add-consistent w l f g in
     let u : Saw d (l ∷ w .standing) t o = subst (Saw d (l ∷ w .standing) t) (sym e) (saw d _ _) in
     let h = told-holds (l ∷ w .standing) c in
     (λ _. record { σ = told (l ∷ w .standing); holds = h; valid = exactly d k (l ∷ w .standing) c pl (told (l ∷ w .standing)) (full d _ v _ h) .0 (saw-fine d _ t u q) }, λ _. refl)
-did-exact d k pl w g (clashed room t l p o e f q bt) a v =
+did-exact d k pl w g (clashed room t l p pf o e f q bt) a v =
     let c = add-consistent w l f g in (
       λ z. absurd (true≢false (ap isConflict z)),
       λ s. let x = full d _ v (s .σ) (s .holds) in
@@ -158,12 +158,12 @@ heads q = cc
 pub condition-3 : (d : Plan) → Proper d → Plain d → Condition3 d
 condition-3 d k pl = record { conflicts = conflicts; handed = handed; exact = exact }
   where
-    conflicts : (before : List Call) (c : Call) (list : List ℕ) → answered d before c .answer ≡ conflicting →
-        call d (calcLast true) (answered d before c .world) .answer ≡ reason list →
+    conflicts : (before : List Call) (c : Call) (room : Bool) (list : List ℕ) → answered d before c .answer ≡ conflicting →
+        call d (calcLast room) (answered d before c .world) .answer ≡ reason list →
         (σ : ℕ → Bool) → Valid d σ → Every (Holds σ) list → ⊥
-    conflicts before c list e q σ y x =
+    conflicts before c room list e q σ y x =
         conflict-refuted d k pl (run d before) c (run-consistent d before) e σ y
-        (subst (Every (Holds σ)) (sym (did-last d (answered d before c .world) (did d (answered d before c .world) (calcLast true)) q)) x)
+        (subst (Every (Holds σ)) (sym (did-last d (answered d before c .world) (did d (answered d before c .world) (calcLast room)) q)) x)
 
     handed : (before : List Call) (c : Call) (amid : List Call) (l : ℕ) (room : Bool) (list : List ℕ) →
         In (answered d before c .handed) l → AllQuiet d (answered d before c .world) amid →

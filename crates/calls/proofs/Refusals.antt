@@ -50,11 +50,11 @@ good-table d t e (short l) = omega (arith, ltb-false (length t) (variables d) (o
 good-table d t e (high i h l) = not-high t (or-right (ltb (length t) (variables d)) _ e) i h l
 
 -- 10
-stands : (w : World) (l : ℕ) → taken w l ≡ true → Stands w l
+pub stands : (w : World) (l : ℕ) → taken w l ≡ true → Stands w l
 unfolding taken
 stands w l e = ⊎-elim (λ x. inl (has-in _ _ x)) (λ x. inr (has-in _ _ x)) (or-cases (has (w .standing) l) _ e)
 
-not-stands : (w : World) (l : ℕ) → taken w l ≡ false → Stands w l → ⊥
+pub not-stands : (w : World) (l : ℕ) → taken w l ≡ false → Stands w l → ⊥
 unfolding taken
 not-stands w l e (inl m) = true≢false (sym (in-has _ _ m) ∙ or-left _ _ e)
 not-stands w l e (inr m) = true≢false (sym (in-has _ _ m) ∙ or-right (has (w .standing) l) _ e)
@@ -117,7 +117,7 @@ module _ (d : Plan) (ls t : List ℕ) where
   stops-number n (at13 c) = omega arith
   stops-number n (at14 c) = omega arith
 
-not-taken : (w : World) (l : ℕ) → (Stands w l → ⊥) → taken w l ≡ false
+pub not-taken : (w : World) (l : ℕ) → (Stands w l → ⊥) → taken w l ≡ false
 not-taken w l n = tested (taken w l) (λ e. absurd (n (stands w l e))) (λ e. e)
 
 is-taken : (w : World) (l : ℕ) → Stands w l → taken w l ≡ true

@@ -131,8 +131,8 @@ module _ (d : Plan) (k : Proper d) where
   unfolding refuse adding settledBy noting give lastBy finishBy entry
   did-left w (away c n) g z = z
   did-left w (added room t l p e f) g z = z
-  did-left w (agreed room t l p o e f q bt) g z = looked-left _ t (add-consistent w l f g) o e
-  did-left w (clashed room t l p o e f q bt) g z = looked-left _ t (add-consistent w l f g) o e
+  did-left w (agreed room t l p pf o e f q bt) g z = looked-left _ t (add-consistent w l f g) o e
+  did-left w (clashed room t l p pf o e f q bt) g z = looked-left _ t (add-consistent w l f g) o e
   did-left w (took room l x xs e) g z = z
   did-left w (gave room l r rs e n) g z = z
   did-left w (gaveLast room) g z = z

@@ -5,7 +5,7 @@ use native.Mathlib.Omega.{arith}
 use mathlib.Core.Path.{_≡_, refl, sym, _∙_, ap, subst}
 use mathlib.Core.Logic.{_⊎_, inl, inr, ⊎-elim}
 use mathlib.Core.Bool.{Bool, true, false, not, true≢false, false≢true}
-use mathlib.Core.List.{List, [], _∷_, _++_, List·Memᴰ, List·Memᴰ·head, List·Memᴰ·tail}
+use mathlib.Core.List.{List, [], _∷_, _++_, List·Memᴰ, List·Memᴰ·head, List·Memᴰ·tail, append-assoc}
 use lib.Dec.{eqb}
 use borrow.Author.Tests.{eq-eqb, ne-eqb}
 use Rattle.base.specs.Iter.{pick}
@@ -19,25 +19,28 @@ use Rattle.division.specs.State.{State, Same}
 use Rattle.division.specs.Reasons.{Reason, connectedPath, decidedRegion, listOf}
 use Rattle.division.specs.Analysis.{Proposal}
 use Rattle.division.specs.Noting.{noteAll, In, Consistent}
-use Rattle.division.specs.Runs.{analysis, fetched, reasonOf, Run, start, note, look, Justifies}
+use Rattle.division.specs.Runs.{analysis, fetched, reasonOf, Justifies}
 use Rattle.division.proofs.Noted.{Noted}
 use Rattle.division.proofs.Proposed.{Proposes, ruleInGroup, ruleBetween, ruleTooLarge, ruleLarge, ruleSmall, ruleMismatch, ruleSpreadLow, ruleSpreadHigh, ruleSameSize, Each, nothing, also}
 use Rattle.division.proofs.Stands.{path-stands, decided-stands, potential-stands}
 use Rattle.division.proofs.Walk.{within-joined}
 use Rattle.division.proofs.Noting.{noted-all}
 use Rattle.division.proofs.Whole.{each-found, reason-there, reasons, conflicts}
+use Rattle.calls.specs.Refusals.{Stage}
 use Rattle.calls.specs.Table.{codeOf, trueIn, falseIn, coded}
 use Rattle.calls.specs.Look.{clash, Looked, looked, firstFalse, listFor, falseList, stop, clashes, offered, unjoined, gone, fine}
-use Rattle.calls.specs.Calls.{World, Call, calcReason, conflicting, reason, Outcome, Going, call, run, joinBy, refuse, noting, settledBy, give, lastBy, finishBy, entry}
+use Rattle.calls.specs.Calls.{World, Call, calcReason, conflicting, reason, Outcome, Going, call, run, joinBy, refuse, noting, settledBy, give, lastBy, finishBy, entry, initialize, adding}
 use Rattle.calls.specs.Claim.{answered}
-use Rattle.calls.specs.Truths.{recordedIn, Walked, Recorded, Earlier, still, since, Backed, allStand, ofFalse}
+use Rattle.calls.specs.Truths.{recordedIn, Walked, Recorded, Analyzes, ofPropagate, ofInitialize, ofLast, Backed, allStand, ofFalse}
+use Rattle.calls.proofs.Refusals.{not-taken, not-stands}
 use Rattle.calls.proofs.Claim.{fetch-open}
 use Rattle.calls.proofs.Fetchable.{each-append, each-map, good}
 use Rattle.calls.proofs.View.{Saw, sawStop, sawConflict, sawFalse, sawFine, saw, Steps, over, more, ends, halts, Did, did, or-right}
-use Rattle.calls.proofs.Looks.{stop-not-clash, clash-not-fine, first-in, offer-in}
-use Rattle.calls.proofs.Stands.{or-left, run-consistent, call-consistent, add-consistent, not-halted, clash-on, steps-consistent, fine-on}
-use Rattle.calls.proofs.Recent.{did-recent, isConflict}
+use Rattle.calls.proofs.Looks.{stop-not-clash, clash-not-fine, first-in, offer-in, halted, saw-records}
+use Rattle.calls.proofs.Stands.{or-left, run-consistent, add-consistent, not-halted, clash-on, steps-consistent, fine-on}
+use Rattle.calls.proofs.Recent.{isConflict}
 use Rattle.calls.proofs.Room.{Formed, formedIn, formedBetween, formedTooLarge, formedLarge, formedSmall, formedMismatch, formedSpread, formedSameSize, run-formed}
+use Rattle.division.proofs.Whole as whole
 
 every-in : (ls : List ℕ) → Every (In ls) ls
 every-in [] = none
@@ -99,28 +102,84 @@ module _ (d : Plan) (k : Proper d) where
   each-recorded ms c (p ∷ ps) sub (also x e) =
       also (record { proposed = sub p (List·Memᴰ·head refl); stood = rule-stood (In ms) (noteAll d ms) (noted-all d ms c) _ _ x }) (each-recorded ms c ps (λ y m. sub y (List·Memᴰ·tail m)) e)
 
-  -- what a run of notifications and analyses recorded, each at its moment
-  run-recorded : {ls : List ℕ} {ps : List Proposal} → Run d ls ps → (final : List ℕ) → Consistent final → Earlier ls final → Each (λ l r. (ms : List ℕ) × Earlier ms final × Recorded d ms l r) ps
-  run-recorded (start ls) final c q = nothing
-  run-recorded (note {ls = ls} l r) final c q = run-recorded r final c (earlier q)
-    where
-      earlier : {fs : List ℕ} → Earlier (l ∷ ls) fs → Earlier ls fs
-      earlier still = since l still
-      earlier (since x e) = since x (earlier e)
-  run-recorded (look {ls = ls} r) final c q =
-      let cl : Consistent ls = λ x a b. c x (earlier-in q x a) (earlier-in q (negate x) b) in
-      each-append (each-map (λ l w x. (ls, q, x)) (each-recorded ls cl (analysis d ls .props) (λ x m. m) (good d k ls cl .props))) (run-recorded r final c q)
-    where
-      earlier-in : {fs : List ℕ} → Earlier ls fs → (x : ℕ) → In ls x → In fs x
-      earlier-in still x m = m
-      earlier-in (since y e) x m = List·Memᴰ·tail (earlier-in e x m)
+  stage-consistent : {w : World} {t : List ℕ} {a : Going} {ls : List ℕ} → Stage d w t a ls → Consistent (w .standing) → Consistent (a .world .standing)
+  unfolding entry joinBy noting
+  stage-consistent Stage.first c = c
+  stage-consistent (Stage.next {a = a} {l = l} s n e) c = add-consistent (a .world) l (not-taken (a .world) l n) (stage-consistent s c)
+
+  analyzes-consistent : {w : World} {c : Call} {ms : List ℕ} → Analyzes d w c ms → Consistent (w .standing) → Consistent ms
+  analyzes-consistent {w} (ofPropagate room t l p e n) c = add-consistent w l (not-taken w l n) c
+  analyzes-consistent (ofInitialize room t a l ls s n) c = add-consistent (a .world) l (not-taken (a .world) l n) (stage-consistent s c)
+  analyzes-consistent (ofLast room t a s) c = stage-consistent s c
+
+  -- No analysis of any list of calls proposes a literal that stands or whose negation stands, under either option.
+  pub nothing-standing-proposed : (before : List Call) (c : Call) (ms : List ℕ) → Analyzes d (run d before) c ms → Each (λ l r. (In ms l → ⊥) × (In ms (negate l) → ⊥)) (analysis d ms .props)
+  nothing-standing-proposed before c ms a = whole.nothing-standing-proposed d k ms (analyzes-consistent a (run-consistent d before))
+
+  module _ (w : World) (g : Consistent (w .standing)) where
+    -- what call c recorded: reasons of its analyses, each with what it holds standing there
+    abbrev New : Call → List Proposal → Type 0
+    New c ps = Each (λ l r. (ms : List ℕ) × Analyzes d w c ms × Recorded d ms l r) ps
+
+    record Grown (c : Call) (v : World) : Type 0 where
+      recent : List Proposal
+      all : v .reasons ≡ recent ++ w .reasons
+      new : New c recent
+
+    nothing-new : (c : Call) (v : World) → v .reasons ≡ w .reasons → Grown c v
+    nothing-new c v e = record { recent = []; all = e; new = nothing }
+
+    one-more : (c : Call) (v v′ : World) (ms : List ℕ) → Analyzes d w c ms → v′ .reasons ≡ analysis d ms .props ++ v .reasons → Grown c v → Grown c v′
+    one-more c v v′ ms a e x =
+        let h = analyzes-consistent a g in
+        record {
+          recent = analysis d ms .props ++ x .recent;
+          all = e ∙ ap (λ (z : List Proposal). analysis d ms .props ++ z) (x .all) ∙ sym (append-assoc (analysis d ms .props) (x .recent) (w .reasons));
+          new = each-append (each-map (λ l r y. (ms, a, y)) (each-recorded ms h (analysis d ms .props) (λ _ m. m) (good d k ms h .props))) (x .new);
+        }
+
+    -- a notification's records
+    looked-more : (c : Call) (v : World) (t : List ℕ) (l : ℕ) (o : Looked) → o ≡ looked d (l ∷ v .standing) t → halted (o .judgement) ≡ false → Analyzes d w c (l ∷ v .standing) → Grown c v → Grown c (noting v l o)
+    unfolding noting
+    looked-more c v t l o e q a x =
+        let z : o .records ≡ analysis d (l ∷ v .standing) .props =
+        subst (λ (y : Looked). halted (y .judgement) ≡ false → y .records ≡ analysis d (l ∷ v .standing) .props) (sym e) (saw-records d (l ∷ v .standing) t (saw d (l ∷ v .standing) t)) q in
+        one-more c v _ (l ∷ v .standing) a (ap (λ (y : List Proposal). y ++ v .reasons) z) x
+
+    module _ (room : Bool) (t : List ℕ) where
+      steps-more : {a b : Going} {ls : List ℕ} → Steps d a ls b → Stage d w t a ls → halted (b .judgement) ≡ false → Grown (initialize room t) (a .world) →
+          Grown (initialize room t) (b .world) × (b .judgement ≡ fine → Stage d w t b [])
+      unfolding joinBy
+      steps-more (Steps.over e) s h x = (x, λ _. s)
+      steps-more {a} {b} (Steps.more {l = l} {ls = ls} o e f q r) s h x =
+          let n = not-stands (a .world) l f in
+          let s′ : Stage d w t (joinBy a l o fine) ls = subst (λ (y : Looked). y .judgement ≡ fine → Stage d w t (joinBy a l y fine) ls) (sym e) (λ j. Stage.next s n j) q in
+          steps-more r s′ h (looked-more _ (a .world) (a .table) l o e (fine-on q) (ofInitialize room t a l ls s n) x)
+      steps-more {a} (Steps.ends {l = l} {ls = ls} o e f q) s h x =
+          (looked-more _ (a .world) (a .table) l o e (clash-on q) (ofInitialize room t a l ls s (not-stands (a .world) l f)) x, λ j. absurd (clash-not-fine j))
+      steps-more (Steps.halts n e) s h x = absurd (not-halted e h)
+
+      begin : Grown (initialize room t) (entry w t .world)
+      unfolding entry
+      begin = nothing-new _ _ refl
+
+    did-grown : {c : Call} {o : Outcome} → Did d w c o → Grown c (o .world)
+    unfolding refuse adding settledBy give lastBy finishBy
+    did-grown (Did.away c n) = nothing-new c w refl
+    did-grown (Did.added room t l p e f) = nothing-new _ _ refl
+    did-grown (Did.agreed room t l p pf o e f q bt) = looked-more _ w t l o e (fine-on q) (ofPropagate room t l p pf (not-stands w l f)) (nothing-new _ w refl)
+    did-grown (Did.clashed room t l p pf o e f q bt) = looked-more _ w t l o e (clash-on q) (ofPropagate room t l p pf (not-stands w l f)) (nothing-new _ w refl)
+    did-grown (Did.took room l x xs e) = nothing-new _ _ refl
+    did-grown (Did.gave room l r rs e n) = nothing-new _ _ refl
+    did-grown (Did.gaveLast room) = nothing-new _ _ refl
+    did-grown (Did.began room t a s j v bt) = let x = steps-more room t s Stage.first (fine-on j) (begin room t) in one-more _ (a .world) _ _ (ofLast room t a (x .1 j)) refl (x .0)
+    did-grown (Did.beganLast room t a s j c v bt) = let x = steps-more room t s Stage.first (fine-on j) (begin room t) in one-more _ (a .world) _ _ (ofLast room t a (x .1 j)) refl (x .0)
+    did-grown (Did.beganClash room t a s j bt) = steps-more room t s Stage.first (clash-on j) (begin room t) .0
 
   -- Each reason that a call records is one of an analysis that it made, and what the reason holds stood there.
   pub recorded-stood : (before : List Call) (c : Call) → (recent : List Proposal) × (answered d before c .world .reasons ≡ recent ++ run d before .reasons) ×
-      Each (λ l r. (ms : List ℕ) × Earlier ms (answered d before c .world .standing) × Recorded d ms l r) recent
-  recorded-stood before c =
-      let x = did-recent d (run d before) (did d (run d before) c) in
-      (x .recent, x .all, run-recorded (x .run) _ (call-consistent d (run d before) c (run-consistent d before)) still)
+      Each (λ l r. (ms : List ℕ) × Analyzes d (run d before) c ms × Recorded d ms l r) recent
+  recorded-stood before c = let x = did-grown (run d before) (run-consistent d before) (did d (run d before) c) in (x .recent, x .all, x .new)
 
   module _ (s : State) (S : ℕ → Type 0) (n : Noted d S s) where
     there : (u v : ℕ) → u < d .vertices → unjoined d s u v ≡ false → Same d s u v
@@ -219,8 +278,8 @@ module _ (d : Plan) (k : Proper d) where
   unfolding isConflict refuse settledBy noting give lastBy finishBy entry
   did-backed w g (Did.away c n) h = absurd (false≢true h)
   did-backed w g (Did.added room t l p e f) h = absurd (false≢true h)
-  did-backed w g (Did.agreed room t l p o e f q bt) h = absurd (false≢true h)
-  did-backed w g (Did.clashed room t l p o e f q bt) h = looked-backed _ t (add-consistent w l f g) o e q
+  did-backed w g (Did.agreed room t l p pf o e f q bt) h = absurd (false≢true h)
+  did-backed w g (Did.clashed room t l p pf o e f q bt) h = looked-backed _ t (add-consistent w l f g) o e q
   did-backed w g (Did.took room l z zs e) h = absurd (false≢true h)
   did-backed w g (Did.gave room l r rs e n) h = absurd (false≢true h)
   did-backed w g (Did.gaveLast room) h = absurd (false≢true h)

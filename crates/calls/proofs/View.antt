@@ -87,9 +87,9 @@ pub data Did (d : Plan) (w : World) : Call → Outcome → Type 0 where
   away : (c : Call) (n : ℕ) → Did d w c (refuse n w (tableOf c))
   added : (room : Bool) (t : List ℕ) (l : ℕ) (pending : Bool) → pending ≡ true → taken w l ≡ false →
       Did d w (propagate room t l pending) (record { answer = noted; world = adding w l; table = t; handed = [] })
-  agreed : (room : Bool) (t : List ℕ) (l : ℕ) (pending : Bool) (o : Looked) → o ≡ looked d (l ∷ w .standing) t → taken w l ≡ false → o .judgement ≡ fine → badTable d t ≡ false →
+  agreed : (room : Bool) (t : List ℕ) (l : ℕ) (pending : Bool) → pending ≡ false → (o : Looked) → o ≡ looked d (l ∷ w .standing) t → taken w l ≡ false → o .judgement ≡ fine → badTable d t ≡ false →
       Did d w (propagate room t l pending) (settledBy w t l o fine)
-  clashed : (room : Bool) (t : List ℕ) (l : ℕ) (pending : Bool) (o : Looked) → o ≡ looked d (l ∷ w .standing) t → taken w l ≡ false → o .judgement ≡ clash → badTable d t ≡ false →
+  clashed : (room : Bool) (t : List ℕ) (l : ℕ) (pending : Bool) → pending ≡ false → (o : Looked) → o ≡ looked d (l ∷ w .standing) t → taken w l ≡ false → o .judgement ≡ clash → badTable d t ≡ false →
       Did d w (propagate room t l pending) (settledBy w t l o clash)
   took : (room : Bool) (l x : ℕ) (xs : List ℕ) → w .standing ≡ x ∷ xs →
       Did d w (undo room l) (record { answer = undone; world = record { standing = xs; reasons = w .reasons; last = w .last; done = w .done }; table = []; handed = [] })
@@ -106,15 +106,15 @@ module _ (d : Plan) (w : World) where
   unfolding onPropagate settled settledBy tableOf
   propagate-did room t l pending =
       pick-ind D _ _ _ (λ _. away _ 7) (λ b. pick-ind D _ _ _ (λ _. away _ 9) (λ _. pick-ind D _ _ _ (λ _. away _ 10)
-      (λ f. pick-ind D _ _ _ (λ p. added room t l pending p f) (λ _. by _ refl f (or-right (not room) _ b)))))
+      (λ f. pick-ind D _ _ _ (λ p. added room t l pending p f) (λ p. by p _ refl f (or-right (not room) _ b)))))
     where
       D : Outcome → Type 0
       D = Did d w (propagate room t l pending)
 
-      by : (j : Judgement) → looked d (l ∷ w .standing) t .judgement ≡ j → taken w l ≡ false → badTable d t ≡ false → D (settledBy w t l (looked d (l ∷ w .standing) t) j)
-      by fine e f b = agreed room t l pending _ refl f e b
-      by clash e f b = clashed room t l pending _ refl f e b
-      by (stopped n) e f b = halt
+      by : pending ≡ false → (j : Judgement) → looked d (l ∷ w .standing) t .judgement ≡ j → taken w l ≡ false → badTable d t ≡ false → D (settledBy w t l (looked d (l ∷ w .standing) t) j)
+      by p fine e f b = agreed room t l pending p _ refl f e b
+      by p clash e f b = clashed room t l pending p _ refl f e b
+      by p (stopped n) e f b = halt
         where
           halt : D (settledBy w t l (looked d (l ∷ w .standing) t) (stopped n))
           halt = away _ n

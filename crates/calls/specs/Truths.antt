@@ -2,14 +2,16 @@
 use Prim.Native.Nat.{ℕ}
 use mathlib.Core.Path.{_≡_}
 use mathlib.Core.Logic.{_⊎_}
-use mathlib.Core.Bool.{true}
-use mathlib.Core.List.{List, [], _∷_, _++_}
+use mathlib.Core.Bool.{Bool, true, false}
+use mathlib.Core.List.{List, [], _∷_, _++_, List·Memᴰ}
 use Rattle.base.specs.Lists.{Every}
 use Rattle.sat.specs.Literal.{negate}
 use Rattle.division.specs.Plan.{Plan}
 use Rattle.division.specs.Reasons.{Reason, edgeInSameGroup, edgeBetweenDifferentGroups, tooLargeIfRegionsAreMerged, regionAlreadyLarge, regionAlreadySmall, inconsistentBoundsIfRegionsAreMerged, boundPropagationWithinRegion, adjacentSameSizeRegions}
 use Rattle.division.specs.Noting.{In}
 use Rattle.division.specs.Runs.{analysis}
+use Rattle.calls.specs.Calls.{World, Call, initialize, propagate, Going}
+use Rattle.calls.specs.Refusals.{Stands, Stage}
 use Rattle.calls.specs.Table.{trueIn}
 
 -- the matching edge's literal and the bound literals that a reason holds; for an edge disconnected by step 4 the two vertices' bound literals
@@ -31,13 +33,14 @@ Walked d ms r list = Every (λ x. In ms x ⊎ In (recordedIn d r) x) list
 -- "the matching gate's and the other bound literals stood when recorded": the reason is one that the analysis where ms stood recorded, and
 -- what it holds stood there
 pub record Recorded (d : Plan) (ms : List ℕ) (l : ℕ) (r : Reason) : Type 0 where
-  pub proposed : mathlib.Core.List.List·Memᴰ (record { lit = l; why = r }) (analysis d ms .props)
+  pub proposed : List·Memᴰ (record { lit = l; why = r }) (analysis d ms .props)
   pub stood : Every (In ms) (recordedIn d r)
 
--- ms stood, and then literals were notified until ls stood
-pub data Earlier (ms : List ℕ) : List ℕ → Type 0 where
-  still : Earlier ms ms
-  since : {ls : List ℕ} (l : ℕ) → Earlier ms ls → Earlier ms (l ∷ ls)
+-- the analyses that a call makes in world w, and what stands at each
+pub data Analyzes (d : Plan) (w : World) : Call → List ℕ → Type 0 where
+  ofPropagate : (room : Bool) (t : List ℕ) (l : ℕ) (pending : Bool) → pending ≡ false → (Stands w l → ⊥) → Analyzes d w (propagate room t l pending) (l ∷ w .standing)
+  ofInitialize : (room : Bool) (t : List ℕ) (a : Going) (l : ℕ) (ls : List ℕ) → Stage d w t a (l ∷ ls) → (Stands (a .world) l → ⊥) → Analyzes d w (initialize room t) (l ∷ a .world .standing)
+  ofLast : (room : Bool) (t : List ℕ) (a : Going) → Stage d w t a [] → Analyzes d w (initialize room t) (a .world .standing)
 
 -- "a false proposal's negation is true in the table": all that a conflict lists stands, but that negation
 pub data Backed (ls t : List ℕ) : List ℕ → Type 0 where
