@@ -26,3 +26,4 @@ pub mod Cases
 pub mod Stale
 pub mod Labels
 pub mod Verdicts
+pub mod Agree

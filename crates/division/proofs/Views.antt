@@ -158,7 +158,7 @@ module _ (d : Plan) (k : Proper d) (st : List ℕ) (po : Bool) where
       let (i, c, x) = f .listed v (f .all v (j .0) (j .1)) in
       Memᴰ·cast (sym x) (tab-mem (λ n. at (searched e (d .edges) (d .vertices) u) n) _ i c)
 
-  members-only : (u : ℕ) → u < d .vertices → Every (λ p. (p < d .vertices) × (regionLabel d e p ≡ regionLabel d e u)) (membersOf d e u)
+  pub members-only : (u : ℕ) → u < d .vertices → Every (λ p. (p < d .vertices) × (regionLabel d e p ≡ regionLabel d e u)) (membersOf d e u)
   unfolding membersOf
   members-only u h =
       let f = finds d k st po u h in
