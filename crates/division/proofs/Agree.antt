@@ -1,26 +1,25 @@
 -- For the layer below: states and views that agree on the plan's vertices and edges are analyzed alike.
-use Rattle.base.proofs.Lists.{every-map}
-use Rattle.division.specs.Views.{leastIn, mostIn, viewOf, Spot}
 use Prim.Native.Nat.{ℕ, zero, suc, pred, _+_, _<_, min}
 use native.Mathlib.Omega.{arith}
 use native.Mathlib.Nat.{le-step, lt-suc-self}
-use mathlib.Core.Path.{_≡_, refl, sym, _∙_, ap, ap₂, subst}
+use mathlib.Core.Path.{_≡_, refl, sym, _∙_, ap, ap₂}
 use mathlib.Core.Bool.{Bool, true, false, not, _&&_, _||_, true≢false, false≢true}
 use mathlib.Core.List.{List, [], _∷_}
 use lib.Dec.{eqb, ltb}
-use lib.ListN.{getD}
 use borrow.Author.Tests.{ltb-true}
 use Rattle.base.specs.Iter.{iter, pick}
 use Rattle.base.specs.Lists.{Every, none, more}
+use Rattle.base.proofs.Lists.{every-map}
 use Rattle.base.proofs.Loop.{pick-ind, iter-ind}
-use Rattle.base.proofs.Tests.{and-left, and-right}
+use Rattle.base.proofs.Tests.{and-right}
 use Rattle.sat.specs.Literal.{negate}
+use Rattle.division.specs.Views.{leastIn, mostIn, viewOf, Spot}
 use Rattle.division.specs.Plan.{Plan, Proper, left, right, touches, across}
 use Rattle.division.specs.Regions.{lowest}
 use Rattle.division.specs.State.{State, stateOf}
 use Rattle.division.specs.Conflicts.{sumLower, greedy, crowded, apart}
-use Rattle.division.specs.Analysis.{View, conflict, place, Out, propose, ends, guarded, best, lid, rid, inside, matches, loose, matched, uncrossed, overfull, raises, merges, cuts, crowds, meets, parts, spreadsLow, spreadsHigh, spreads, forks, sameSize, sameSizeReason, parted, partsAt, begun, step1, step2, step3, step4, step5, analyzed}
-use Rattle.division.specs.Reasons.{Reason, edgeBetweenDifferentGroups, tooLargeIfRegionsAreMerged, regionAlreadyLarge, regionAlreadySmall, inconsistentBoundsIfRegionsAreMerged, boundPropagationWithinRegion, adjacentSameSizeRegions}
+use Rattle.division.specs.Analysis.{View, conflict, place, Out, propose, ends, guarded, best, inside, matches, loose, matched, uncrossed, overfull, raises, merges, cuts, crowds, meets, parts, spreadsLow, spreadsHigh, spreads, forks, sameSize, sameSizeReason, parted, partsAt, begun, step1, step2, step3, step4, step5, analyzed}
+use Rattle.division.specs.Reasons.{Reason, edgeBetweenDifferentGroups, tooLargeIfRegionsAreMerged, regionAlreadyLarge, regionAlreadySmall, inconsistentBoundsIfRegionsAreMerged, boundPropagationWithinRegion}
 use Rattle.division.proofs.Views.{lowest-cong, label-own, members-only, shows}
 use Rattle.division.proofs.Conflicts.{greedy-every}
 use Rattle.division.proofs.Phases.{best-has}
@@ -56,7 +55,7 @@ pub record InRange (d : Plan) (x : View) : Type 0 where
   pub cells : (r : ℕ) → r < d .vertices → Every (λ p. p < d .vertices) (x .cells r)
 
 -- a choice by equal tests of what is equal where it is chosen
-pick-same : {A : Type 0} (b c : Bool) {x y u v : A} → b ≡ c → (c ≡ true → x ≡ y) → u ≡ v → pick b x u ≡ pick c y v
+pub pick-same : {A : Type 0} (b c : Bool) {x y u v : A} → b ≡ c → (c ≡ true → x ≡ y) → u ≡ v → pick b x u ≡ pick c y v
 unfolding pick
 pick-same true true e f g = f refl
 pick-same true false e f g = absurd (true≢false e)
@@ -69,7 +68,7 @@ loop-same f g zero o h = refl
 loop-same f g (suc n) o h =
     ap (guarded f n) (loop-same f g n o (λ i l a. h i (le-step l) a)) ∙ pick-same _ _ refl (λ _. h n (lt-suc-self n) _) refl
 
-lowest-same : (t u : ℕ → Bool) (n : ℕ) → ((i : ℕ) → i < n → t i ≡ u i) → lowest t n ≡ lowest u n
+pub lowest-same : (t u : ℕ → Bool) (n : ℕ) → ((i : ℕ) → i < n → t i ≡ u i) → lowest t n ≡ lowest u n
 lowest-same t u n h = lowest-cong t u n (λ i l e. sym (h i l) ∙ e) (λ i l e. h i l ∙ e)
 
 best-same : (t u : ℕ → ℕ → Bool) (P : ℕ → Type 0) → ((c a : ℕ) → P c → P a → t c a ≡ u c a) → (a : ℕ) (cs : List ℕ) → P a → Every P cs → best t a cs ≡ best u a cs

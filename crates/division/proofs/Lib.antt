@@ -27,3 +27,4 @@ pub mod Stale
 pub mod Labels
 pub mod Verdicts
 pub mod Agree
+pub mod Alike

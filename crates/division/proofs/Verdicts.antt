@@ -1,21 +1,20 @@
 -- When an analysis ends in a refusal: bounds that cross (12), a fixed size 0 (13).
 use Prim.Native.Nat.{ℕ, zero, suc, _<_}
 use native.Mathlib.Omega.{arith}
-use native.Mathlib.Nat.{not-suc-le-zero, lt-suc-self}
+use native.Mathlib.Nat.{not-suc-le-zero}
 use mathlib.Core.Path.{_≡_, refl, sym, _∙_, ap, subst}
-use mathlib.Core.Logic.{_⊎_, inl, inr, ⊎-elim, _↔_}
-use mathlib.Core.Bool.{Bool, true, false, true≢false, false≢true}
-use lib.Dec.{eqb, ltb}
+use mathlib.Core.Logic.{_⊎_, inl, inr, ⊎-elim}
+use mathlib.Core.Bool.{Bool, true, false, true≢false}
 use borrow.Author.Tests.{eqb-true, eq-eqb, ltb-true, lt-ltb}
-use Rattle.base.specs.Iter.{iter, pick}
+use Rattle.base.specs.Iter.{iter}
 use Rattle.base.proofs.Loop.{iter-ind, pick-ind, pick-yes, pick-no, tested}
 use Rattle.graph.proofs.Mark.{lt-cases}
 use Rattle.division.specs.Plan.{Plan, across}
 use Rattle.division.specs.State.{State}
 use Rattle.division.specs.Conflicts.{Conflict}
 use Rattle.division.specs.Analysis.{View, Verdict, going, conflict, crossed, zeroSize, Out, still, propose, ends, guarded, inside, matched, uncrossed, overfull, raises, merges, cuts, crowds, meets, parts, spreadsLow, spreadsHigh, spreads, sameSize, parted, partsAt, begun, step1, step2, step3, step4, step5, analyzed}
-use Rattle.division.proofs.Phases.{still-going, going-still}
 use Rattle.division.specs.Refusals.{Crosses, FixedZero}
+use Rattle.division.proofs.Phases.{still-going, going-still}
 
 -- a loop that has stopped stays as it is
 stuck : (f : ℕ → Out → Out) (n : ℕ) (o : Out) → still (o .verdict) ≡ false → iter (guarded f) n o ≡ o

@@ -69,7 +69,7 @@ unfolding insert
 insert-every s p [] x e = more x none
 insert-every {P} s p (q ∷ l) x (more y e) = pick-ind (Every P) _ _ _ (λ _. more x (more y e)) (λ _. more y (insert-every s p l x e))
 
-sorted-every : {P : ℕ → Type 0} (s : State) (l : List ℕ) → Every P l → Every P (sorted s l)
+pub sorted-every : {P : ℕ → Type 0} (s : State) (l : List ℕ) → Every P l → Every P (sorted s l)
 unfolding sorted
 sorted-every s [] e = none
 sorted-every s (p ∷ l) (more x e) = insert-every s p _ x (sorted-every s l e)
