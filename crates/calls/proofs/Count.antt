@@ -126,7 +126,7 @@ module _ (d : Plan) (k : Proper d) where
   unfolding stop clashes offered
   saw-handed ls t c h (sawStop n) m = none-handed d t
   saw-handed ls t c h (sawConflict x e) m = none-handed d t
-  saw-handed ls t c h (sawFalse p ps e) m = none-handed d t
+  saw-handed ls t c h (sawFalse p ps e cur) m = none-handed d t
   saw-handed ls t c h (sawFine e) m = record {
     marked = m;
     known = λ l n. proposed-known ls c l (offer-in (analysis d ls) l (hand-in l t (offers (analysis d ls)) n));

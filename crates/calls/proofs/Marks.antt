@@ -99,7 +99,7 @@ saw-marked : (d : Plan) (ls t : List ℕ) {o : Looked} → Saw d ls t o → Mark
 unfolding stop clashes offered
 saw-marked d ls t (sawStop n) = unmarked t
 saw-marked d ls t (sawConflict c e) = unmarked t
-saw-marked d ls t (sawFalse p ps e) = unmarked t
+saw-marked d ls t (sawFalse p ps e cur) = unmarked t
 saw-marked d ls t (sawFine e) = hand-marked t (offers (analysis d ls))
 
 pub looked-marked : (d : Plan) (ls t : List ℕ) (o : Looked) → o ≡ looked d ls t → Marked t (o .handed) (o .table)

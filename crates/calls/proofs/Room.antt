@@ -111,7 +111,7 @@ module _ (d : Plan) (k : Proper d) where
   unfolding stop clashes offered falseList listFor
   saw-left ls t c (sawStop n) = zero-le
   saw-left ls t c (sawConflict z e) = conflicts d k ls c z e .fits
-  saw-left ls t c (sawFalse p ps e) =
+  saw-left ls t c (sawFalse p ps e cur) =
       let (r, q) = reason-there p (analysis d ls .props) (offer-in (analysis d ls) p (first-in t p ps _ e)) in
       let j : Justifies d ls p r = each-found p r (analysis d ls .props) (reasons d k ls c ls c (λ _ m. m)) q in
       subst (λ (z : List Reason). length (listFor d ls z ++ (negate p ∷ [])) ≤ room d) (sym q) (simp length-append (omega (arith, j .fits)))

@@ -27,7 +27,7 @@ use Rattle.division.proofs.Walk.{within-joined}
 use Rattle.division.proofs.Noting.{noted-all}
 use Rattle.division.proofs.Whole.{each-found, reason-there, reasons, conflicts}
 use Rattle.calls.specs.Refusals.{Stage}
-use Rattle.calls.specs.Table.{codeOf, trueIn, falseIn, coded}
+use Rattle.calls.specs.Table.{codeOf, trueIn, falseIn, coded, someCurrent}
 use Rattle.calls.specs.Look.{clash, Looked, looked, firstFalse, listFor, falseList, stop, clashes, offered, unjoined, gone, fine}
 use Rattle.calls.specs.Calls.{World, Call, calcReason, conflicting, reason, Outcome, Going, call, run, joinBy, refuse, noting, settledBy, give, lastBy, finishBy, entry, initialize, adding}
 use Rattle.calls.specs.Claim.{answered}
@@ -248,18 +248,19 @@ module _ (d : Plan) (k : Proper d) where
   unfolding stop clashes offered falseList listFor
   saw-backed ls t c (sawStop n) h = absurd (stop-not-clash n h)
   saw-backed ls t c (sawConflict z e) h = allStand (conflicts d k ls c z e .stands)
-  saw-backed ls t c (sawFalse p ps e) h =
+  saw-backed ls t c (sawFalse p ps e cur) h =
       let (r, q) = reason-there p (analysis d ls .props) (offer-in (analysis d ls) p (first-in t p ps _ e)) in
       let j : Justifies d ls p r = each-found p r (analysis d ls .props) (reasons d k ls c ls c (λ _ m. m)) q in
       subst (λ (z : List Reason). Backed ls t (listFor d ls z ++ (negate p ∷ []))) (sym q)
-      (ofFalse (fetched d ls r) p (j .stands) (false-negation t p (first-false t _ p ps e)))
+      (ofFalse (fetched d ls r) p (j .stands) (false-negation t p (first-false t _ p ps e))
+      (subst (λ (z : List Reason). someCurrent t (listFor d ls z ++ (negate p ∷ [])) ≡ true) q cur))
   saw-backed ls t c (sawFine e) h = absurd (clash-not-fine (sym h))
 
   saw-table : (ls t : List ℕ) {o : Looked} → Saw d ls t o → o .judgement ≡ clash → o .table ≡ t
   unfolding stop clashes offered
   saw-table ls t (sawStop n) h = refl
   saw-table ls t (sawConflict z e) h = refl
-  saw-table ls t (sawFalse p ps e) h = refl
+  saw-table ls t (sawFalse p ps e cur) h = refl
   saw-table ls t (sawFine e) h = absurd (clash-not-fine (sym h))
 
   looked-backed : (ls t : List ℕ) → Consistent ls → (o : Looked) → o ≡ looked d ls t → o .judgement ≡ clash → Backed ls (o .table) (o .left)

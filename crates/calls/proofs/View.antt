@@ -10,7 +10,7 @@ use Rattle.division.specs.Conflicts.{Conflict, conflictList}
 use Rattle.division.specs.Analysis.{zeroSize, Verdict, going, conflict, crossed}
 use Rattle.division.specs.Noting.{noteAll}
 use Rattle.division.specs.Runs.{analysis, fetched, reasonOf}
-use Rattle.calls.specs.Table.{entered, badTable}
+use Rattle.calls.specs.Table.{entered, badTable, someCurrent}
 use Rattle.calls.specs.Look.{Judgement, fine, clash, stopped, Looked, offers, firstFalse, falseList, stop, clashes, offered, lookedBy, looked, gone}
 use Rattle.calls.specs.Calls.{World, Call, initialize, propagate, undo, calcReason, calcLast, noted, undone, tableOf, Outcome, refuse, taken, adding, settledBy, settled, onPropagate, takeBack, onUndo, give, giveReason, onCalcReason, onCalcLast, Going, joinBy, oneBy, propagateAll, lastBy, finishBy, entry, onInitialize, call}
 
@@ -18,7 +18,7 @@ use Rattle.calls.specs.Calls.{World, Call, initialize, propagate, undo, 
 pub data Saw (d : Plan) (ls t : List ℕ) : Looked → Type 0 where
   sawStop : (n : ℕ) → Saw d ls t (stop n t)
   sawConflict : (c : Conflict) → analysis d ls .verdict ≡ conflict c → Saw d ls t (clashes (analysis d ls) t (conflictList d (noteAll d ls) c))
-  sawFalse : (p : ℕ) (ps : List ℕ) → firstFalse t (offers (analysis d ls)) ≡ p ∷ ps → Saw d ls t (clashes (analysis d ls) t (falseList d ls (analysis d ls) p))
+  sawFalse : (p : ℕ) (ps : List ℕ) → firstFalse t (offers (analysis d ls)) ≡ p ∷ ps → someCurrent t (falseList d ls (analysis d ls) p) ≡ true → Saw d ls t (clashes (analysis d ls) t (falseList d ls (analysis d ls) p))
   sawFine : analysis d ls .verdict ≡ going → Saw d ls t (offered d ls t (analysis d ls) [])
 
 pub saw : (d : Plan) (ls t : List ℕ) → Saw d ls t (looked d ls t)
@@ -30,7 +30,7 @@ saw d ls t = by (analysis d ls .verdict) refl
     offers-by (p ∷ ps) v e = rest
       where
         rest : Saw d ls t (offered d ls t (analysis d ls) (p ∷ ps))
-        rest = pick-ind (Saw d ls t) _ _ _ (λ _. sawFalse p ps e) (λ _. sawStop 14)
+        rest = pick-ind (Saw d ls t) _ _ _ (λ cur. sawFalse p ps e cur) (λ _. sawStop 14)
 
     by : (v : Verdict) → analysis d ls .verdict ≡ v → Saw d ls t (lookedBy d ls t (analysis d ls) v)
     by going e = offers-by _ e refl

@@ -12,7 +12,7 @@ use Rattle.division.specs.Noting.{In}
 use Rattle.division.specs.Runs.{analysis}
 use Rattle.calls.specs.Calls.{World, Call, initialize, propagate, Going}
 use Rattle.calls.specs.Refusals.{Stands, Stage}
-use Rattle.calls.specs.Table.{trueIn}
+use Rattle.calls.specs.Table.{trueIn, someCurrent}
 
 -- the matching edge's literal and the bound literals that a reason holds; for an edge disconnected by step 4 the two vertices' bound literals
 -- are those of the fetch
@@ -42,7 +42,8 @@ pub data Analyzes (d : Plan) (w : World) : Call → List ℕ → Type 0 where
   ofInitialize : (room : Bool) (t : List ℕ) (a : Going) (l : ℕ) (ls : List ℕ) → Stage d w t a (l ∷ ls) → (Stands (a .world) l → ⊥) → Analyzes d w (initialize room t) (l ∷ a .world .standing)
   ofLast : (room : Bool) (t : List ℕ) (a : Going) → Stage d w t a [] → Analyzes d w (initialize room t) (a .world .standing)
 
--- "a false proposal's negation is true in the table": all that a conflict lists stands, but that negation
+-- "a false proposal's negation is true in the table": all that a conflict lists stands, but that negation. The rule that some literal is of the
+-- current level is promised only where 14 tests it: of a false proposal's list.
 pub data Backed (ls t : List ℕ) : List ℕ → Type 0 where
   allStand : {list : List ℕ} → Every (In ls) list → Backed ls t list
-  ofFalse : (list : List ℕ) (p : ℕ) → Every (In ls) list → trueIn t (negate p) ≡ true → Backed ls t (list ++ (negate p ∷ []))
+  ofFalse : (list : List ℕ) (p : ℕ) → Every (In ls) list → trueIn t (negate p) ≡ true → someCurrent t (list ++ (negate p ∷ [])) ≡ true → Backed ls t (list ++ (negate p ∷ []))
