@@ -28,3 +28,4 @@ pub mod Labels
 pub mod Verdicts
 pub mod Agree
 pub mod Alike
+pub mod Adjacent
