@@ -1,9 +1,9 @@
 -- The range tests, from the comparisons that the code makes: an i32 is read as `toZ w32 (ofZ w32 z)`.
 use mathlib.Core.Path.{_≡_, refl, sym, ap, _∙_, subst}
 use mathlib.Core.Bool.{Bool, true, false, true≢false, false≢true}
-use Prim.Native.Nat.{ℕ, _≤_}
+use Prim.Native.Nat.{ℕ, suc, _≤_}
 use lib.IntN.{ℤ, pos, negsuc, natAbs}
-use lib.Signed.{ltZ, leZ, nonNeg}
+use lib.Signed.{ltZ, leZ, nonNeg, mag}
 use lib.Dec.{T}
 use borrow.Author.Tests.{leb-true, ltb-true}
 use native.Mathlib.Nat.{not-suc-le-zero}
@@ -62,6 +62,10 @@ module _ (n : ℤ) (f : SFits w32 n) where
 
   pub nat-is : ltZ (read n) (pos 0) ≡ false → natAbs (read n) ≡ toNat n
   nat-is e = ap natAbs (toZ-ofZ f) ∙ nat-same e .1
+
+-- a number that a call answered, read back
+pub reads-back : (z : ℤ) → suc (mag z) ≤ 2147483648 → toZ w32 (ofZ w32 z) ≡ z
+reads-back z h = toZ-ofZ (record { sfits = h })
 
 -- what a passed test says of the natural number
 pub in-range-nat : (most : ℕ) (n : ℤ) → inRange (pos most) n ≡ true → toNat n ≤ most

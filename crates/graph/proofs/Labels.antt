@@ -10,7 +10,7 @@ use lib.Dec.{eqb, ltb}
 use lib.ListN.{length, getD}
 use borrow.Author.Tests.{eqb-true, eqb-false, ltb-true, ltb-false}
 use Rattle.base.specs.Iter.{iter, pick}
-use Rattle.base.proofs.Loop.{iter-ind, pick-ind, eq-or-not, tested, pick-yes, pick-no}
+use Rattle.base.proofs.Loop.{iter-ind, iter-done, pick-ind, eq-or-not, pick-yes, pick-no}
 use Rattle.graph.specs.Lists.{mapped}
 use Rattle.graph.specs.Search.{Graph, isOpen, endA, endB}
 use Rattle.graph.specs.Bounds.{Fine}
@@ -144,3 +144,8 @@ module _ (e : Graph) (edges vertices : ℕ) where
         chain m w p (there g c l) =
             chain m w p c ∙ ⊎-elim (λ x. sym (ap (labelOf m) (x .0)) ∙ w .passed g (l .known) (l .passed) ∙ ap (labelOf m) (x .1))
             (λ x. sym (ap (labelOf m) (x .0)) ∙ sym (w .passed g (l .known) (l .passed)) ∙ ap (labelOf m) (x .1)) (l .ends)
+
+-- the loop over the edges is left
+pub labelled-done : (e : Graph) (edges vertices k : ℕ) (l m x : List ℕ) → m ≡ alone vertices l → x ≡ iter (bridged e vertices) k m → k ≤ edges → edges ≤ k → x ≡ labelled e edges vertices l
+unfolding labelled
+labelled-done e edges vertices k l m x s h i j = iter-done _ _ _ _ _ h i j ∙ ap (iter (bridged e vertices) edges) s

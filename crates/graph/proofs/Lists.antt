@@ -1,25 +1,20 @@
--- Loops over the first entries of a list, and sums.
+-- Loops over the first entries of a list.
 use Prim.Native.Nat.{ℕ, zero, suc, _+_, _<_, _≤_, zero-le}
-use native.Mathlib.Nat.{not-suc-le-zero, le-step, lt-suc-self}
+use native.Mathlib.Nat.{not-suc-le-zero, le-step, lt-suc-self, le-antisymm}
+use native.Mathlib.Numerals.{add-one}
 use native.Mathlib.Omega.{arith}
 use mathlib.Core.Path.{_≡_, refl, sym, _∙_, ap, ap₂, subst}
 use mathlib.Core.Logic.{_⊎_, inl, inr, ⊎-elim}
-use mathlib.Core.Bool.{Bool, true, false, _&&_}
+use mathlib.Core.Bool.{Bool, true, false, _&&_, true≢false}
 use mathlib.Core.List.{List, [], _∷_}
+use lib.Dec.{ltb}
 use lib.ListN.{length, getD, set, length-set}
+use borrow.Author.Tests.{lt-ltb, le-ltb}
 use lib.Seq.{getD-set-same, getD-set-other}
 use Rattle.base.specs.Iter.{iter, pick}
 use Rattle.base.proofs.Loop.{iter-ind, eq-or-not, tested, pick-yes, pick-no}
-use Rattle.graph.specs.Lists.{put, mapped, every, total}
-
-pub and-left : (a b : Bool) → (a && b) ≡ true → a ≡ true
-and-left true b e = refl
-and-left false b e = e
-
-pub and-right : (a b : Bool) → (a && b) ≡ true → b ≡ true
-and-right true true e = refl
-and-right true false e = e
-and-right false b e = absurd (mathlib.Core.Bool.false≢true e)
+use Rattle.graph.specs.Lists.{put, mapped, every}
+use Rattle.base.proofs.Tests.{and-left, and-right}
 
 pub and-both : (a b : Bool) → a ≡ true → b ≡ true → (a && b) ≡ true
 and-both true true p q = refl
@@ -31,7 +26,7 @@ and-no true b e = e
 and-no false b e = refl
 
 pub and-no′ : (a b : Bool) → a ≡ false → (a && b) ≡ false
-and-no′ true b e = absurd (mathlib.Core.Bool.true≢false e)
+and-no′ true b e = absurd (true≢false e)
 and-no′ false b e = refl
 
 -- the lists of a loop over the first entries, at place i
@@ -83,3 +78,24 @@ every-not b zero i k e = absurd (not-suc-le-zero k)
 every-not b (suc n) i k e =
     ⊎-elim (λ (x : i ≡ n). and-no (every b n) (b n) (subst (λ j. b j ≡ false) x e))
     (λ (x : i ≡ n → ⊥). and-no′ (every b n) (b n) (every-not b n i (omega arith) e)) (eq-or-not i n)
+
+-- one more, as code counts
+pub every-more : (b : ℕ → Bool) (n : ℕ) → every b n ≡ true → b n ≡ true → every b (n + 1) ≡ true
+unfolding every
+every-more b n h e = rw add-one (and-both _ _ h e)
+
+-- the loop is left
+pub every-done : (b : ℕ → Bool) (n m : ℕ) → every b n ≡ true → n ≤ m → m ≤ n → every b m ≡ true
+every-done b n m e h k = subst (λ i. every b i ≡ true) (le-antisymm h k) e
+
+-- a store of what f gives
+pub put-as : (f : ℕ → ℕ → ℕ) (i : ℕ) (l : List ℕ) (x : ℕ) → x ≡ f i (getD l i 0) → set l i x ≡ put f i l
+unfolding put
+put-as f i l x e = ap (λ (y : ℕ). set l i y) e
+
+-- a test of what was read
+pub ltb-read : (x y n : ℕ) → x ≡ y → x < n → ltb y n ≡ true
+ltb-read x y n e h = lt-ltb y n (subst (λ z. z < n) e h)
+
+pub ltb-read-no : (x y n : ℕ) → x ≡ y → n ≤ x → ltb y n ≡ false
+ltb-read-no x y n e h = le-ltb y n (subst (λ z. n ≤ z) e h)

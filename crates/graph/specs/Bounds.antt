@@ -1,9 +1,12 @@
 -- What keeps a search within its arrays.
 use Prim.Native.Nat.{ℕ, zero, suc, _+_, _<_, _≤_}
 use mathlib.Core.Path.{_≡_}
-use mathlib.Core.Bool.{Bool, true, false}
+use mathlib.Core.Bool.{Bool, true, false, _&&_}
 use mathlib.Core.List.{List, [], _∷_}
+use lib.Dec.{ltb}
 use lib.ListN.{length, getD}
+use Rattle.base.specs.Iter.{pick}
+use Rattle.graph.specs.Lists.{every}
 use Rattle.graph.specs.Search.{Scan, reachedYet}
 
 unfoldable pub bit : Bool → ℕ
@@ -39,3 +42,12 @@ pub record Ok (n : ℕ) (s : Scan) : Type 0 where
   pub small : (i : ℕ) → i < 128 → getD (s .words) i 0 < 64
   pub full : ones (reachedYet s) 64 ≡ s .count
   pub low : (q : ℕ) → reachedYet s q ≡ true → q < n
+
+-- whether the ends of edge g are below n
+unfoldable pub endsBelow : ℕ → List (List ℕ) → ℕ → Bool
+endsBelow n es g = ltb (getD (getD es g []) 0 0) n && ltb (getD (getD es g []) 1 0) n
+
+-- whether a graph can be walked: it fits, each edge has a state, and each edge's ends are vertices
+unfoldable pub walkable : List (List ℕ) → List ℕ → ℕ → ℕ → Bool
+walkable es st edges vertices =
+    pick (ltb 64 vertices) false (pick (ltb 128 edges) false (pick (ltb (length st) edges) false (every (endsBelow vertices es) edges)))

@@ -8,6 +8,7 @@ use lib.ListN.{getD}
 use Rattle.base.specs.Iter.{iter, pick}
 use Rattle.graph.specs.Lists.{mapped}
 use Rattle.graph.specs.Search.{Graph, isOpen, endA, endB}
+use Rattle.graph.specs.Bounds.{walkable}
 use Rattle.graph.specs.Paths.{Joined}
 
 -- the label of vertex q
@@ -36,6 +37,10 @@ alone vertices l = mapped (λ i _. i) vertices l
 -- the labels once every edge was walked, in a list that was lent
 unfoldable pub labelled : Graph → ℕ → ℕ → List ℕ → List ℕ
 labelled e edges vertices l = iter (bridged e vertices) edges (alone vertices l)
+
+-- the same, where the graph can be walked
+unfoldable pub regionsOf : Graph → ℕ → ℕ → List ℕ → List ℕ
+regionsOf e edges vertices l = pick (walkable (e .ends) (e .state) edges vertices) (labelled e edges vertices l) l
 
 -- Document 01's region, "pens joined by open gates": two vertices have one label exactly if they are joined, and it is the lowest vertex of the region.
 pub record Labelled (e : Graph) (edges vertices : ℕ) (l : List ℕ) : Type 0 where

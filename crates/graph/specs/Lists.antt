@@ -1,9 +1,9 @@
--- Loops over the first entries of a list, and sums.
-use Prim.Native.Nat.{ℕ, zero, suc, _+_}
-use mathlib.Core.Bool.{Bool, true, false, _&&_}
+-- Loops over the first entries of a list.
+use Prim.Native.Nat.{ℕ, zero, suc}
+use mathlib.Core.Bool.{Bool, true, _&&_}
 use mathlib.Core.List.{List}
 use lib.ListN.{getD, set}
-use Rattle.base.specs.Iter.{iter, pick}
+use Rattle.base.specs.Iter.{iter}
 
 -- entry i becomes f of its place and of what it was
 unfoldable pub put : (ℕ → ℕ → ℕ) → ℕ → List ℕ → List ℕ
@@ -17,8 +17,3 @@ mapped f n l = iter (put f) n l
 unfoldable pub every : (ℕ → Bool) → ℕ → Bool
 every b zero = true
 every b (suc n) = every b n && b n
-
--- the sum of w over those below n that b takes in
-unfoldable pub total : (ℕ → Bool) → (ℕ → ℕ) → ℕ → ℕ
-total b w zero = 0
-total b w (suc n) = total b w n + pick (b n) (w n) 0

@@ -1,0 +1,20 @@
+use mathlib.Core.Path.{_≡_, refl, sym, ap, _∙_}
+use mathlib.Core.Bool.{Bool, true, false, not, _&&_, _||_}
+use lib.IntN.{ℤ, pos}
+use Rattle.base.specs.Range.{inRange, toNat}
+use Rattle.base.proofs.Range.{reads-back}
+use borrow.Author.Needs.{needs}
+use Rattle.builder.proofs.input.bad_size_lit.Statement.{statement}
+use Rattle.builder.proofs.input.bad_size_lit.Tie as tie
+
+size-lit-requires : tie.Need-size-lit-requires
+size-lit-requires c κs = search needs
+
+in-range-requires : tie.Need-in-range-requires
+in-range-requires c κs = search needs
+
+returns : tie.Need-returns
+returns c = ap not (c .in-range .ensures ∙ ap (inRange (pos 8191)) (reads-back _ (c .before .size-lit .ok) ∙ c .before .size-lit .ensures))
+
+pub bad-size-lit-spec : {M : Type 1} → statement M
+bad-size-lit-spec = tie.close (tie.spec size-lit-requires in-range-requires returns)

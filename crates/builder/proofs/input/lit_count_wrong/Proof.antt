@@ -1,0 +1,45 @@
+use mathlib.Core.Path.{_≡_, sym, _∙_}
+use mathlib.Core.Bool.{Bool, true, false, not, _&&_, _||_}
+use Prim.Native.Nat.{ℕ, suc, pred, _+_, _-_, _≤_, _<_}
+use native.Mathlib.Omega.{arith}
+use lib.IntN.{pos}
+use lib.Dec.{eqb, ltb}
+use borrow.Author.Needs.{needs}
+use Rattle.base.specs.Lists.{some}
+use Rattle.base.specs.Range.{inRange, toNat}
+use Rattle.base.proofs.Some.{some-zero, some-found, some-more, some-done}
+use Rattle.builder.specs.Input.{weightAt, sizesAt, litAt, edgeLitAt, leftAt, rightAt, lenAt, isVertex, sizeWrong, domainWrong, litCountWrongAt, sizeLitOutside}
+use Rattle.builder.proofs.input.lit_count_wrong.Statement.{statement}
+use Rattle.builder.proofs.input.lit_count_wrong.Tie as tie
+
+abbrev Inv-loop : tie.InvT-loop
+Inv-loop vertices n v₀ v = (v ≤ n) × (some (litCountWrongAt vertices) v ≡ false)
+
+abbrev μ-loop : tie.MeasureT-loop
+μ-loop vertices n v₀ v = n - v
+
+loop-holds : tie.Need-loop-holds Inv-loop μ-loop
+loop-holds c = (omega arith, some-zero _)
+
+bad-lit-count-requires : tie.Need-bad-lit-count-requires Inv-loop μ-loop
+bad-lit-count-requires c κs = search needs
+
+returns : tie.Need-returns Inv-loop μ-loop
+returns c = sym (some-found _ _ (c .before .before .before .loop .v) (omega arith) (sym (c .before .bad-lit-count .ensures) ∙ c .if1 .taken))
+
+add-v : tie.Need-add-v Inv-loop μ-loop
+add-v c = omega arith
+
+loop-less : tie.Need-loop-less Inv-loop μ-loop
+loop-less c = omega arith
+
+loop-again : tie.Need-loop-again Inv-loop μ-loop
+loop-again c =
+    let l = c .before .before .before .loop in
+    (omega arith, some-more _ (l .v) (l .inv .1) (sym (c .before .bad-lit-count .ensures) ∙ c .if1 .left))
+
+returns-2 : tie.Need-returns-2 Inv-loop μ-loop
+returns-2 c = sym (some-done _ (c .before .loop .v) _ (c .before .loop .inv .1) (omega arith) (omega arith))
+
+pub lit-count-wrong-spec : {M : Type 1} → statement M
+lit-count-wrong-spec = tie.close (tie.spec Inv-loop μ-loop loop-holds bad-lit-count-requires returns add-v loop-less loop-again returns-2)

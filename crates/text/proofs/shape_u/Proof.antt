@@ -1,0 +1,30 @@
+use mathlib.Core.Path.{_≡_, sym, ap, _∙_}
+use borrow.Author.Tests.{eq-eqb, ne-eqb}
+use Rattle.base.proofs.Loop.{pick-yes, pick-no}
+use mir.Syntax.{w32}
+use mir.Facts.{toZ-ofZ}
+use Rattle.text.specs.declared.Line.the-variants.{U}
+use Rattle.text.specs.Lines.{shapeU}
+use borrow.Author.Needs.{needs}
+use Rattle.text.proofs.shape_u.Statement.{statement}
+use Rattle.text.proofs.shape_u.Tie as tie
+use Rattle.text.proofs.shape_u.Reads as reads
+use Rattle.text.proofs.shape_u.Lts as lts
+use Rattle.text.proofs.signed.Reads as signed-reads
+
+-- src/lib.rt:352:9
+returns : tie.Need-returns
+unfolding shapeU
+returns c = sym (pick-no _ _ (ne-eqb _ _ (c .if1 .taken)))
+
+-- src/lib.rt:354:9
+signed-requires : tie.Need-signed-requires
+signed-requires c κs = search needs
+
+-- src/lib.rt:346:1
+returns-2 : tie.Need-returns-2
+unfolding shapeU
+returns-2 c = ap U (toZ-ofZ {w = w32} (record { sfits = c .signed .ok }) ∙ c .signed .ensures) ∙ sym (pick-yes _ _ (eq-eqb _ _ (c .before .if1 .left)))
+
+pub shape-u-spec : {M : Type 1} → statement M
+shape-u-spec = tie.close (tie.spec returns signed-requires returns-2)

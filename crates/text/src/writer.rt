@@ -1,0 +1,4 @@
+pub enum Written {
+    Next(usize),
+    TooSmall,
+}
