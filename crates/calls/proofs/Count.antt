@@ -10,6 +10,7 @@ use lib.Dec.{eqb, ltb}
 use lib.ListN.{length}
 use borrow.Author.Tests.{eqb-true, ltb-true, ltb-false}
 use Rattle.base.specs.Iter.{pick}
+use Rattle.base.specs.Lists.{some}
 use Rattle.base.proofs.Loop.{pick-ind}
 use Rattle.base.proofs.Tests.{or-cases}
 use Rattle.graph.proofs.Mark.{lt-cases}
@@ -19,7 +20,7 @@ use Rattle.division.specs.Runs.{analysis}
 use Rattle.division.proofs.Noting.{noted-all}
 use Rattle.division.proofs.Rules.{proposed-explained}
 use Rattle.division.proofs.Whole.{each-found, reason-there}
-use Rattle.calls.specs.Table.{some, most, knows, variables, rising, badTable, enter}
+use Rattle.calls.specs.Table.{most, knows, variables, rising, badTable, enter}
 use Rattle.calls.specs.Look.{Looked, offers, handOn, stop, clashes, offered, looked}
 use Rattle.calls.specs.Calls.{World, Call, Outcome, refuse, noting, settledBy, give, Going, joinBy, lastBy, finishBy, entry, call, run}
 use Rattle.calls.specs.Claim.{answered}
