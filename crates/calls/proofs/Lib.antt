@@ -14,3 +14,4 @@ pub mod Computes
 pub mod Cases
 pub mod Refusals
 pub mod Truths
+pub mod Alike

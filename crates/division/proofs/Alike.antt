@@ -1,7 +1,7 @@
 -- For the layer below: states that agree on the plan have one view, one analysis, and the same lists.
 use Prim.Native.Nat.{ℕ, zero, suc, pred, _+_, _<_}
 use native.Mathlib.Nat.{le-step, lt-suc-self}
-use mathlib.Core.Path.{_≡_, refl, _∙_, ap, ap₂}
+use mathlib.Core.Path.{_≡_, refl, _∙_, ap, ap₂, sym}
 use mathlib.Core.Bool.{Bool, true, false, not, _&&_, _||_}
 use mathlib.Core.List.{List, [], _∷_, _++_, map}
 use lib.Dec.{eqb, ltb}
@@ -9,19 +9,19 @@ use lib.ListN.{getD}
 use Rattle.base.specs.Iter.{iter, pick}
 use Rattle.base.specs.Lists.{Every, none, more, collect, tab, total}
 use Rattle.base.proofs.Loop.{pick-ind}
-use Rattle.base.proofs.Lists.{collect-every, every-map}
+use Rattle.base.proofs.Lists.{collect-every, every-map, tab-at}
 use Rattle.graph.specs.Search.{Scan, at, edgeTo, reachedYet, Graph, graph, visited, popped, searchedOn, searched, passes}
 use Rattle.graph.specs.Paths.{climb}
+use Rattle.division.specs.Noting.{Bound, noteOne, turn, raise, lessen}
 use Rattle.division.specs.Plan.{Plan, Proper, left, right}
 use Rattle.division.specs.Regions.{within, regionLabel}
 use Rattle.division.specs.State.{State, decided, potential}
-use Rattle.division.specs.Reasons.{connectedLit, connectedPath, decidedRegion, leaves, potentialRegion, Reason, listOf}
+use Rattle.division.specs.Reasons.{connectedLit, connectedPath, decidedRegion, leaves, potentialRegion, Reason, listOf, edgeInSameGroup, edgeBetweenDifferentGroups, tooLargeIfRegionsAreMerged, regionAlreadyLarge, regionAlreadySmall, inconsistentBoundsIfRegionsAreMerged, boundPropagationWithinRegion, adjacentSameSizeRegions}
 use Rattle.division.specs.Conflicts.{spans, Conflict, conflictList}
 use Rattle.division.specs.Analysis.{analyzed}
 use Rattle.division.specs.Views.{weightOf, Spot, leastIn, mostIn, earlier, insert, sorted, cellsOf, membersOf, viewOf}
 use Rattle.division.proofs.Walk.{joined-below}
 use Rattle.division.proofs.Views.{sorted-every}
-use Rattle.division.proofs.Explained.{Explains, byInGroup, byBetween, byTooLarge, byLarge, bySmall, byMismatch, bySpreadLow, bySpreadHigh, bySameSize}
 use Rattle.division.proofs.Proposed.{IsConflict, isDisconnected, isOver, isUnder, isCrowded, isApart}
 use Rattle.division.proofs.Agree.{SameState, SameView, pick-same, lowest-same, analyzed-same, view-in-range}
 
@@ -60,11 +60,22 @@ module _ (es : List (List ℕ)) (st st′ : List ℕ) (po : Bool) (edges : ℕ) 
   unfolding searchedOn
   searched-same vertices u = iter-same (popped e edges) (popped e′ edges) vertices _ (λ h l s. popped-same h s)
 
+-- the two vertices whose bounds are read when the reason is fetched are the plan's
+abbrev pub Names : Plan → Reason → Type 0
+Names d (edgeInSameGroup g) = Unit {0}
+Names d (edgeBetweenDifferentGroups i g f) = Unit {0}
+Names d (tooLargeIfRegionsAreMerged g ls) = Unit {0}
+Names d (regionAlreadyLarge v) = Unit {0}
+Names d (regionAlreadySmall v) = Unit {0}
+Names d (inconsistentBoundsIfRegionsAreMerged g a b f) = (a < d .vertices) × (b < d .vertices)
+Names d (boundPropagationWithinRegion p u ls) = Unit {0}
+Names d (adjacentSameSizeRegions a la ua b lb ub u) = Unit {0}
+
 module _ (d : Plan) (k : Proper d) (s t : State) (q : SameState d s t) where
-  found-same : (po : Bool) (u : ℕ) → searched (graph (d .ends) (s .edgeState) po) (d .edges) (d .vertices) u ≡ searched (graph (d .ends) (t .edgeState) po) (d .edges) (d .vertices) u
+  pub found-same : (po : Bool) (u : ℕ) → searched (graph (d .ends) (s .edgeState) po) (d .edges) (d .vertices) u ≡ searched (graph (d .ends) (t .edgeState) po) (d .edges) (d .vertices) u
   found-same po u = searched-same (d .ends) (s .edgeState) (t .edgeState) po (d .edges) (q .edge) (d .vertices) u
 
-  within-same : (po : Bool) (u i : ℕ) → within d (graph (d .ends) (s .edgeState) po) u i ≡ within d (graph (d .ends) (t .edgeState) po) u i
+  pub within-same : (po : Bool) (u i : ℕ) → within d (graph (d .ends) (s .edgeState) po) u i ≡ within d (graph (d .ends) (t .edgeState) po) u i
   unfolding within
   within-same po u i = ap (λ (f : Scan). reachedYet f i) (found-same po u)
 
@@ -173,16 +184,42 @@ module _ (d : Plan) (k : Proper d) (s t : State) (q : SameState d s t) where
   conflict-same c (isCrowded r ps h n m a l) = ap₂ _++_ (potential-same r) (spans-same ps (every-map (λ p j. joined-below (k .fine) h j) n))
   conflict-same c (isApart p r hp hr j l) = ap₂ _++_ (path-same p r) (ap₂ _++_ (q .lowerLit p hp) (q .upperLit r hr))
 
-  -- and for a reason that explains a literal there
-  pub list-same : (l : ℕ) (r : Reason) → Explains d t l r → listOf d s r ≡ listOf d t r
+  -- and for a reason that names vertices
+  pub list-same : (r : Reason) → Names d r → listOf d s r ≡ listOf d t r
   unfolding listOf
-  list-same l r (byInGroup g h e a) = path-same _ _
-  list-same l r (byBetween i g f hi h e a b) = ap₂ _++_ (path-same _ _) (ap (λ (z : List ℕ). z ++ (d .edgeLit i ∷ [])) (path-same _ _))
-  list-same l r (byTooLarge g ls w b h e hw a u m) = ap₂ _++_ (decided-same _) (ap (λ (z : List ℕ). z ++ ls) (decided-same _))
-  list-same l r (byLarge v j h m e a) = decided-same v
-  list-same l r (bySmall v j h m e a) = potential-same v
-  list-same l r (byMismatch g p z f h e hp hz a b m) = ap₂ _++_ (path-same _ _) (ap₂ _++_ (path-same _ _) (ap₂ _++_ (q .upperLit p hp) (q .lowerLit z hz)))
-  list-same l r (bySpreadLow p u ls b j hp hu m e a w i) = ap (λ (z : List ℕ). z ++ ls) (path-same p u)
-  list-same l r (bySpreadHigh p u ls b j hp hu m e a w i) = ap (λ (z : List ℕ). z ++ ls) (path-same p u)
-  list-same l r (bySameSize a la ua b lb ub u g o h e ha hb hu xa ya xb yb) =
+  list-same (edgeInSameGroup g) n = path-same _ _
+  list-same (edgeBetweenDifferentGroups i g f) n = ap₂ _++_ (path-same _ _) (ap (λ (z : List ℕ). z ++ (d .edgeLit i ∷ [])) (path-same _ _))
+  list-same (tooLargeIfRegionsAreMerged g ls) n = ap₂ _++_ (decided-same _) (ap (λ (z : List ℕ). z ++ ls) (decided-same _))
+  list-same (regionAlreadyLarge v) n = decided-same v
+  list-same (regionAlreadySmall v) n = potential-same v
+  list-same (inconsistentBoundsIfRegionsAreMerged g a b f) n =
+      ap₂ _++_ (path-same _ _) (ap₂ _++_ (path-same _ _) (ap₂ _++_ (q .upperLit a (n .0)) (q .lowerLit b (n .1))))
+  list-same (boundPropagationWithinRegion p u ls) n = ap (λ (z : List ℕ). z ++ ls) (path-same p u)
+  list-same (adjacentSameSizeRegions a la ua b lb ub u) n =
       ap₂ _++_ (decided-same a) (ap₂ _++_ (decided-same b) (ap (λ (z : List ℕ). z ++ (la ++ (ua ++ (lb ++ ub)))) (decided-same u)))
+
+pub same-refl : (d : Plan) (s : State) → SameState d s s
+same-refl d s = record { edge = λ g h. refl; lower = λ v h. refl; upper = λ v h. refl; lowerLit = λ v h. refl; upperLit = λ v h. refl }
+
+pub same-trans : (d : Plan) (s t u : State) → SameState d s t → SameState d t u → SameState d s u
+same-trans d s t u a b = record {
+  edge = λ g h. a .edge g h ∙ b .edge g h;
+  lower = λ v h. a .lower v h ∙ b .lower v h;
+  upper = λ v h. a .upper v h ∙ b .upper v h;
+  lowerLit = λ v h. a .lowerLit v h ∙ b .lowerLit v h;
+  upperLit = λ v h. a .upperLit v h ∙ b .upperLit v h;
+}
+
+bound-same : {a b : ℕ} {k l : List ℕ} → a ≡ b → k ≡ l → _≡_ {A = Bound} (record { bound = a; lits = k }) (record { bound = b; lits = l })
+bound-same p q = cc
+
+-- noting keeps states alike
+pub note-same : (d : Plan) (l : ℕ) (s t : State) → SameState d s t → SameState d (noteOne d l s) (noteOne d l t)
+unfolding noteOne
+note-same d l s t q = record {
+  edge = λ g h. tab-at _ (d .edges) g h ∙ ap (turn d l g) (q .edge g h) ∙ sym (tab-at _ (d .edges) g h);
+  lower = λ v h. ap (λ (b : Bound). raise d l v b .bound) (bound-same (q .lower v h) (q .lowerLit v h));
+  upper = λ v h. ap (λ (b : Bound). lessen d l v b .bound) (bound-same (q .upper v h) (q .upperLit v h));
+  lowerLit = λ v h. ap (λ (b : Bound). raise d l v b .lits) (bound-same (q .lower v h) (q .lowerLit v h));
+  upperLit = λ v h. ap (λ (b : Bound). lessen d l v b .lits) (bound-same (q .upper v h) (q .upperLit v h));
+}
