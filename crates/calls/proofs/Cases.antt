@@ -4,33 +4,15 @@ use mathlib.Core.Path.{_≡_, refl}
 use mathlib.Core.Bool.{true, false}
 use mathlib.Core.List.{List, [], _∷_}
 use Rattle.division.specs.Plan.{Plan}
-use Rattle.division.proofs.Cases.{planWith, plan, planG}
+use Rattle.division.proofs.Cases.{planWith, plan, planB, planD, planE, planG, planH, planS}
 use Rattle.calls.specs.Lines.{value, init, told, only, back, why, last, output}
 use Rattle.calls.proofs.Computes.{answers}
 
-planB : List ℕ → Plan
-planB ds = plan 1 0 [] [] (3 ∷ []) (ds ∷ []) []
-
-planD : Plan
-planD = plan 1 1 ((0 ∷ 0 ∷ []) ∷ []) (0 ∷ []) (1 ∷ []) [] []
-
-planE : Plan
-planE = plan 2 2 ((0 ∷ 1 ∷ []) ∷ (0 ∷ 1 ∷ []) ∷ []) (0 ∷ 2 ∷ []) (1 ∷ 1 ∷ []) [] []
-
-planH : Plan
-planH = plan 2 1 ((0 ∷ 1 ∷ []) ∷ []) (0 ∷ []) (2 ∷ 3 ∷ []) ((2 ∷ []) ∷ (4 ∷ []) ∷ []) []
-
--- two vertices of fixed size 0 and a third one; the option that keeps regions of one size apart is on
-planS : Plan
-planS = planWith true false 3 2 ((2 ∷ 0 ∷ []) ∷ (2 ∷ 1 ∷ []) ∷ []) (0 ∷ 2 ∷ []) (0 ∷ 0 ∷ 1 ∷ []) ((0 ∷ []) ∷ (0 ∷ []) ∷ []) []
-
-caseG : output planG (init ∷ told 0 ∷ told 4 ∷ last ∷ back 4 ∷ back 0 ∷ told 5 ∷ why 0 ∷ []) ≡
-    (0 ∷ []) ∷ (0 ∷ []) ∷ (1 ∷ []) ∷ (3 ∷ 4 ∷ 0 ∷ []) ∷ (0 ∷ []) ∷ (0 ∷ []) ∷ (0 ∷ 0 ∷ 2 ∷ []) ∷ (3 ∷ 5 ∷ []) ∷ []
-unfolding planWith plan planG answers
-caseG = refl
-
-table : List (List (List ℕ))
-table =
+-- document 01's starred cases
+unfoldable pub starred : List (List (List ℕ))
+starred =
+    -- G
+    output planG (init ∷ told 0 ∷ told 4 ∷ last ∷ back 4 ∷ back 0 ∷ told 5 ∷ why 0 ∷ []) ∷
     -- A, B, C, C2
     output (plan 0 0 [] [] [] [] []) (init ∷ []) ∷
     output (planB (2 ∷ [])) (init ∷ last ∷ []) ∷
@@ -47,7 +29,8 @@ table =
     output planH (init ∷ last ∷ []) ∷
     []
 
-cases : table ≡
+pub star : starred ≡
+    ((0 ∷ []) ∷ (0 ∷ []) ∷ (1 ∷ []) ∷ (3 ∷ 4 ∷ 0 ∷ []) ∷ (0 ∷ []) ∷ (0 ∷ []) ∷ (0 ∷ 0 ∷ 2 ∷ []) ∷ (3 ∷ 5 ∷ []) ∷ []) ∷
     ((0 ∷ []) ∷ []) ∷
     ((1 ∷ []) ∷ (3 ∷ []) ∷ []) ∷
     ((1 ∷ []) ∷ (3 ∷ []) ∷ []) ∷
@@ -59,11 +42,12 @@ cases : table ≡
     ((1 ∷ []) ∷ (3 ∷ 1 ∷ 2 ∷ []) ∷ []) ∷
     ((1 ∷ []) ∷ (3 ∷ []) ∷ []) ∷
     []
-unfolding table planB planD planE planH planWith plan planG answers
-cases = refl
+unfolding starred planB planD planE planH planWith plan planG answers
+star = refl
 
-refusals : List (List (List ℕ))
-refusals =
+-- the examples of the table of refusals, 7 to 15; the one of 16 stands with case E
+unfoldable pub examples : List (List (List ℕ))
+examples =
     -- 7, 8, 9, 10, 11
     output planG (value 0 5 ∷ init ∷ []) ∷
     output planG (init ∷ init ∷ []) ∷
@@ -73,14 +57,14 @@ refusals =
     -- 12
     output (plan 1 0 [] [] (4 ∷ []) ((2 ∷ 4 ∷ 6 ∷ []) ∷ []) ((0 ∷ 2 ∷ []) ∷ [])) (only 2 ∷ told 1 ∷ []) ∷
     -- 13
-    output planS (init ∷ []) ∷
+    output (planS (0 ∷ 0 ∷ 1 ∷ []) 0) (init ∷ []) ∷
     -- 14
     output planE (value 0 2 ∷ value 1 1 ∷ init ∷ []) ∷
     -- 15
     output planG (init ∷ why 4 ∷ []) ∷
     []
 
-refusals-shown : refusals ≡
+pub examples-shown : examples ≡
     ((4 ∷ 7 ∷ []) ∷ []) ∷
     ((0 ∷ []) ∷ (4 ∷ 8 ∷ []) ∷ []) ∷
     ((4 ∷ 9 ∷ []) ∷ (4 ∷ 9 ∷ []) ∷ (4 ∷ 9 ∷ []) ∷ []) ∷
@@ -91,10 +75,11 @@ refusals-shown : refusals ≡
     ((4 ∷ 14 ∷ []) ∷ []) ∷
     ((0 ∷ []) ∷ (4 ∷ 15 ∷ []) ∷ []) ∷
     []
-unfolding refusals planE planS planWith plan planG answers
-refusals-shown = refl
+unfolding examples planE planS planWith plan planG answers
+examples-shown = refl
 
-points : List (List (List ℕ))
+-- points of the text that want a second reading
+unfoldable pub points : List (List (List ℕ))
 points =
     -- crossed bounds in initialize's last pass
     output (plan 1 0 [] [] (4 ∷ []) ((2 ∷ 4 ∷ 6 ∷ []) ∷ []) ((0 ∷ 2 ∷ []) ∷ [])) (only 2 ∷ only 1 ∷ value 0 0 ∷ value 1 0 ∷ init ∷ []) ∷
@@ -107,7 +92,7 @@ points =
     output (plan 2 1 ((0 ∷ 1 ∷ []) ∷ []) (2 ∷ []) (1 ∷ 1 ∷ []) ((1 ∷ 2 ∷ []) ∷ []) ((0 ∷ []) ∷ [])) (told 3 ∷ back 3 ∷ why 0 ∷ []) ∷
     []
 
-points-shown : points ≡
+pub points-shown : points ≡
     ((2 ∷ []) ∷ (2 ∷ []) ∷ (4 ∷ 12 ∷ []) ∷ []) ∷
     ((1 ∷ []) ∷ (0 ∷ []) ∷ (0 ∷ []) ∷ (3 ∷ 0 ∷ []) ∷ []) ∷
     ((2 ∷ []) ∷ (4 ∷ 14 ∷ []) ∷ []) ∷

@@ -1,4 +1,5 @@
 -- Condition 3 holds of every proper plan.
+use lib.ListN.{length}
 use Prim.Native.Nat.{ℕ, _+_, _-_, _*_, _/_, _%_}
 use native.Mathlib.Omega.{arith}
 use mathlib.Core.Path.{_≡_, refl, sym, _∙_, ap, subst}
@@ -8,18 +9,19 @@ use mathlib.Core.List.{List, [], _∷_, _++_, List·Memᴰ·head, List·Memᴰ·
 use lib.Dec.{eqb}
 use borrow.Author.Tests.{eqb-true, eq-eqb, ne-eqb}
 use Rattle.base.specs.Lists.{Every}
-use Rattle.base.proofs.Loop.{eq-or-not, pick-yes, pick-no}
+use Rattle.base.proofs.Loop.{eq-or-not, pick-yes, pick-no, pick-ind}
 use Rattle.base.proofs.Tests.{or-cases}
 use Rattle.sat.specs.Literal.{negate, value, Holds}
+use Rattle.division.specs.Analysis.{Proposal}
 use Rattle.division.specs.Plan.{Plain, Plan, Proper}
 use Rattle.division.specs.Division.{Valid, Describes}
 use Rattle.division.specs.Reasons.{Reason}
-use Rattle.division.specs.Noting.{In, Consistent}
+use Rattle.division.specs.Noting.{In, Consistent, noteAll}
 use Rattle.division.specs.Runs.{fetched, reasonOf}
 use Rattle.division.proofs.Proposed.{Full}
 use Rattle.division.proofs.Whole.{exactly, nothing-left}
 use Rattle.calls.specs.Table.{has}
-use Rattle.calls.specs.Look.{Looked}
+use Rattle.calls.specs.Look.{Looked, gone}
 use Rattle.calls.specs.Calls.{World, built, Call, propagate, calcReason, calcLast, Answer, consistent, conflicting, noted, undone, refused, reason, accepted, Outcome, refuse, noting, settledBy, give, call, after, run}
 use Rattle.calls.specs.Claim.{counted, Covers, AllQuiet, answered, Condition3}
 use Rattle.calls.proofs.View.{Saw, saw, Did, away, added, agreed, clashed, gave, gaveLast, did}
@@ -81,17 +83,29 @@ did-exact : (d : Plan) (k : Proper d) (pl : Plain d) (w : World) → Consistent 
 unfolding refuse accepted settledBy noting isConflict
 did-exact d k pl w g (away c n) a v = absurd (false≢true a)
 did-exact d k pl w g (added room t l p e f) a v = absurd (false≢true e)
-did-exact d k pl w g (agreed room t l p o e f q bt) a v =
+did-exact d k pl w g (agreed room t l p pf o e f q bt) a v =
     let c = add-consistent w l f g in
     let u : Saw d (l ∷ w .standing) t o = subst (Saw d (l ∷ w .standing) t) (sym e) (saw d _ _) in
     let h = told-holds (l ∷ w .standing) c in
     (λ _. record { σ = told (l ∷ w .standing); holds = h; valid = exactly d k (l ∷ w .standing) c pl (told (l ∷ w .standing)) (full d _ v _ h) .0 (saw-fine d _ t u q) }, λ _. refl)
-did-exact d k pl w g (clashed room t l p o e f q bt) a v =
+did-exact d k pl w g (clashed room t l p pf o e f q bt) a v =
     let c = add-consistent w l f g in (
       λ z. absurd (true≢false (ap isConflict z)),
       λ s. let x = full d _ v (s .σ) (s .holds) in
           absurd (clash-not-fine (sym q ∙ ap (λ (z : Looked). z .judgement) e ∙ looked-fine d (l ∷ w .standing) t (exactly d k _ c pl (s .σ) x .1 (s .valid)) (nothing-left d k _ c (s .σ) x))),
     )
+
+-- at most one reason is found
+pub one-reason : (l : ℕ) (ps : List Proposal) (r : Reason) (rs : List Reason) → reasonOf l ps ≡ r ∷ rs → rs ≡ []
+unfolding reasonOf
+one-reason l [] r rs e = absurd (nil-cons e)
+  where
+    nil-cons : {x : Reason} {k : List Reason} → [] ≡ x ∷ k → ⊥
+    nil-cons q = let z : _≡_ {A = ℕ} 0 _ = ap length q in omega arith
+one-reason l (p ∷ ps) r rs e = pick-ind (λ (z : List Reason). z ≡ r ∷ rs → rs ≡ []) (eqb l (p .lit)) (p .why ∷ []) (reasonOf l ps) (λ _ q. tails q) (λ _ q. one-reason l ps r rs q) e
+  where
+    tails : {a b : Reason} {k m : List Reason} → a ∷ k ≡ b ∷ m → m ≡ k
+    tails q = cc
 
 unfoldable pub listIn : Answer → List ℕ
 listIn consistent = []
@@ -111,6 +125,17 @@ did-list d w (gave room l r rs q n) e = (r, rs, q, ap listIn e)
 pub fetch-list : (d : Plan) (w : World) (room : Bool) (l : ℕ) (list : List ℕ) → call d (calcReason room l) w .answer ≡ reason list →
     (r : Reason) × (rs : List Reason) × (reasonOf l (w .reasons) ≡ r ∷ rs) × (fetched d (w .standing) r ≡ list)
 fetch-list d w room l list e = did-list d w (did d w (calcReason room l)) e
+
+did-open : (d : Plan) (w : World) {room : Bool} {l : ℕ} {o : Outcome} {list : List ℕ} → Did d w (calcReason room l) o → o .answer ≡ reason list →
+    (r : Reason) × (reasonOf l (w .reasons) ≡ r ∷ []) × (gone d (noteAll d (w .standing)) r ≡ false) × (fetched d (w .standing) r ≡ list)
+unfolding refuse accepted give listIn
+did-open d w (away c n) e = absurd (false≢true (ap accepted e))
+did-open d w (gave room l r rs q n) e = (r, q ∙ ap (λ (z : List Reason). r ∷ z) (one-reason l (w .reasons) r rs q), n, ap listIn e)
+
+-- and its paths are there
+pub fetch-open : (d : Plan) (w : World) (room : Bool) (l : ℕ) (list : List ℕ) → call d (calcReason room l) w .answer ≡ reason list →
+    (r : Reason) × (reasonOf l (w .reasons) ≡ r ∷ []) × (gone d (noteAll d (w .standing)) r ≡ false) × (fetched d (w .standing) r ≡ list)
+fetch-open d w room l list e = did-open d w (did d w (calcReason room l)) e
 
 pub did-last : (d : Plan) (w : World) {room : Bool} {o : Outcome} {list : List ℕ} → Did d w (calcLast room) o → o .answer ≡ reason list → w .last ≡ list
 unfolding refuse accepted give listIn
@@ -133,12 +158,12 @@ heads q = cc
 pub condition-3 : (d : Plan) → Proper d → Plain d → Condition3 d
 condition-3 d k pl = record { conflicts = conflicts; handed = handed; exact = exact }
   where
-    conflicts : (before : List Call) (c : Call) (list : List ℕ) → answered d before c .answer ≡ conflicting →
-        call d (calcLast true) (answered d before c .world) .answer ≡ reason list →
+    conflicts : (before : List Call) (c : Call) (room : Bool) (list : List ℕ) → answered d before c .answer ≡ conflicting →
+        call d (calcLast room) (answered d before c .world) .answer ≡ reason list →
         (σ : ℕ → Bool) → Valid d σ → Every (Holds σ) list → ⊥
-    conflicts before c list e q σ y x =
+    conflicts before c room list e q σ y x =
         conflict-refuted d k pl (run d before) c (run-consistent d before) e σ y
-        (subst (Every (Holds σ)) (sym (did-last d (answered d before c .world) (did d (answered d before c .world) (calcLast true)) q)) x)
+        (subst (Every (Holds σ)) (sym (did-last d (answered d before c .world) (did d (answered d before c .world) (calcLast room)) q)) x)
 
     handed : (before : List Call) (c : Call) (amid : List Call) (l : ℕ) (room : Bool) (list : List ℕ) →
         In (answered d before c .handed) l → AllQuiet d (answered d before c .world) amid →

@@ -10,6 +10,7 @@ use lib.Dec.{eqb, ltb}
 use lib.ListN.{length}
 use borrow.Author.Tests.{eqb-true, ltb-true, ltb-false}
 use Rattle.base.specs.Iter.{pick}
+use Rattle.base.specs.Lists.{some}
 use Rattle.base.proofs.Loop.{pick-ind}
 use Rattle.base.proofs.Tests.{or-cases}
 use Rattle.graph.proofs.Mark.{lt-cases}
@@ -19,16 +20,17 @@ use Rattle.division.specs.Runs.{analysis}
 use Rattle.division.proofs.Noting.{noted-all}
 use Rattle.division.proofs.Rules.{proposed-explained}
 use Rattle.division.proofs.Whole.{each-found, reason-there}
-use Rattle.calls.specs.Table.{some, most, knows, variables, rising, badTable, enter}
+use Rattle.calls.specs.Table.{most, knows, variables, rising, badTable, enter}
 use Rattle.calls.specs.Look.{Looked, offers, handOn, stop, clashes, offered, looked}
 use Rattle.calls.specs.Calls.{World, Call, Outcome, refuse, noting, settledBy, give, Going, joinBy, lastBy, finishBy, entry, call, run}
 use Rattle.calls.specs.Claim.{answered}
+use Rattle.calls.specs.Marks.{Marked}
 use Rattle.calls.proofs.View.{Saw, saw, sawStop, sawConflict, sawFalse, sawFine, Steps, over, more, ends, halts, Did, away, added, agreed, clashed, took, gave, gaveLast, began, beganLast, beganClash, did}
 use Rattle.calls.proofs.Looks.{halted, hand-in, offer-in}
 use Rattle.calls.proofs.Stands.{add-consistent, or-left, fine-on, clash-on, not-halted, run-consistent}
 use Rattle.calls.proofs.Fetchable.{good, is-known}
 use Rattle.calls.proofs.Order.{swept-in}
-use Rattle.calls.proofs.Marks.{Marked, unmarked, marked-then, marked-set, enter-same, enter-long, hand-marked, looked-marked}
+use Rattle.calls.proofs.Marks.{unmarked, marked-then, marked-set, enter-same, enter-long, hand-marked, looked-marked}
 
 pub data Distinct : List ℕ → Type 0 where
   alone : Distinct []
@@ -125,7 +127,7 @@ module _ (d : Plan) (k : Proper d) where
   unfolding stop clashes offered
   saw-handed ls t c h (sawStop n) m = none-handed d t
   saw-handed ls t c h (sawConflict x e) m = none-handed d t
-  saw-handed ls t c h (sawFalse p ps e) m = none-handed d t
+  saw-handed ls t c h (sawFalse p ps e cur) m = none-handed d t
   saw-handed ls t c h (sawFine e) m = record {
     marked = m;
     known = λ l n. proposed-known ls c l (offer-in (analysis d ls) l (hand-in l t (offers (analysis d ls)) n));
@@ -163,8 +165,8 @@ module _ (d : Plan) (k : Proper d) where
   unfolding refuse settledBy give lastBy finishBy entry
   did-handed w (away c n) g = ([], [], none-handed d [])
   did-handed w (added room t l p e f) g = ([], [], none-handed d [])
-  did-handed w (agreed room t l p o e f q bt) g = (t, o .table, looked-handed _ t (add-consistent w l f g) (long-enough d t bt) o e)
-  did-handed w (clashed room t l p o e f q bt) g = (t, o .table, looked-handed _ t (add-consistent w l f g) (long-enough d t bt) o e)
+  did-handed w (agreed room t l p pf o e f q bt) g = (t, o .table, looked-handed _ t (add-consistent w l f g) (long-enough d t bt) o e)
+  did-handed w (clashed room t l p pf o e f q bt) g = (t, o .table, looked-handed _ t (add-consistent w l f g) (long-enough d t bt) o e)
   did-handed w (took room l x xs e) g = ([], [], none-handed d [])
   did-handed w (gave room l r rs e n) g = ([], [], none-handed d [])
   did-handed w (gaveLast room) g = ([], [], none-handed d [])

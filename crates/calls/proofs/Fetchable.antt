@@ -1,19 +1,13 @@
 -- A literal that was handed on can be fetched, and all of its reason stands, until a call other than a fetch is accepted.
-use Prim.Native.Nat.{ℕ, zero, suc, pred, _+_, _-_, _/_, _<_}
-use native.Mathlib.Omega.{arith}
-use native.Mathlib.Nat.{not-suc-le-zero}
-use mathlib.Core.Path.{_≡_, refl, _∙_, ap, subst}
-use mathlib.Core.Logic.{_⊎_, ⊎-elim}
-use mathlib.Core.Bool.{Bool, true, false, not, _||_, false≢true}
+use Prim.Native.Nat.{ℕ, _+_, _-_, _/_, _<_}
+use mathlib.Core.Path.{_≡_, refl, _∙_, ap}
+use mathlib.Core.Bool.{Bool, true, false, not, _||_}
 use mathlib.Core.List.{List, [], _∷_, _++_, List·Memᴰ·tail}
-use lib.Dec.{eqb}
-use borrow.Author.Tests.{eq-eqb}
 use Rattle.base.specs.Iter.{pick}
 use Rattle.base.specs.Lists.{Every}
 use Rattle.base.proofs.Loop.{pick-ind, pick-no}
 use Rattle.sat.specs.Literal.{negate, Holds}
 use Rattle.sat.proofs.Literal.{variable-negate}
-use Rattle.graph.proofs.Mark.{lt-cases}
 use Rattle.division.specs.Plan.{Plain, Plan, Proper, left, right}
 use Rattle.division.specs.Division.{Valid}
 use Rattle.division.specs.Regions.{within}
@@ -31,10 +25,11 @@ use Rattle.division.proofs.Judged.{analyzed-good}
 use Rattle.division.proofs.Views.{shows}
 use Rattle.division.proofs.Noting.{noted-all}
 use Rattle.division.proofs.Whole.{each-found, reason-there, reason-newer, run-fetched}
-use Rattle.calls.specs.Table.{some, knows}
+use Rattle.calls.specs.Table.{knows}
 use Rattle.calls.specs.Look.{unjoined, gone}
 use Rattle.calls.specs.Calls.{World, Call, calcReason, reason, Outcome, give, giveReason, onCalcReason, call, after, run}
 use Rattle.calls.specs.Claim.{AllQuiet, answered}
+use Rattle.calls.proofs.Known.{edge-known, size-known}
 use Rattle.calls.proofs.View.{did}
 use Rattle.calls.proofs.Stands.{run-consistent, call-consistent, all-quiet-same}
 use Rattle.calls.proofs.Recent.{did-recent}
@@ -86,43 +81,20 @@ module _ (d : Plan) (k : Proper d) where
   not-gone s l r (bySpreadHigh p u ls b j hp hu m e a w i) = there s _ _ hp a
   not-gone s l r (bySameSize p lp up q lq uq u g o h e hp hq hu xa ya xb yb) = refl
 
-  or-one : (a b : Bool) → a ≡ true → (a || b) ≡ true
-  or-one true b e = refl
-  or-one false b e = absurd (false≢true e)
-
-  or-two : (a b : Bool) → b ≡ true → (a || b) ≡ true
-  or-two true b e = refl
-  or-two false b e = e
-
-  some-true : (t : ℕ → Bool) (n i : ℕ) → i < n → t i ≡ true → some t n ≡ true
-  unfolding some
-  some-true t zero i h e = absurd (not-suc-le-zero h)
-  some-true t (suc n) i h e = ⊎-elim (λ q. or-one (some t n) _ (some-true t n i q e)) (λ q. or-two (some t n) (t n) (subst (λ z. t z ≡ true) q e)) (lt-cases i n (omega arith))
-
-  edge-known : (l g : ℕ) → g < d .edges → l / 2 ≡ d .edgeLit g / 2 → knows d l ≡ true
-  unfolding knows
-  edge-known l g h e = or-one (some (λ i. eqb (l / 2) (d .edgeLit i / 2)) (d .edges)) _ (some-true _ _ g h (eq-eqb _ _ e))
-
-  size-known : (l v j : ℕ) → v < d .vertices → suc j < d .domainLen v → l / 2 ≡ d .domLit v j / 2 → knows d l ≡ true
-  unfolding knows
-  size-known l v j h m e =
-      or-two (some (λ i. eqb (l / 2) (d .edgeLit i / 2)) (d .edges)) _
-      (some-true (λ u. some (λ i. eqb (l / 2) (d .domLit u i / 2)) (pred (d .domainLen u))) _ v h (some-true (λ i. eqb (l / 2) (d .domLit v i / 2)) _ j (omega arith) (eq-eqb _ _ e)))
-
   half : {a b : ℕ} → a ≡ b → a / 2 ≡ b / 2
   half e = ap (λ z. z / 2) e
 
   -- a literal that is explained is the plan's
   pub is-known : (s : State) (l : ℕ) (r : Reason) → Explains d s l r → knows d l ≡ true
-  is-known s l r (byInGroup g h e j) = edge-known l g h (half e ∙ variable-negate _)
-  is-known s l r (byBetween i g f hi h e a b) = edge-known l g h (half e)
-  is-known s l r (byTooLarge g ls w b h e hw a u m) = edge-known l g h (half e)
-  is-known s l r (byLarge v j h m e a) = size-known l v j h m (half e)
-  is-known s l r (bySmall v j h m e a) = size-known l v j h m (half e ∙ variable-negate _)
-  is-known s l r (byMismatch g p q f h e hp hq a b m) = edge-known l g h (half e)
-  is-known s l r (bySpreadLow p u ls b j hp hu m e a w i) = size-known l u j hu m (half e)
-  is-known s l r (bySpreadHigh p u ls b j hp hu m e a w i) = size-known l u j hu m (half e ∙ variable-negate _)
-  is-known s l r (bySameSize p lp up q lq uq u g o h e hp hq hu xa ya xb yb) = edge-known l g h (half e)
+  is-known s l r (byInGroup g h e j) = edge-known d l g h (half e ∙ variable-negate _)
+  is-known s l r (byBetween i g f hi h e a b) = edge-known d l g h (half e)
+  is-known s l r (byTooLarge g ls w b h e hw a u m) = edge-known d l g h (half e)
+  is-known s l r (byLarge v j h m e a) = size-known d l v j h m (half e)
+  is-known s l r (bySmall v j h m e a) = size-known d l v j h m (half e ∙ variable-negate _)
+  is-known s l r (byMismatch g p q f h e hp hq a b m) = edge-known d l g h (half e)
+  is-known s l r (bySpreadLow p u ls b j hp hu m e a w i) = size-known d l u j hu m (half e)
+  is-known s l r (bySpreadHigh p u ls b j hp hu m e a w i) = size-known d l u j hu m (half e ∙ variable-negate _)
+  is-known s l r (bySameSize p lp up q lq uq u g o h e hp hq hu xa ya xb yb) = edge-known d l g h (half e)
 
   fetch-gives : (w : World) (l : ℕ) (r : Reason) → reasonOf l (w .reasons) ≡ r ∷ [] → Explains d (noteAll d (w .standing)) l r →
       call d (calcReason true l) w .answer ≡ reason (fetched d (w .standing) r)

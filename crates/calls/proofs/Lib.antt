@@ -3,6 +3,7 @@ pub mod Looks
 pub mod Stands
 pub mod Recent
 pub mod Claim
+pub mod Known
 pub mod Fetchable
 pub mod Order
 pub mod Room
@@ -11,3 +12,6 @@ pub mod Count
 pub mod Store
 pub mod Computes
 pub mod Cases
+pub mod Refusals
+pub mod Truths
+pub mod Alike

@@ -3,7 +3,7 @@ use Prim.Native.Nat.{ℕ, _/_, _%_, _<_}
 use mathlib.Core.Path.{_≡_, refl, sym, _∙_, ap, subst}
 use mathlib.Core.Logic.{_⊎_, ⊎-elim}
 use mathlib.Core.Bool.{Bool, true, false, true≢false}
-use mathlib.Core.List.{List, [], _∷_, _++_, List·Memᴰ·not-nil, List·Memᴰ·cases-cons, List·Memᴰ·append-cases}
+use mathlib.Core.List.{Memᴰ·append-left, Memᴰ·append-right, List, [], _∷_, _++_, List·Memᴰ·not-nil, List·Memᴰ·cases-cons, List·Memᴰ·append-cases, List·Memᴰ·head}
 use lib.Dec.{eqb}
 use lib.ListN.{length, getD, set, length-set}
 use lib.Seq.{getD-set-same, getD-set-other}
@@ -12,21 +12,13 @@ use Rattle.base.proofs.Loop.{pick-ind}
 use Rattle.division.specs.Plan.{Plan}
 use Rattle.division.specs.Noting.{In}
 use Rattle.division.specs.Runs.{analysis}
+use Rattle.calls.specs.Marks.{sign, Marked}
 use Rattle.calls.specs.Table.{codeOf, unsetIn, enter}
 use Rattle.calls.specs.Look.{Looked, offers, handOn, enterAll, stop, clashes, offered, looked}
 use Rattle.calls.specs.Calls.{World, Call, Outcome, tableOf, refuse, settledBy, give, Going, joinBy, lastBy, finishBy, entry, call}
 use Rattle.calls.proofs.View.{Saw, saw, sawStop, sawConflict, sawFalse, sawFine, Steps, over, more, ends, halts, Did, away, added, agreed, clashed, took, gave, gaveLast, began, beganLast, beganClash, did}
 use Rattle.calls.proofs.Looks.{halted}
 use Rattle.calls.proofs.Stands.{fine-on, clash-on, not-halted}
-
--- the code of a literal that became true at the current level
-unfoldable pub sign : ℕ → ℕ
-sign l = pick (eqb (l % 2) 0) 3 4
-
-pub record Marked (t h u : List ℕ) : Type 0 where
-  pub long : length u ≡ length t
-  pub kept : (l : ℕ) → unsetIn t l ≡ false → codeOf u l ≡ codeOf t l
-  pub shown : (l : ℕ) → In h l → l / 2 < length t → (unsetIn t l ≡ true) × (codeOf u l ≡ sign l)
 
 sign-set : (l : ℕ) → eqb (sign l) 0 ≡ false
 unfolding sign
@@ -41,11 +33,12 @@ unfolding unsetIn
 marked-set u x e = ap (λ c. eqb c 0) e ∙ sign-set x
 
 pub unmarked : (t : List ℕ) → Marked t [] t
-unmarked t = record { long = refl; kept = λ l e. refl; shown = λ l m. absurd (List·Memᴰ·not-nil m) }
+unmarked t = record { long = refl; rest = λ v n. refl; kept = λ l e. refl; shown = λ l m. absurd (List·Memᴰ·not-nil m) }
 
 pub marked-then : (t h u i v : List ℕ) → Marked t h u → Marked u i v → Marked t (h ++ i) v
 marked-then t h u i v a b = record {
   long = b .long ∙ a .long;
+  rest = λ v n. b .rest v (λ l m. n l (Memᴰ·append-right h m)) ∙ a .rest v (λ l m. n l (Memᴰ·append-left i m));
   kept = λ l e. b .kept l (same-code t u l (a .kept l e) ∙ e) ∙ a .kept l e;
   shown = λ l m k. ⊎-elim (λ n. early l n k) (λ n. late l n k) (List·Memᴰ·append-cases h m);
 }
@@ -70,6 +63,10 @@ enter-other : (t : List ℕ) (l m : ℕ) → (m / 2 ≡ l / 2 → ⊥) → codeO
 unfolding codeOf enter
 enter-other t l m n = getD-set-other t (l / 2) (m / 2) _ 0 n
 
+enter-rest : (t : List ℕ) (l v : ℕ) → (v ≡ l / 2 → ⊥) → getD (enter t l) v 0 ≡ getD t v 0
+unfolding enter
+enter-rest t l v n = getD-set-other t (l / 2) v _ 0 n
+
 pub enter-long : (t : List ℕ) (l : ℕ) → length (enter t l) ≡ length t
 unfolding enter
 enter-long t l = simp length-set refl
@@ -82,6 +79,7 @@ same-variable t l m e = ap (λ v. eqb (getD t v 0) 0) e
 entered-one : (t : List ℕ) (p : ℕ) → unsetIn t p ≡ true → Marked t (p ∷ []) (enter t p)
 entered-one t p e = record {
   long = enter-long t p;
+  rest = λ v n. enter-rest t p v (λ q. n p (List·Memᴰ·head refl) (sym q));
   kept = λ l f. enter-other t p l (λ q. true≢false (sym e ∙ sym (same-variable t p l q) ∙ f));
   shown = λ l m h. ⊎-elim (λ q. subst (λ z. (unsetIn t z ≡ true) × (codeOf (enter t p) z ≡ sign z)) (sym q) (e, enter-same t p (subst (λ z. z / 2 < length t) q h)))
       (λ n. absurd (List·Memᴰ·not-nil n)) (List·Memᴰ·cases-cons m);
@@ -101,7 +99,7 @@ saw-marked : (d : Plan) (ls t : List ℕ) {o : Looked} → Saw d ls t o → Mark
 unfolding stop clashes offered
 saw-marked d ls t (sawStop n) = unmarked t
 saw-marked d ls t (sawConflict c e) = unmarked t
-saw-marked d ls t (sawFalse p ps e) = unmarked t
+saw-marked d ls t (sawFalse p ps e cur) = unmarked t
 saw-marked d ls t (sawFine e) = hand-marked t (offers (analysis d ls))
 
 pub looked-marked : (d : Plan) (ls t : List ℕ) (o : Looked) → o ≡ looked d ls t → Marked t (o .handed) (o .table)
@@ -118,8 +116,8 @@ did-marked : (d : Plan) (w : World) {c : Call} {o : Outcome} → Did d w c o →
 unfolding tableOf refuse settledBy give lastBy finishBy entry
 did-marked d w (away c n) = unmarked _
 did-marked d w (added room t l p e f) = unmarked t
-did-marked d w (agreed room t l p o e f q bt) = looked-marked d _ t o e
-did-marked d w (clashed room t l p o e f q bt) = looked-marked d _ t o e
+did-marked d w (agreed room t l p pf o e f q bt) = looked-marked d _ t o e
+did-marked d w (clashed room t l p pf o e f q bt) = looked-marked d _ t o e
 did-marked d w (took room l x xs e) = unmarked []
 did-marked d w (gave room l r rs e n) = unmarked []
 did-marked d w (gaveLast room) = unmarked []

@@ -102,7 +102,7 @@ module _ (d : Plan) (k : Proper d) where
   after-formed [] w g f = f
   after-formed (c ∷ cs) w g f = after-formed cs (call d c w .world) (call-consistent d w c g) (call-formed w c g f)
 
-  run-formed : (cs : List Call) → AllFormed (run d cs)
+  pub run-formed : (cs : List Call) → AllFormed (run d cs)
   unfolding run built
   run-formed cs = after-formed cs built (λ l a b. mathlib.Core.List.List·Memᴰ·not-nil a) nothing
 
@@ -111,7 +111,7 @@ module _ (d : Plan) (k : Proper d) where
   unfolding stop clashes offered falseList listFor
   saw-left ls t c (sawStop n) = zero-le
   saw-left ls t c (sawConflict z e) = conflicts d k ls c z e .fits
-  saw-left ls t c (sawFalse p ps e) =
+  saw-left ls t c (sawFalse p ps e cur) =
       let (r, q) = reason-there p (analysis d ls .props) (offer-in (analysis d ls) p (first-in t p ps _ e)) in
       let j : Justifies d ls p r = each-found p r (analysis d ls .props) (reasons d k ls c ls c (λ _ m. m)) q in
       subst (λ (z : List Reason). length (listFor d ls z ++ (negate p ∷ [])) ≤ room d) (sym q) (simp length-append (omega (arith, j .fits)))
@@ -131,8 +131,8 @@ module _ (d : Plan) (k : Proper d) where
   unfolding refuse adding settledBy noting give lastBy finishBy entry
   did-left w (away c n) g z = z
   did-left w (added room t l p e f) g z = z
-  did-left w (agreed room t l p o e f q bt) g z = looked-left _ t (add-consistent w l f g) o e
-  did-left w (clashed room t l p o e f q bt) g z = looked-left _ t (add-consistent w l f g) o e
+  did-left w (agreed room t l p pf o e f q bt) g z = looked-left _ t (add-consistent w l f g) o e
+  did-left w (clashed room t l p pf o e f q bt) g z = looked-left _ t (add-consistent w l f g) o e
   did-left w (took room l x xs e) g z = z
   did-left w (gave room l r rs e n) g z = z
   did-left w (gaveLast room) g z = z

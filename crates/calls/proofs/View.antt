@@ -10,7 +10,7 @@ use Rattle.division.specs.Conflicts.{Conflict, conflictList}
 use Rattle.division.specs.Analysis.{zeroSize, Verdict, going, conflict, crossed}
 use Rattle.division.specs.Noting.{noteAll}
 use Rattle.division.specs.Runs.{analysis, fetched, reasonOf}
-use Rattle.calls.specs.Table.{entered, badTable}
+use Rattle.calls.specs.Table.{entered, badTable, someCurrent}
 use Rattle.calls.specs.Look.{Judgement, fine, clash, stopped, Looked, offers, firstFalse, falseList, stop, clashes, offered, lookedBy, looked, gone}
 use Rattle.calls.specs.Calls.{World, Call, initialize, propagate, undo, calcReason, calcLast, noted, undone, tableOf, Outcome, refuse, taken, adding, settledBy, settled, onPropagate, takeBack, onUndo, give, giveReason, onCalcReason, onCalcLast, Going, joinBy, oneBy, propagateAll, lastBy, finishBy, entry, onInitialize, call}
 
@@ -18,7 +18,7 @@ use Rattle.calls.specs.Calls.{World, Call, initialize, propagate, undo, 
 pub data Saw (d : Plan) (ls t : List ℕ) : Looked → Type 0 where
   sawStop : (n : ℕ) → Saw d ls t (stop n t)
   sawConflict : (c : Conflict) → analysis d ls .verdict ≡ conflict c → Saw d ls t (clashes (analysis d ls) t (conflictList d (noteAll d ls) c))
-  sawFalse : (p : ℕ) (ps : List ℕ) → firstFalse t (offers (analysis d ls)) ≡ p ∷ ps → Saw d ls t (clashes (analysis d ls) t (falseList d ls (analysis d ls) p))
+  sawFalse : (p : ℕ) (ps : List ℕ) → firstFalse t (offers (analysis d ls)) ≡ p ∷ ps → someCurrent t (falseList d ls (analysis d ls) p) ≡ true → Saw d ls t (clashes (analysis d ls) t (falseList d ls (analysis d ls) p))
   sawFine : analysis d ls .verdict ≡ going → Saw d ls t (offered d ls t (analysis d ls) [])
 
 pub saw : (d : Plan) (ls t : List ℕ) → Saw d ls t (looked d ls t)
@@ -30,7 +30,7 @@ saw d ls t = by (analysis d ls .verdict) refl
     offers-by (p ∷ ps) v e = rest
       where
         rest : Saw d ls t (offered d ls t (analysis d ls) (p ∷ ps))
-        rest = pick-ind (Saw d ls t) _ _ _ (λ _. sawFalse p ps e) (λ _. sawStop 14)
+        rest = pick-ind (Saw d ls t) _ _ _ (λ cur. sawFalse p ps e cur) (λ _. sawStop 14)
 
     by : (v : Verdict) → analysis d ls .verdict ≡ v → Saw d ls t (lookedBy d ls t (analysis d ls) v)
     by going e = offers-by _ e refl
@@ -47,12 +47,12 @@ pub data Steps (d : Plan) : Going → List ℕ → Going → Type 0 where
       Steps d a (l ∷ ls) (joinBy a l o clash)
   halts : {a : Going} {ls : List ℕ} {b : Going} (n : ℕ) → b .judgement ≡ stopped n → Steps d a ls b
 
-clash-stays : (d : Plan) (ls : List ℕ) (a : Going) → a .judgement ≡ clash → propagateAll d ls a ≡ a
+pub clash-stays : (d : Plan) (ls : List ℕ) (a : Going) → a .judgement ≡ clash → propagateAll d ls a ≡ a
 unfolding propagateAll oneBy
 clash-stays d [] a e = refl
 clash-stays d (l ∷ ls) a e = ap (λ (j : Judgement). propagateAll d ls (oneBy d l a j)) e ∙ clash-stays d ls a e
 
-stop-stays : (d : Plan) (ls : List ℕ) (a : Going) (n : ℕ) → a .judgement ≡ stopped n → propagateAll d ls a ≡ a
+pub stop-stays : (d : Plan) (ls : List ℕ) (a : Going) (n : ℕ) → a .judgement ≡ stopped n → propagateAll d ls a ≡ a
 unfolding propagateAll oneBy
 stop-stays d [] a n e = refl
 stop-stays d (l ∷ ls) a n e = ap (λ (j : Judgement). propagateAll d ls (oneBy d l a j)) e ∙ stop-stays d ls a n e
@@ -87,9 +87,9 @@ pub data Did (d : Plan) (w : World) : Call → Outcome → Type 0 where
   away : (c : Call) (n : ℕ) → Did d w c (refuse n w (tableOf c))
   added : (room : Bool) (t : List ℕ) (l : ℕ) (pending : Bool) → pending ≡ true → taken w l ≡ false →
       Did d w (propagate room t l pending) (record { answer = noted; world = adding w l; table = t; handed = [] })
-  agreed : (room : Bool) (t : List ℕ) (l : ℕ) (pending : Bool) (o : Looked) → o ≡ looked d (l ∷ w .standing) t → taken w l ≡ false → o .judgement ≡ fine → badTable d t ≡ false →
+  agreed : (room : Bool) (t : List ℕ) (l : ℕ) (pending : Bool) → pending ≡ false → (o : Looked) → o ≡ looked d (l ∷ w .standing) t → taken w l ≡ false → o .judgement ≡ fine → badTable d t ≡ false →
       Did d w (propagate room t l pending) (settledBy w t l o fine)
-  clashed : (room : Bool) (t : List ℕ) (l : ℕ) (pending : Bool) (o : Looked) → o ≡ looked d (l ∷ w .standing) t → taken w l ≡ false → o .judgement ≡ clash → badTable d t ≡ false →
+  clashed : (room : Bool) (t : List ℕ) (l : ℕ) (pending : Bool) → pending ≡ false → (o : Looked) → o ≡ looked d (l ∷ w .standing) t → taken w l ≡ false → o .judgement ≡ clash → badTable d t ≡ false →
       Did d w (propagate room t l pending) (settledBy w t l o clash)
   took : (room : Bool) (l x : ℕ) (xs : List ℕ) → w .standing ≡ x ∷ xs →
       Did d w (undo room l) (record { answer = undone; world = record { standing = xs; reasons = w .reasons; last = w .last; done = w .done }; table = []; handed = [] })
@@ -106,15 +106,15 @@ module _ (d : Plan) (w : World) where
   unfolding onPropagate settled settledBy tableOf
   propagate-did room t l pending =
       pick-ind D _ _ _ (λ _. away _ 7) (λ b. pick-ind D _ _ _ (λ _. away _ 9) (λ _. pick-ind D _ _ _ (λ _. away _ 10)
-      (λ f. pick-ind D _ _ _ (λ p. added room t l pending p f) (λ _. by _ refl f (or-right (not room) _ b)))))
+      (λ f. pick-ind D _ _ _ (λ p. added room t l pending p f) (λ p. by p _ refl f (or-right (not room) _ b)))))
     where
       D : Outcome → Type 0
       D = Did d w (propagate room t l pending)
 
-      by : (j : Judgement) → looked d (l ∷ w .standing) t .judgement ≡ j → taken w l ≡ false → badTable d t ≡ false → D (settledBy w t l (looked d (l ∷ w .standing) t) j)
-      by fine e f b = agreed room t l pending _ refl f e b
-      by clash e f b = clashed room t l pending _ refl f e b
-      by (stopped n) e f b = halt
+      by : pending ≡ false → (j : Judgement) → looked d (l ∷ w .standing) t .judgement ≡ j → taken w l ≡ false → badTable d t ≡ false → D (settledBy w t l (looked d (l ∷ w .standing) t) j)
+      by p fine e f b = agreed room t l pending p _ refl f e b
+      by p clash e f b = clashed room t l pending p _ refl f e b
+      by p (stopped n) e f b = halt
         where
           halt : D (settledBy w t l (looked d (l ∷ w .standing) t) (stopped n))
           halt = away _ n

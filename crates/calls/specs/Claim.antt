@@ -1,4 +1,4 @@
--- What stands as the calls tell, and condition 3, over any list of calls.
+-- Condition 3, over any list of calls, and what stands as the calls tell: document 01, "Undo log".
 use Prim.Native.Nat.{ℕ, suc, _<_}
 use mathlib.Core.Path.{_≡_}
 use mathlib.Core.Logic.{_⊎_, _↔_}
@@ -63,8 +63,8 @@ answered d before c = call d c (run d before)
 -- any list of calls from the built world, whatever the table holds at each
 pub record Condition3 (d : Plan) : Type 0 where
   -- no call answers a conflict whose listed literals, which a fetch straight after it gives, all hold in some valid division
-  pub conflicts : (before : List Call) (c : Call) (list : List ℕ) → answered d before c .answer ≡ conflicting →
-      call d (calcLast true) (answered d before c .world) .answer ≡ reason list →
+  pub conflicts : (before : List Call) (c : Call) (room : Bool) (list : List ℕ) → answered d before c .answer ≡ conflicting →
+      call d (calcLast room) (answered d before c .world) .answer ≡ reason list →
       (σ : ℕ → Bool) → Valid d σ → Every (Holds σ) list → ⊥
   -- no call hands on a literal that fails in a valid division where its reason, fetched before any later accepted call but a fetch, holds
   pub handed : (before : List Call) (c : Call) (amid : List Call) (l : ℕ) (room : Bool) (list : List ℕ) →

@@ -45,20 +45,20 @@ shown d ls = code d ls (analysis d ls .verdict) ∷ map (λ p. p .lit ∷ listOf
 unfoldable pub planG : Plan
 planG = plan 2 1 ((0 ∷ 1 ∷ []) ∷ []) (4 ∷ []) (3 ∷ 4 ∷ []) ((3 ∷ 7 ∷ []) ∷ (4 ∷ 7 ∷ []) ∷ []) ((0 ∷ []) ∷ (2 ∷ []) ∷ [])
 
-planB : List ℕ → Plan
+unfoldable pub planB : List ℕ → Plan
 planB ds = plan 1 0 [] [] (3 ∷ []) (ds ∷ []) []
 
-planD : Plan
+unfoldable pub planD : Plan
 planD = plan 1 1 ((0 ∷ 0 ∷ []) ∷ []) (0 ∷ []) (1 ∷ []) [] []
 
-planE : Plan
+unfoldable pub planE : Plan
 planE = plan 2 2 ((0 ∷ 1 ∷ []) ∷ (0 ∷ 1 ∷ []) ∷ []) (0 ∷ 2 ∷ []) (1 ∷ 1 ∷ []) [] []
 
-planH : Plan
+unfoldable pub planH : Plan
 planH = plan 2 1 ((0 ∷ 1 ∷ []) ∷ []) (0 ∷ []) (2 ∷ 3 ∷ []) ((2 ∷ []) ∷ (4 ∷ []) ∷ []) []
 
 -- two vertices of one fixed size, each with an edge to a third one; the option that keeps such regions apart is on
-planS : List ℕ → ℕ → Plan
+unfoldable pub planS : List ℕ → ℕ → Plan
 planS ws n = planWith true false 3 2 ((2 ∷ 0 ∷ []) ∷ (2 ∷ 1 ∷ []) ∷ []) (0 ∷ 2 ∷ []) ws ((n ∷ []) ∷ (n ∷ []) ∷ []) []
 
 -- the plan of case D, extra walls allowed

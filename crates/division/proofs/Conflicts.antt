@@ -126,10 +126,10 @@ pub greedy-taken : (s : State) (cur : ℕ) (ps : List ℕ) → Every (λ p. s .l
 unfolding greedy
 greedy-taken s cur [] x = record { past = none; spaced = Spaced.none }
 greedy-taken s cur (p ∷ ps) (more h x) =
-    pick-ind (Taken s cur) _ _ _ (λ t. take-one s cur p _ h (ltb-true _ _ t) (greedy-taken s (s .upper p) ps x)) (λ t. greedy-taken s cur ps x)
+    pick-ind (Taken s cur) _ _ _ (λ t. take-one s cur p _ h (ltb-true _ _ t) (greedy-taken s _ ps x)) (λ t. greedy-taken s cur ps x)
 
 -- and they are of the list
 pub greedy-every : {P : ℕ → Type 0} (s : State) (cur : ℕ) (ps : List ℕ) → Every P ps → Every P (greedy s cur ps)
 unfolding greedy
 greedy-every s cur [] x = none
-greedy-every {P} s cur (p ∷ ps) (more h x) = pick-ind (Every P) _ _ _ (λ t. more h (greedy-every s (s .upper p) ps x)) (λ t. greedy-every s cur ps x)
+greedy-every {P} s cur (p ∷ ps) (more h x) = pick-ind (Every P) _ _ _ (λ t. more h (greedy-every s _ ps x)) (λ t. greedy-every s cur ps x)

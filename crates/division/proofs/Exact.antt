@@ -1,7 +1,7 @@
 -- Where every variable stands, the analysis finds no conflict exactly where the division is valid.
 use Prim.Native.Nat.{ℕ, suc, _<_, _≤_}
 use native.Mathlib.Omega.{arith}
-use native.Mathlib.Nat.{le-refl, le-antisymm}
+use native.Mathlib.Nat.{le-antisymm}
 use mathlib.Core.Path.{_≡_, ap}
 use mathlib.Core.Logic.{_⊎_, ⊎-elim, _↔_}
 use mathlib.Core.Bool.{Bool, true, false, not}
@@ -70,10 +70,10 @@ module _ (d : Plan) (Stands : ℕ → Type 0) (s : State) (σ : ℕ → Bool) (k
   met v h z l =
       let (i, a, e) = low-entry d v z (n .bounded .low v h) in
       let (j, b, c) = high-entry d v z (n .bounded .high v h) in
-      ⊎-elim (λ (w : j ≤ i). let r = rising-le d k v j i w a in omega arith)
+      ⊎-elim (λ (w : j ≤ i). let r = rising-le d k v h j i w a in omega arith)
       (λ (w : i < j).
       let m : suc i < d .domainLen v = omega arith in
-      let r = k .rising v i (suc i) (le-refl _) m in
+      let r = k .rising v i h m in
       ⊎-elim (λ t. let x = n .raised v i h m t in absurd (omega arith)) (λ t. let x = n .cut v i h m t in omega arith) (f .domain v i h m))
       (le-or-lt j i)
 
@@ -90,7 +90,7 @@ module _ (d : Plan) (Stands : ℕ → Type 0) (s : State) (σ : ℕ → Bool) (k
         (i, a, omega (arith, met v h z (c v h), p .high v h z, p .low v h z, decided-is v h, potential-is v h));
     meant = λ v j h m. (
       λ t. ⊎-elim (λ a. omega (arith, n .raised v j h m a, p .low v h (omega arith), potential-is v h)) (λ a. absurd (negate-fails σ (d .domLit v j) (f .holds _ a) t)) (f .domain v j h m),
-      λ l. ⊎-elim (λ a. f .holds _ a) (λ a. absurd (omega (arith, n .cut v j h m a, k .rising v j (suc j) (le-refl _) m, p .high v h (omega arith), decided-is v h))) (f .domain v j h m),
+      λ l. ⊎-elim (λ a. f .holds _ a) (λ a. absurd (omega (arith, n .cut v j h m a, k .rising v j h m, p .high v h (omega arith), decided-is v h))) (f .domain v j h m),
     );
   }
 

@@ -36,7 +36,7 @@ module _ (d : Plan) (k : Proper d) (S T : ℕ → Type 0) (s t : State) (n : Not
 
   low-up : (v : ℕ) → v < d .vertices → {b : ℕ} {ls : List ℕ} → Lower d v b ls → Every S ls → b ≤ t .lower v
   low-up v h (Lower.free a e q) x = omega arith
-  low-up v h (Lower.least a e q) x = let (i, c, w) = low-entry d v a (m .bounded .low v h) in omega (arith, rising-le d k v 0 i zero-le c)
+  low-up v h (Lower.least a e q) x = let (i, c, w) = low-entry d v a (m .bounded .low v h) in omega (arith, rising-le d k v h 0 i zero-le c)
   low-up v h (Lower.lit j a e q) x = rw e (m .raised v j h a (sub _ (every-only q x)))
 
   high-down : (v : ℕ) → v < d .vertices → {b : ℕ} {ls : List ℕ} → Upper d v b ls → Every S ls → t .upper v ≤ b
@@ -46,7 +46,7 @@ module _ (d : Plan) (k : Proper d) (S T : ℕ → Type 0) (s t : State) (n : Not
       free-down (Upper.free u w p) = omega arith
       free-down (Upper.last i u w p) = absurd (omega arith)
       free-down (Upper.lit j u w p) = absurd (omega arith)
-  high-down v h (Upper.last i a e q) x = let (j, c, w) = high-entry d v (omega arith) (m .bounded .high v h) in omega (arith, rising-le d k v j i (omega arith) (omega arith))
+  high-down v h (Upper.last i a e q) x = let (j, c, w) = high-entry d v (omega arith) (m .bounded .high v h) in omega (arith, rising-le d k v h j i (omega arith) (omega arith))
   high-down v h (Upper.lit j a e q) x = rw e (m .cut v j h a (sub _ (every-only q x)))
 
   -- where more stands, more is noted
@@ -136,7 +136,7 @@ pub place-low : (d : Plan) (k : Proper d) (s : State) (b : Bounded d s) (v w : �
 place-low d k s b v w h z l u =
     let (i, hi, e) = low-entry d v z (b .low v h) in
     let (j, hj, c) = high-entry d v z (b .high v h) in
-    place-between d k v w i j hi (omega arith) hj (omega arith)
+    place-between d k v w i j h hi (omega arith) hj (omega arith)
 
 -- and the same for an upper one, w: entries up to w are counted
 pub place-high : (d : Plan) (k : Proper d) (s : State) (b : Bounded d s) (v w : ℕ) → v < d .vertices → 0 < d .domainLen v → s .lower v ≤ w → w < s .upper v →

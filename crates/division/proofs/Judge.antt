@@ -111,11 +111,11 @@ module _ (d : Plan) (s : State) (w : View) (k : Proper d) (b : Bounded d s) (y :
     where
       go : {c : ℕ} {ls : List ℕ} → Lower d v c ls → c ≤ 1000000
       go (Lower.free u e q) = rw e zero-le
-      go (Lower.least u e q) = rw e (k .entries v 0 u)
-      go (Lower.lit j u e q) = rw e (k .entries v (suc j) u)
+      go (Lower.least u e q) = rw e (k .entries v 0 h u)
+      go (Lower.lit j u e q) = rw e (k .entries v (suc j) h u)
 
   high-most : (v : ℕ) → v < d .vertices → 0 < d .domainLen v → s .upper v ≤ 1000000
-  high-most v h z = let (i, c, e) = high-entry d v z (b .high v h) in rw e (k .entries v i c)
+  high-most v h z = let (i, c, e) = high-entry d v z (b .high v h) in rw e (k .entries v i h c)
 
   -- the region that u is in has its least upper bound at a vertex of it
   same-held : (c : ℕ → ℕ) (u i x : ℕ) → u < d .vertices → Held d w c u i x → Same d s u i

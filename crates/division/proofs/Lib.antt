@@ -24,3 +24,8 @@ pub mod Whole
 pub mod Computes
 pub mod Cases
 pub mod Stale
+pub mod Labels
+pub mod Verdicts
+pub mod Agree
+pub mod Alike
+pub mod Adjacent

@@ -24,14 +24,14 @@ pub record Inv (d : Plan) (s : State) (F : Type 0) (o : Out) : Type 0 where
   pub good : Good d s o
   pub fact : o .verdict ≡ going → F
 
-still-going : (v : Verdict) → still v ≡ true → v ≡ going
+pub still-going : (v : Verdict) → still v ≡ true → v ≡ going
 unfolding still
 still-going going e = refl
 still-going (conflict c) e = absurd (false≢true e)
 still-going crossed e = absurd (false≢true e)
 still-going zeroSize e = absurd (false≢true e)
 
-going-still : (v : Verdict) → v ≡ going → still v ≡ true
+pub going-still : (v : Verdict) → v ≡ going → still v ≡ true
 unfolding still
 going-still v e = rw e refl
 

@@ -45,14 +45,14 @@ placed f w (suc n) =
     (λ t. placed-same f w n _ (ltb-false _ _ t) (placed f w n))
 
 -- an entry below w and one that is not: the place lies between, and is none of the ends
-pub place-between : (d : Plan) (k : Proper d) (v w i j : ℕ) → i < d .domainLen v → d .domain v i < w → j < d .domainLen v → w ≤ d .domain v j →
+pub place-between : (d : Plan) (k : Proper d) (v w i j : ℕ) → v < d .vertices → i < d .domainLen v → d .domain v i < w → j < d .domainLen v → w ≤ d .domain v j →
     (0 < place (d .domain v) w (d .domainLen v)) × Between d v (pred (place (d .domain v) w (d .domainLen v))) w
-place-between d k v w i j hi a hj b = go (place (d .domain v) w (d .domainLen v)) (placed (d .domain v) w (d .domainLen v))
+place-between d k v w i j hv hi a hj b = go (place (d .domain v) w (d .domainLen v)) (placed (d .domain v) w (d .domainLen v))
   where
     go : (m : ℕ) → Placed (d .domain v) w (d .domainLen v) m → (0 < m) × Between d v (pred m) w
     go m p =
-        let l : i < m = ⊎-elim (λ (z : m ≤ i). absurd (omega (arith, p .over (omega arith), rising-le d k v m i z hi))) (λ z. z) (le-or-lt m i) in
-        let u : m ≤ j = ⊎-elim (λ z. z) (λ (z : j < m). absurd (omega (arith, p .under (omega arith), p .most, rising-le d k v j (pred m) (omega arith) (omega (arith, p .most))))) (le-or-lt m j) in
+        let l : i < m = ⊎-elim (λ (z : m ≤ i). absurd (omega (arith, p .over (omega arith), rising-le d k v hv m i z hi))) (λ z. z) (le-or-lt m i) in
+        let u : m ≤ j = ⊎-elim (λ z. z) (λ (z : j < m). absurd (omega (arith, p .under (omega arith), p .most, rising-le d k v hv j (pred m) (omega arith) (omega (arith, p .most))))) (le-or-lt m j) in
         let e : suc (pred m) ≡ m = omega arith in
         (omega arith, record { next = omega arith; above = p .under (omega arith); below = rw e (p .over (omega arith)) })
 

@@ -147,19 +147,21 @@ module _ (d : Plan) (σ : ℕ → Bool) where
       pub potential-weight : regionWeight d σ u ≤ potentialWeight d s u
       potential-weight = weight-le d k (tab (mark d σ) (d .edges)) (s .edgeState) false true u u hu hu potential-sound
 
-pub rising-le : (d : Plan) (k : Proper d) (v i j : ℕ) → i ≤ j → j < d .domainLen v → d .domain v i ≤ d .domain v j
-rising-le d k v i j h m = ⊎-elim (λ (e : i ≡ j). rw e (le-refl _)) (λ (l : i < j). omega (arith, k .rising v i j l m)) (eq-or-lt-of-le h)
+pub rising-le : (d : Plan) (k : Proper d) (v : ℕ) → v < d .vertices → (i j : ℕ) → i ≤ j → j < d .domainLen v → d .domain v i ≤ d .domain v j
+rising-le d k v hv i zero h m = let e : i ≡ 0 = omega arith in rw e (le-refl _)
+rising-le d k v hv i (suc j) h m =
+    ⊎-elim (λ (e : i ≡ suc j). rw e (le-refl _)) (λ (l : i < suc j). omega (arith, rising-le d k v hv i j (omega arith) (omega arith), k .rising v j hv m)) (eq-or-lt-of-le h)
 
 module _ (d : Plan) (σ : ℕ → Bool) (k : Proper d) (y : Computed d σ) (v : ℕ) (hv : v < d .vertices) where
   -- a weight above an entry is at least the next
   pub next-up : (j : ℕ) → suc j < d .domainLen v → d .domain v j < regionWeight d σ v → d .domain v (suc j) ≤ regionWeight d σ v
   next-up j h l =
       let (i, m, e) = y .inside v hv (omega arith) in
-      ⊎-elim (λ (z : i ≤ j). absurd (omega (arith, rising-le d k v i j z (omega arith)))) (λ (z : j < i). omega (arith, rising-le d k v (suc j) i z m)) (le-or-lt i j)
+      ⊎-elim (λ (z : i ≤ j). absurd (omega (arith, rising-le d k v hv i j z (omega arith)))) (λ (z : j < i). omega (arith, rising-le d k v hv (suc j) i z m)) (le-or-lt i j)
 
   pub low-sound : {b : ℕ} {ls : List ℕ} → Lower d v b ls → Every (Holds σ) ls → b ≤ regionWeight d σ v
   low-sound (Lower.free a e q) x = rw e zero-le
-  low-sound (Lower.least a e q) x = let (i, m, z) = y .inside v hv a in omega (arith, rising-le d k v 0 i zero-le m)
+  low-sound (Lower.least a e q) x = let (i, m, z) = y .inside v hv a in omega (arith, rising-le d k v hv 0 i zero-le m)
   low-sound (Lower.lit j a e q) x = rw e (y .meant v j hv a .0 (every-only q x))
 
   region-most : regionWeight d σ v ≤ 64000000
@@ -168,7 +170,7 @@ module _ (d : Plan) (σ : ℕ → Bool) (k : Proper d) (y : Computed d σ) (v : 
 
   pub high-sound : {b : ℕ} {ls : List ℕ} → Upper d v b ls → Every (Holds σ) ls → regionWeight d σ v ≤ b
   high-sound (Upper.free a e q) x = omega (arith, region-most)
-  high-sound (Upper.last n a e q) x = let (i, m, z) = y .inside v hv (omega arith) in omega (arith, rising-le d k v i n (omega arith) (omega arith))
+  high-sound (Upper.last n a e q) x = let (i, m, z) = y .inside v hv (omega arith) in omega (arith, rising-le d k v hv i n (omega arith) (omega arith))
   high-sound (Upper.lit j a e q) x = ⊎-elim (λ (z : regionWeight d σ v ≤ d .domain v j). rw e z)
       (λ (z : d .domain v j < regionWeight d σ v). absurd (negate-fails σ (d .domLit v j) (every-only q x) (y .meant v j hv a .1 (next-up j a z))))
       (le-or-lt _ _)

@@ -1,5 +1,6 @@
 -- A reason that is fetched where less stands than when it was recorded can be unsound: the plan of case G, literal 2
 -- recorded where 5 stood, and fetched after 5 was undone. Also a proper plan with a valid division.
+use native.Mathlib.Nat.{lt-suc-self}
 use Prim.Native.Nat.{ℕ, zero, suc, _<_, _≤_, zero-le}
 use native.Mathlib.Omega.{arith}
 use mathlib.Core.Path.{_≡_, refl, sym, _∙_}
@@ -39,9 +40,9 @@ properG = record {
     fits = omega arith;
     within = λ g h. inn g h;
   };
-  light = weights;
-  entries = entries;
-  rising = rising;
+  light = λ v h. weights v;
+  entries = λ v j h. entries v j;
+  rising = λ v j h m. rising v j (suc j) (lt-suc-self j) m;
 }
   where
     inn : (g : ℕ) → g < 1 → Rattle.graph.specs.Bounds.Within 2 ((0 ∷ 1 ∷ []) ∷ []) g

@@ -37,7 +37,7 @@ unfolding pick
 pick-most true x m h = h
 pick-most false x m h = zero-le
 
-pub total-most : (b : ℕ → Bool) (w : ℕ → ℕ) (m n : ℕ) → ((i : ℕ) → w i ≤ m) → total b w n ≤ n * m
+pub total-most : (b : ℕ → Bool) (w : ℕ → ℕ) (m n : ℕ) → ((i : ℕ) → i < n → w i ≤ m) → total b w n ≤ n * m
 unfolding total
 total-most b w m zero h = zero-le
-total-most b w m (suc n) h = omega (arith, total-most b w m n h, pick-most (b n) (w n) m (h n))
+total-most b w m (suc n) h = omega (arith, total-most b w m n (λ i k. h i (le-step k)), pick-most (b n) (w n) m (h n (lt-suc-self n)))

@@ -17,7 +17,7 @@ use Rattle.graph.specs.Paths.{Joined, here}
 use Rattle.graph.proofs.Joined.{joined-trans, joined-sym, joined-refl}
 use Rattle.graph.proofs.Mark.{lt-cases}
 use Rattle.division.specs.Plan.{Plan, Proper}
-use Rattle.division.specs.Regions.{labelOf, lowest, weightFrom, within}
+use Rattle.division.specs.Regions.{regionLabel, lowest, weightFrom, within}
 use Rattle.division.specs.State.{State, decided}
 use Rattle.division.specs.Views.{weightOf, Spot, leastIn, mostIn, insert, sorted, cellsOf, membersOf, viewOf}
 use Rattle.division.proofs.Shown.{Cell, Shows}
@@ -69,7 +69,7 @@ unfolding insert
 insert-every s p [] x e = more x none
 insert-every {P} s p (q ∷ l) x (more y e) = pick-ind (Every P) _ _ _ (λ _. more x (more y e)) (λ _. more y (insert-every s p l x e))
 
-sorted-every : {P : ℕ → Type 0} (s : State) (l : List ℕ) → Every P l → Every P (sorted s l)
+pub sorted-every : {P : ℕ → Type 0} (s : State) (l : List ℕ) → Every P l → Every P (sorted s l)
 unfolding sorted
 sorted-every s [] e = none
 sorted-every s (p ∷ l) (more x e) = insert-every s p _ x (sorted-every s l e)
@@ -119,15 +119,15 @@ module _ (d : Plan) (k : Proper d) (st : List ℕ) (po : Bool) where
   e = graph (d .ends) st po
 
   -- the label is a vertex that v is joined to
-  label-is : (v : ℕ) → v < d .vertices → (labelOf d e v < d .vertices) × Joined e (d .edges) v (labelOf d e v)
-  unfolding labelOf
+  pub label-is : (v : ℕ) → v < d .vertices → (regionLabel d e v < d .vertices) × Joined e (d .edges) v (regionLabel d e v)
+  unfolding regionLabel
   label-is v h =
       let l = lowest-some (within d e v) (d .vertices) v h (joined-within d k st po v h v (joined-refl v)) in
       (l, within-joined d k st po v h _ (lowest-true (within d e v) (d .vertices) l))
 
   -- vertices have one label where they are joined, and only there
-  pub label-same : (p q : ℕ) → p < d .vertices → q < d .vertices → (labelOf d e p ≡ labelOf d e q) ↔ Joined e (d .edges) p q
-  unfolding labelOf
+  pub label-same : (p q : ℕ) → p < d .vertices → q < d .vertices → (regionLabel d e p ≡ regionLabel d e q) ↔ Joined e (d .edges) p q
+  unfolding regionLabel
   label-same p q hp hq = (
     λ x. joined-trans (subst (λ z. Joined e (d .edges) p z) x (label-is p hp .1)) (joined-sym (label-is q hq .1)),
     λ j. lowest-cong (within d e p) (within d e q) (d .vertices)
@@ -136,16 +136,16 @@ module _ (d : Plan) (k : Proper d) (st : List ℕ) (po : Bool) where
   )
 
   -- a region's label is its own
-  pub label-own : (v : ℕ) → v < d .vertices → (labelOf d e v < d .vertices) × (labelOf d e (labelOf d e v) ≡ labelOf d e v)
+  pub label-own : (v : ℕ) → v < d .vertices → (regionLabel d e v < d .vertices) × (regionLabel d e (regionLabel d e v) ≡ regionLabel d e v)
   label-own v h = let x = label-is v h in (x .0, label-same _ v (x .0) h .1 (joined-sym (x .1)))
 
   -- and it is the lowest vertex of it
-  pub label-lowest : (v q : ℕ) → v < d .vertices → Joined e (d .edges) v q → labelOf d e v ≤ q
-  unfolding labelOf
+  pub label-lowest : (v q : ℕ) → v < d .vertices → Joined e (d .edges) v q → regionLabel d e v ≤ q
+  unfolding regionLabel
   label-lowest v q h j = lowest-most (within d e v) (d .vertices) q (joined-below (k .fine) h j) (joined-within d k st po v h q j)
 
   -- the weight by labels is that of all that is joined
-  pub weight-by-label : (v : ℕ) → v < d .vertices → weightOf d (labelOf d e) (labelOf d e v) ≡ weightFrom d e v
+  pub weight-by-label : (v : ℕ) → v < d .vertices → weightOf d (regionLabel d e) (regionLabel d e v) ≡ weightFrom d e v
   unfolding weightOf weightFrom
   weight-by-label v h =
       le-antisymm (total-le _ _ _ _ (λ i hi x. joined-within d k st po v h i (label-same v i h hi .0 (sym (eqb-true _ _ x)))))
@@ -158,7 +158,7 @@ module _ (d : Plan) (k : Proper d) (st : List ℕ) (po : Bool) where
       let (i, c, x) = f .listed v (f .all v (j .0) (j .1)) in
       Memᴰ·cast (sym x) (tab-mem (λ n. at (searched e (d .edges) (d .vertices) u) n) _ i c)
 
-  members-only : (u : ℕ) → u < d .vertices → Every (λ p. (p < d .vertices) × (labelOf d e p ≡ labelOf d e u)) (membersOf d e u)
+  pub members-only : (u : ℕ) → u < d .vertices → Every (λ p. (p < d .vertices) × (regionLabel d e p ≡ regionLabel d e u)) (membersOf d e u)
   unfolding membersOf
   members-only u h =
       let f = finds d k st po u h in
@@ -184,4 +184,4 @@ shows d k s = record {
 }
   where
     i : ℕ → ℕ
-    i = labelOf d (decided d s)
+    i = regionLabel d (decided d s)

@@ -72,9 +72,9 @@ module _ (d : Plan) (k : Proper d) (ls : List ℕ) (c : Consistent ls) where
       go : Right d s (conflict x) → Refutes d ls (conflictList d s x)
       go (rightConflict x f) = record { stands = conflict-stands d (In ls) s k n x f; fits = conflict-fits d s k (n .bounded) x f; sound = λ σ z w. conflict-sound d s σ k (n .bounded) (valid-computed d σ k z) x f w }
 
-  -- neither a literal that is proposed nor its negation stands
-  pub fresh : Each (λ l r. (In ls l → ⊥) × (In ls (negate l) → ⊥)) (analysis d ls .props)
-  fresh = each-map (λ l r p. silent d (In ls) s n l r p) (good .props)
+  -- neither a literal that is proposed nor its negation stands, under either option
+  pub nothing-standing-proposed : Each (λ l r. (In ls l → ⊥) × (In ls (negate l) → ⊥)) (analysis d ls .props)
+  nothing-standing-proposed = each-map (λ l r p. silent d (In ls) s n l r p) (good .props)
 
   -- every reason, where at least as much stands when it is fetched
   pub reasons : (ms : List ℕ) → Consistent ms → ((l : ℕ) → In ls l → In ms l) → Each (Justifies d ms) (analysis d ls .props)

@@ -154,7 +154,8 @@ module _ (d : Plan) (s : State) (w : View) where
   spreads v o = spreadsHigh v (spreadsLow v o)
 
   -- 5. Edges g and h, undecided, lead from vertex u to two other regions that have one and the same fixed size, which would be passed
-  -- if both were joined to u's. The Rust goes through the edges at u; an edge from u to itself, which stands there twice, joins no two regions.
+  -- if both were joined to u's. The Rust walks `adj[u]`, where an edge from u to itself stands twice: these are the same turns in the same
+  -- order (proofs/Adjacent.antt).
   unfoldable pub forks : ℕ → ℕ → ℕ → Bool
   forks u g h = (touches d u g && touches d u h) && ((loose g && loose h) && not (eqb (w .did (across d u g)) (w .did (across d u h))))
 

@@ -1,4 +1,4 @@
--- The lists of the conflicts, and ranges that do not meet.
+-- The conflicts that an analysis finds, and the list that each leaves.
 use Prim.Native.Nat.{ℕ, _+_}
 use mathlib.Core.List.{List, [], _∷_, _++_}
 use lib.Dec.{ltb}
@@ -16,11 +16,14 @@ unfoldable pub sumLower : State → List ℕ → ℕ
 sumLower s [] = 0
 sumLower s (p ∷ ps) = s .lower p + sumLower s ps
 
--- of a list of vertices, one after the other, those whose range begins past where the last one taken ended
+-- Step 3, "lower bounds of pairwise separate ranges": of a list of vertices, one after the other, those whose range begins past where the
+-- last one taken ended.
 unfoldable pub greedy : State → ℕ → List ℕ → List ℕ
 greedy s cur [] = []
 greedy s cur (p ∷ ps) = pick (ltb cur (s .lower p)) (p ∷ greedy s (s .upper p) ps) (greedy s cur ps)
 
+-- a disconnected edge inside a region; an upper bound below the region's weight; a lower bound over the potential region's weight; separate
+-- ranges that need more than it; bounds of one region that do not meet
 pub data Conflict : Type 0 where
   disconnectedInside : (g : ℕ) → Conflict
   over : (v : ℕ) → Conflict
@@ -28,6 +31,7 @@ pub data Conflict : Type 0 where
   crowded : (r : ℕ) (ps : List ℕ) → Conflict
   apart : (a b : ℕ) → Conflict
 
+-- `inconsistency_reason`
 unfoldable pub conflictList : Plan → State → Conflict → List ℕ
 conflictList d s (disconnectedInside g) = connectedPath d s (left d g) (right d g) ++ (d .edgeLit g ∷ [])
 conflictList d s (over v) = decidedRegion d s v ++ s .upperLit v

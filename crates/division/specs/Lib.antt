@@ -6,6 +6,7 @@ pub mod Noting
 pub mod Reasons
 pub mod Conflicts
 pub mod Analysis
+pub mod Refusals
 pub mod Views
 pub mod Buckets
 pub mod Runs

@@ -1,4 +1,4 @@
--- Noting literals, as a definition that computes.
+-- The Rust's `notify`: what noting a literal does to edge states and bounds.
 use Prim.Native.Nat.{ℕ, suc, pred}
 use mathlib.Core.Bool.{_&&_}
 use mathlib.Core.List.{List, [], _∷_, List·Memᴰ}
@@ -35,6 +35,7 @@ lowBound s v = record { bound = s .lower v; lits = s .lowerLit v }
 abbrev pub highBound : State → ℕ → Bound
 highBound s v = record { bound = s .upper v; lits = s .upperLit v }
 
+-- `notify`
 unfoldable pub noteOne : Plan → ℕ → State → State
 noteOne d l s = record {
   edgeState = tab (λ g. turn d l g (getD (s .edgeState) g 0)) (d .edges);
@@ -44,6 +45,7 @@ noteOne d l s = record {
   upperLit = λ v. lessen d l v (highBound s v) .lits;
 }
 
+-- nothing noted: document 01, "An empty domain bounds nothing: lower 0, upper 2147483647"
 unfoldable pub unnoted : Plan → State
 unnoted d = record {
   edgeState = tab (λ g. 0) (d .edges);

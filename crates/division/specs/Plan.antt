@@ -1,5 +1,5 @@
 -- Document 01, "Plan": what the builder makes and the analysis reads.
-use Prim.Native.Nat.{ℕ, _<_, _≤_}
+use Prim.Native.Nat.{ℕ, suc, _<_, _≤_}
 use mathlib.Core.Path.{_≡_}
 use mathlib.Core.Bool.{Bool, false, _||_}
 use mathlib.Core.List.{List, []}
@@ -30,9 +30,9 @@ pub record Plan : Type 0 where
 -- go up to 1,000,000, and the sizes of a domain rise
 pub record Proper (d : Plan) : Type 0 where
   pub fine : Fine (d .vertices) (d .edges) (d .ends)
-  pub light : (v : ℕ) → d .weight v ≤ 1000000
-  pub entries : (v j : ℕ) → j < d .domainLen v → d .domain v j ≤ 1000000
-  pub rising : (v i j : ℕ) → i < j → j < d .domainLen v → d .domain v i < d .domain v j
+  pub light : (v : ℕ) → v < d .vertices → d .weight v ≤ 1000000
+  pub entries : (v j : ℕ) → v < d .vertices → j < d .domainLen v → d .domain v j ≤ 1000000
+  pub rising : (v j : ℕ) → v < d .vertices → suc j < d .domainLen v → d .domain v j < d .domain v (suc j)
 
 -- both options off
 pub record Plain (d : Plan) : Type 0 where

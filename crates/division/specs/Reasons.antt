@@ -1,4 +1,4 @@
--- The lists of literals that explain, and what a recorded reason claims.
+-- The reasons that an analysis records, and their lists of literals.
 use Prim.Native.Nat.{ℕ, suc, _+_, pred}
 use mathlib.Core.Bool.{Bool, not, _&&_, _||_}
 use mathlib.Core.List.{List, [], _∷_, _++_, map}
@@ -17,11 +17,11 @@ use Rattle.division.specs.State.{State, decided, potential}
 abbrev pub connectedLit : Plan → ℕ → ℕ
 connectedLit d g = negate (d .edgeLit g)
 
--- the connected edges on the way from u to v, the last one first
+-- `reason_connected_path`: the connected edges on the way from u to v, the last one first
 unfoldable pub connectedPath : Plan → State → ℕ → ℕ → List ℕ
 connectedPath d s u v = map (connectedLit d) (climb (searched (decided d s) (d .edges) (d .vertices) u) u (d .vertices) v)
 
--- the connected edges by which the vertices of u's region were reached, in that order
+-- `reason_decided_region`: the connected edges by which the vertices of u's region were reached, in that order
 unfoldable pub decidedRegion : Plan → State → ℕ → List ℕ
 decidedRegion d s u =
     let r = searched (decided d s) (d .edges) (d .vertices) u in
@@ -32,13 +32,13 @@ unfoldable pub leaves : Plan → State → (ℕ → Bool) → ℕ → ℕ → Bo
 leaves d s seen p g =
     eqb (getD (s .edgeState) g 0) 1 && ((eqb (left d g) p && not (seen (right d g))) || (eqb (right d g) p && not (seen (left d g))))
 
--- the disconnected edges that leave what can be joined to u
+-- `reason_potential_region`: the disconnected edges that leave what can be joined to u
 unfoldable pub potentialRegion : Plan → State → ℕ → List ℕ
 potentialRegion d s u =
     let seen = within d (potential d s) u in
     collect (λ p. pick (seen p) (collect (λ g. pick (leaves d s seen p g) (d .edgeLit g ∷ []) []) (d .edges)) []) (d .vertices)
 
--- what an analysis records of a literal that it proposes; a bound's literal is a list of at most one
+-- the Rust's `Reason`: what an analysis records of a literal that it proposes; a bound's literal is a list of at most one
 pub data Reason : Type 0 where
   edgeInSameGroup : (g : ℕ) → Reason
   edgeBetweenDifferentGroups : (h g : ℕ) (flip : Bool) → Reason
@@ -51,7 +51,7 @@ pub data Reason : Type 0 where
   -- two regions with their lower and upper bound's literals, and the third one
   adjacentSameSizeRegions : (a : ℕ) (la ua : List ℕ) (b : ℕ) (lb ub : List ℕ) (u : ℕ) → Reason
 
--- the list that a fetch in state s gives
+-- `get_reason_lits` in state s
 unfoldable pub listOf : Plan → State → Reason → List ℕ
 listOf d s (edgeInSameGroup g) = connectedPath d s (left d g) (right d g)
 listOf d s (edgeBetweenDifferentGroups h g flip) =

@@ -21,5 +21,5 @@ lowest t zero = 0
 lowest t (suc n) = pick (ltb (lowest t n) n) (lowest t n) (pick (t n) n (suc n))
 
 -- a region's label: the lowest vertex of it. Regions in the order of their labels are in the order of `compute_regions`.
-unfoldable pub labelOf : Plan → Graph → ℕ → ℕ
-labelOf d e v = lowest (within d e v) (d .vertices)
+unfoldable pub regionLabel : Plan → Graph → ℕ → ℕ
+regionLabel d e v = lowest (within d e v) (d .vertices)

@@ -1,4 +1,4 @@
--- What has been noted of the literals that stand.
+-- The part of the Rust's `GraphDivision` that notifications change: what has been noted of the literals that stand.
 use Prim.Native.Nat.{ℕ}
 use mathlib.Core.Bool.{true, false}
 use mathlib.Core.List.{List}
@@ -20,7 +20,7 @@ pub record State : Type 0 where
 abbrev pub stateOf : State → ℕ → ℕ
 stateOf s g = getD (s .edgeState) g 0
 
--- joined by connected edges; joined by edges that are not disconnected
+-- Document 01, "Region: pens joined by open gates (potential region: by gates not shut)", in a state that is not yet decided whole.
 abbrev pub decided : Plan → State → Graph
 decided d s = graph (d .ends) (s .edgeState) false
 
