@@ -1,3 +1,5 @@
 pub mod Input
+pub mod Applies
 pub mod Index
 pub mod Filed
+pub mod Build

@@ -19,7 +19,7 @@ ghost use Rattle.base.specs.Lists.{some};
 ghost use Rattle.base.specs.Range.{inRange, toNat};
 ghost use Rattle.builder.specs.Input.{weightAt, sizesAt, litsAt, sizeAt, litAt, leftAt, rightAt, edgeLitAt, lenAt, sizesOutside, tooMany, weightOutside, sizeWrong, domainWrong, sizesWrong, litCountWrongAt, litCountWrong, sizeLitOutside, edgeLitOutside, litOutside, isVertex, endWrong, refusal};
 
-fn weight(vertices: &[i32; 4288], v: usize) -> i32
+pub(crate) fn weight(vertices: &[i32; 4288], v: usize) -> i32
     requires { ⌜ v < 64 ⌝ }
     ensures { λ r. ⌜ r ≡ weightAt (now (vertices .entry)) v ⌝ }
 {
@@ -40,42 +40,42 @@ fn lits(vertices: &[i32; 4288], v: usize) -> i32
     vertices[67 * v + 2]
 }
 
-fn size(vertices: &[i32; 4288], v: usize, j: usize) -> i32
+pub(crate) fn size(vertices: &[i32; 4288], v: usize, j: usize) -> i32
     requires { ⌜ (v < 64) × (j < 32) ⌝ }
     ensures { λ r. ⌜ r ≡ sizeAt (now (vertices .entry)) v j ⌝ }
 {
     vertices[67 * v + 3 + j]
 }
 
-fn size_lit(vertices: &[i32; 4288], v: usize, j: usize) -> i32
+pub(crate) fn size_lit(vertices: &[i32; 4288], v: usize, j: usize) -> i32
     requires { ⌜ (v < 64) × (j < 32) ⌝ }
     ensures { λ r. ⌜ r ≡ litAt (now (vertices .entry)) v j ⌝ }
 {
     vertices[67 * v + 35 + j]
 }
 
-fn left(edges: &[i32; 384], g: usize) -> i32
+pub(crate) fn left(edges: &[i32; 384], g: usize) -> i32
     requires { ⌜ g < 128 ⌝ }
     ensures { λ r. ⌜ r ≡ leftAt (now (edges .entry)) g ⌝ }
 {
     edges[3 * g]
 }
 
-fn right(edges: &[i32; 384], g: usize) -> i32
+pub(crate) fn right(edges: &[i32; 384], g: usize) -> i32
     requires { ⌜ g < 128 ⌝ }
     ensures { λ r. ⌜ r ≡ rightAt (now (edges .entry)) g ⌝ }
 {
     edges[3 * g + 1]
 }
 
-fn edge_lit(edges: &[i32; 384], g: usize) -> i32
+pub(crate) fn edge_lit(edges: &[i32; 384], g: usize) -> i32
     requires { ⌜ g < 128 ⌝ }
     ensures { λ r. ⌜ r ≡ edgeLitAt (now (edges .entry)) g ⌝ }
 {
     edges[3 * g + 2]
 }
 
-fn domain_len(vertices: &[i32; 4288], v: usize) -> usize
+pub(crate) fn domain_len(vertices: &[i32; 4288], v: usize) -> usize
     requires { ⌜ v < 64 ⌝ }
     ensures { λ r. ⌜ r ≡ lenAt (now (vertices .entry)) v ⌝ }
 {
@@ -229,7 +229,7 @@ fn size_lit_outside_below(vertices: &[i32; 4288], v: usize, count: usize) -> boo
 }
 
 // A domain of k sizes has k - 1 literals, an empty one none that count.
-fn less_one(k: usize) -> usize
+pub(crate) fn less_one(k: usize) -> usize
     ensures { λ r. ⌜ r ≡ pred k ⌝ }
 {
     if k == 0 {

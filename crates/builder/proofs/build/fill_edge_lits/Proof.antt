@@ -1,0 +1,65 @@
+use mathlib.Core.Path.{_≡_, refl, sym, ap, _∙_}
+use mathlib.Core.List.{List}
+use Prim.Native.Nat.{ℕ, pred, _+_, _-_, _*_, _≤_, _<_}
+use native.Mathlib.Omega.{arith}
+use borrow.Author.Needs.{needs}
+use lib.ListN.{getD, set, length-set}
+use Rattle.base.specs.Iter.{iter}
+use Rattle.base.specs.Lists.{filled}
+use Rattle.base.specs.Range.{toNat}
+use Rattle.base.proofs.Loop.{iter-zero, iter-more, iter-done}
+use Rattle.builder.specs.Input.{weightAt, lenAt, sizeAt, litAt, edgeLitAt}
+use Rattle.builder.proofs.build.fill_edge_lits.Statement.{statement}
+use Rattle.builder.proofs.build.fill_edge_lits.Tie as tie
+
+abbrev Inv-loop : tie.InvT-loop
+Inv-loop edges m plan₀ g₀ plan g = (g ≤ m) × (plan ≡ iter (λ i l. set l (4232 + i) (toNat (edgeLitAt edges i))) g plan₀)
+
+abbrev μ-loop : tie.MeasureT-loop
+μ-loop edges m plan₀ g₀ plan g = m - g
+
+loop-holds : tie.Need-loop-holds Inv-loop μ-loop
+loop-holds c = (omega arith, iter-zero _ _)
+
+edge-lit-number-requires : tie.Need-edge-lit-number-requires Inv-loop μ-loop
+edge-lit-number-requires c κs = search needs
+
+add-plan : tie.Need-add-plan Inv-loop μ-loop
+add-plan c = omega arith
+
+mul-plan : tie.Need-mul-plan Inv-loop μ-loop
+mul-plan c = omega arith
+
+element-write-plan : tie.Need-element-write-plan Inv-loop μ-loop
+element-write-plan c = omega arith
+
+add-g : tie.Need-add-g Inv-loop μ-loop
+add-g c = omega arith
+
+loop-less : tie.Need-loop-less Inv-loop μ-loop
+loop-less c = omega arith
+
+loop-again : tie.Need-loop-again Inv-loop μ-loop
+loop-again c =
+    let l = c .before .before .loop in
+    (omega arith, iter-more _ _ _ _ _ (l .inv .1) (ap (set (l .plan) (4232 + l .g)) (c .edge-lit-number .ensures)))
+
+returns : tie.Need-returns Inv-loop μ-loop
+unfolding filled
+returns c = iter-done _ _ _ _ _ (c .before .loop .inv .1) (omega arith) (omega arith)
+
+pub fill-edge-lits-spec : {M : Type 1} → statement M
+fill-edge-lits-spec =
+    tie.close
+    (tie.spec
+    Inv-loop
+    μ-loop
+    loop-holds
+    edge-lit-number-requires
+    add-plan
+    mul-plan
+    element-write-plan
+    add-g
+    loop-less
+    loop-again
+    returns)
