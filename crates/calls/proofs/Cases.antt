@@ -1,9 +1,7 @@
 -- Document 01's cases, its table of refusals and some points that it leaves to be read closely, whole: lines and answers.
 use Prim.Native.Nat.{ℕ}
 use mathlib.Core.Path.{_≡_, refl}
-use mathlib.Core.Bool.{true, false}
 use mathlib.Core.List.{List, [], _∷_}
-use Rattle.division.specs.Plan.{Plan}
 use Rattle.division.proofs.Cases.{planWith, plan, planB, planD, planE, planG, planH, planS}
 use Rattle.calls.specs.Lines.{value, init, told, only, back, why, last, output}
 use Rattle.calls.proofs.Computes.{answers}

@@ -82,13 +82,13 @@ did-exact : (d : Plan) (k : Proper d) (pl : Plain d) (w : World) → Consistent 
     accepted (o .answer) ≡ true → Covers d (o .world .standing) → (o .answer ≡ consistent) ↔ Describes d (o .world .standing)
 unfolding refuse accepted settledBy noting isConflict
 did-exact d k pl w g (away c n) a v = absurd (false≢true a)
-did-exact d k pl w g (added room t l p e f) a v = absurd (false≢true e)
-did-exact d k pl w g (agreed room t l p pf o e f q bt) a v =
+did-exact d k pl w g (added room t l p e f kn) a v = absurd (false≢true e)
+did-exact d k pl w g (agreed room t l p pf o e f q bt kn) a v =
     let c = add-consistent w l f g in
     let u : Saw d (l ∷ w .standing) t o = subst (Saw d (l ∷ w .standing) t) (sym e) (saw d _ _) in
     let h = told-holds (l ∷ w .standing) c in
     (λ _. record { σ = told (l ∷ w .standing); holds = h; valid = exactly d k (l ∷ w .standing) c pl (told (l ∷ w .standing)) (full d _ v _ h) .0 (saw-fine d _ t u q) }, λ _. refl)
-did-exact d k pl w g (clashed room t l p pf o e f q bt) a v =
+did-exact d k pl w g (clashed room t l p pf o e f q bt kn) a v =
     let c = add-consistent w l f g in (
       λ z. absurd (true≢false (ap isConflict z)),
       λ s. let x = full d _ v (s .σ) (s .holds) in

@@ -164,9 +164,9 @@ module _ (d : Plan) (k : Proper d) where
   did-handed : (w : World) {c : Call} {o : Outcome} → Did d w c o → Consistent (w .standing) → (t : List ℕ) × (u : List ℕ) × Handed d t (o .handed) u
   unfolding refuse settledBy give lastBy finishBy entry
   did-handed w (away c n) g = ([], [], none-handed d [])
-  did-handed w (added room t l p e f) g = ([], [], none-handed d [])
-  did-handed w (agreed room t l p pf o e f q bt) g = (t, o .table, looked-handed _ t (add-consistent w l f g) (long-enough d t bt) o e)
-  did-handed w (clashed room t l p pf o e f q bt) g = (t, o .table, looked-handed _ t (add-consistent w l f g) (long-enough d t bt) o e)
+  did-handed w (added room t l p e f kn) g = ([], [], none-handed d [])
+  did-handed w (agreed room t l p pf o e f q bt kn) g = (t, o .table, looked-handed _ t (add-consistent w l f g) (long-enough d t bt) o e)
+  did-handed w (clashed room t l p pf o e f q bt kn) g = (t, o .table, looked-handed _ t (add-consistent w l f g) (long-enough d t bt) o e)
   did-handed w (took room l x xs e) g = ([], [], none-handed d [])
   did-handed w (gave room l r rs e n) g = ([], [], none-handed d [])
   did-handed w (gaveLast room) g = ([], [], none-handed d [])

@@ -15,3 +15,4 @@ pub mod Cases
 pub mod Refusals
 pub mod Truths
 pub mod Alike
+pub mod Slots

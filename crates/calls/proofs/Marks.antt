@@ -115,9 +115,9 @@ steps-marked d t (halts n e) h m = absurd (not-halted e h)
 did-marked : (d : Plan) (w : World) {c : Call} {o : Outcome} → Did d w c o → Marked (tableOf c) (o .handed) (o .table)
 unfolding tableOf refuse settledBy give lastBy finishBy entry
 did-marked d w (away c n) = unmarked _
-did-marked d w (added room t l p e f) = unmarked t
-did-marked d w (agreed room t l p pf o e f q bt) = looked-marked d _ t o e
-did-marked d w (clashed room t l p pf o e f q bt) = looked-marked d _ t o e
+did-marked d w (added room t l p e f kn) = unmarked t
+did-marked d w (agreed room t l p pf o e f q bt kn) = looked-marked d _ t o e
+did-marked d w (clashed room t l p pf o e f q bt kn) = looked-marked d _ t o e
 did-marked d w (took room l x xs e) = unmarked []
 did-marked d w (gave room l r rs e n) = unmarked []
 did-marked d w (gaveLast room) = unmarked []

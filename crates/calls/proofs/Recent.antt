@@ -77,9 +77,9 @@ again d w v h ls f r = record {
 pub did-recent : (d : Plan) (w : World) {c : Call} {o : Outcome} → Did d w c o → Recent d w (o .world) (o .handed)
 unfolding refuse adding settledBy give lastBy finishBy entry
 did-recent d w (away c n) = nothing-yet d w
-did-recent d w (added room t l p e f) = record { recent = []; run = start _; all = refl; each = λ x m. absurd (List·Memᴰ·not-nil m) }
-did-recent d w (agreed room t l p pf o e f q bt) = joined d w w [] t l o e (fine-on q) (nothing-yet d w)
-did-recent d w (clashed room t l p pf o e f q bt) = joined d w w [] t l o e (clash-on q) (nothing-yet d w)
+did-recent d w (added room t l p e f kn) = record { recent = []; run = start _; all = refl; each = λ x m. absurd (List·Memᴰ·not-nil m) }
+did-recent d w (agreed room t l p pf o e f q bt kn) = joined d w w [] t l o e (fine-on q) (nothing-yet d w)
+did-recent d w (clashed room t l p pf o e f q bt kn) = joined d w w [] t l o e (clash-on q) (nothing-yet d w)
 did-recent d w (took room l x xs e) = record { recent = []; run = start _; all = refl; each = λ x m. absurd (List·Memᴰ·not-nil m) }
 did-recent d w (gave room l r rs e n) = nothing-yet d w
 did-recent d w (gaveLast room) = nothing-yet d w
@@ -117,9 +117,9 @@ did-conflict : (d : Plan) (k : Proper d) (pl : Plain d) (w : World) → Consiste
     (σ : ℕ → Bool) → Valid d σ → Every (Holds σ) (o .world .last) → ⊥
 unfolding isConflict refuse settledBy noting give lastBy finishBy entry
 did-conflict d k pl w g (away c n) h σ y x = false≢true h
-did-conflict d k pl w g (added room t l p e f) h σ y x = false≢true h
-did-conflict d k pl w g (agreed room t l p pf o e f q bt) h σ y x = false≢true h
-did-conflict d k pl w g (clashed room t l p pf o e f q bt) h σ y x =
+did-conflict d k pl w g (added room t l p e f kn) h σ y x = false≢true h
+did-conflict d k pl w g (agreed room t l p pf o e f q bt kn) h σ y x = false≢true h
+did-conflict d k pl w g (clashed room t l p pf o e f q bt kn) h σ y x =
     saw-clash d (l ∷ w .standing) t k pl (add-consistent w l f g) (subst (Saw d (l ∷ w .standing) t) (sym e) (saw d _ _)) q σ y x
 did-conflict d k pl w g (took room l z zs e) h σ y x = false≢true h
 did-conflict d k pl w g (gave room l r rs e n) h σ y x = false≢true h

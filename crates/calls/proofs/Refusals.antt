@@ -25,7 +25,7 @@ use Rattle.calls.specs.Refusals.{BadTable, short, high, Known, Stands, S
 use Rattle.calls.proofs.Looks.{stop-not-fine, stop-not-clash}
 use Rattle.calls.proofs.Known.{known, unknown}
 use Rattle.calls.proofs.Stands.{or-left}
-use Rattle.calls.proofs.View.{or-right, stop-stays, clash-stays}
+use Rattle.calls.proofs.View.{not-not, or-right, stop-stays, clash-stays}
 use Rattle.calls.proofs.Claim.{has-in, in-has, one-reason}
 
 -- 7
@@ -138,10 +138,6 @@ refused-or (reason ls) = inr refl
 not-false : (b : Bool) → not b ≡ true → b ≡ false
 not-false true e = absurd (false≢true e)
 not-false false e = refl
-
-not-not : (b : Bool) → not b ≡ false → b ≡ true
-not-not true e = refl
-not-not false e = absurd (true≢false e)
 
 -- how a call is judged
 data Judged (d : Plan) (w : World) (c : Call) (a : Answer) : Type 0 where

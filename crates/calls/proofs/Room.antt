@@ -130,9 +130,9 @@ module _ (d : Plan) (k : Proper d) where
   did-left : (w : World) {c : Call} {o : Outcome} → Did d w c o → Consistent (w .standing) → length (w .last) ≤ room d → length (o .world .last) ≤ room d
   unfolding refuse adding settledBy noting give lastBy finishBy entry
   did-left w (away c n) g z = z
-  did-left w (added room t l p e f) g z = z
-  did-left w (agreed room t l p pf o e f q bt) g z = looked-left _ t (add-consistent w l f g) o e
-  did-left w (clashed room t l p pf o e f q bt) g z = looked-left _ t (add-consistent w l f g) o e
+  did-left w (added room t l p e f kn) g z = z
+  did-left w (agreed room t l p pf o e f q bt kn) g z = looked-left _ t (add-consistent w l f g) o e
+  did-left w (clashed room t l p pf o e f q bt kn) g z = looked-left _ t (add-consistent w l f g) o e
   did-left w (took room l x xs e) g z = z
   did-left w (gave room l r rs e n) g z = z
   did-left w (gaveLast room) g z = z

@@ -78,9 +78,9 @@ steps-standing d (halts n e) h = absurd (not-halted e h)
 did-standing : (d : Plan) (w : World) {c : Call} {o : Outcome} → Did d w c o → o .world .standing ≡ pick (accepted (o .answer)) (counts d c (w .standing)) (w .standing)
 unfolding refuse accepted pick counts adding settledBy noting give lastBy finishBy entry tail
 did-standing d w (away c n) = refl
-did-standing d w (added room t l p e f) = refl
-did-standing d w (agreed room t l p pf o e f q bt) = refl
-did-standing d w (clashed room t l p pf o e f q bt) = refl
+did-standing d w (added room t l p e f kn) = refl
+did-standing d w (agreed room t l p pf o e f q bt kn) = refl
+did-standing d w (clashed room t l p pf o e f q bt kn) = refl
 did-standing d w (took room l x xs e) = sym (ap tail e)
 did-standing d w (gave room l r rs e n) = refl
 did-standing d w (gaveLast room) = refl
@@ -91,9 +91,9 @@ did-standing d w (beganClash room t a s j bt) = steps-standing d s (clash-on j)
 did-consistent : (d : Plan) (w : World) {c : Call} {o : Outcome} → Did d w c o → Consistent (w .standing) → Consistent (o .world .standing)
 unfolding refuse adding settledBy noting give lastBy finishBy entry
 did-consistent d w (away c n) k = k
-did-consistent d w (added room t l p e f) k = add-consistent w l f k
-did-consistent d w (agreed room t l p pf o e f q bt) k = add-consistent w l f k
-did-consistent d w (clashed room t l p pf o e f q bt) k = add-consistent w l f k
+did-consistent d w (added room t l p e f kn) k = add-consistent w l f k
+did-consistent d w (agreed room t l p pf o e f q bt kn) k = add-consistent w l f k
+did-consistent d w (clashed room t l p pf o e f q bt kn) k = add-consistent w l f k
 did-consistent d w (took room l x xs e) k = λ y a b. k y (subst (λ z. In z y) (sym e) (List·Memᴰ·tail a)) (subst (λ z. In z (negate y)) (sym e) (List·Memᴰ·tail b))
 did-consistent d w (gave room l r rs e n) k = k
 did-consistent d w (gaveLast room) k = k
@@ -127,9 +127,9 @@ call-consistent d w c k = did-consistent d w (did d w c) k
 did-refused : (d : Plan) (w : World) {c : Call} {o : Outcome} → Did d w c o → accepted (o .answer) ≡ false → (o .world ≡ w) × (o .table ≡ tableOf c) × (o .handed ≡ [])
 unfolding refuse accepted settledBy give lastBy finishBy
 did-refused d w (away c n) e = (refl, refl, refl)
-did-refused d w (added room t l p i f) e = absurd (true≢false e)
-did-refused d w (agreed room t l p pf o i f q bt) e = absurd (true≢false e)
-did-refused d w (clashed room t l p pf o i f q bt) e = absurd (true≢false e)
+did-refused d w (added room t l p i f kn) e = absurd (true≢false e)
+did-refused d w (agreed room t l p pf o i f q bt kn) e = absurd (true≢false e)
+did-refused d w (clashed room t l p pf o i f q bt kn) e = absurd (true≢false e)
 did-refused d w (took room l x xs i) e = absurd (true≢false e)
 did-refused d w (gave room l r rs i n) e = absurd (true≢false e)
 did-refused d w (gaveLast room) e = absurd (true≢false e)

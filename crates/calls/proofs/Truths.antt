@@ -166,9 +166,9 @@ module _ (d : Plan) (k : Proper d) where
     did-grown : {c : Call} {o : Outcome} → Did d w c o → Grown c (o .world)
     unfolding refuse adding settledBy give lastBy finishBy
     did-grown (Did.away c n) = nothing-new c w refl
-    did-grown (Did.added room t l p e f) = nothing-new _ _ refl
-    did-grown (Did.agreed room t l p pf o e f q bt) = looked-more _ w t l o e (fine-on q) (ofPropagate room t l p pf (not-stands w l f)) (nothing-new _ w refl)
-    did-grown (Did.clashed room t l p pf o e f q bt) = looked-more _ w t l o e (clash-on q) (ofPropagate room t l p pf (not-stands w l f)) (nothing-new _ w refl)
+    did-grown (Did.added room t l p e f kn) = nothing-new _ _ refl
+    did-grown (Did.agreed room t l p pf o e f q bt kn) = looked-more _ w t l o e (fine-on q) (ofPropagate room t l p pf (not-stands w l f)) (nothing-new _ w refl)
+    did-grown (Did.clashed room t l p pf o e f q bt kn) = looked-more _ w t l o e (clash-on q) (ofPropagate room t l p pf (not-stands w l f)) (nothing-new _ w refl)
     did-grown (Did.took room l x xs e) = nothing-new _ _ refl
     did-grown (Did.gave room l r rs e n) = nothing-new _ _ refl
     did-grown (Did.gaveLast room) = nothing-new _ _ refl
@@ -278,9 +278,9 @@ module _ (d : Plan) (k : Proper d) where
   did-backed : (w : World) → Consistent (w .standing) → {c : Call} {o : Outcome} → Did d w c o → isConflict (o .answer) ≡ true → Backed (o .world .standing) (o .table) (o .world .last)
   unfolding isConflict refuse settledBy noting give lastBy finishBy entry
   did-backed w g (Did.away c n) h = absurd (false≢true h)
-  did-backed w g (Did.added room t l p e f) h = absurd (false≢true h)
-  did-backed w g (Did.agreed room t l p pf o e f q bt) h = absurd (false≢true h)
-  did-backed w g (Did.clashed room t l p pf o e f q bt) h = looked-backed _ t (add-consistent w l f g) o e q
+  did-backed w g (Did.added room t l p e f kn) h = absurd (false≢true h)
+  did-backed w g (Did.agreed room t l p pf o e f q bt kn) h = absurd (false≢true h)
+  did-backed w g (Did.clashed room t l p pf o e f q bt kn) h = looked-backed _ t (add-consistent w l f g) o e q
   did-backed w g (Did.took room l z zs e) h = absurd (false≢true h)
   did-backed w g (Did.gave room l r rs e n) h = absurd (false≢true h)
   did-backed w g (Did.gaveLast room) h = absurd (false≢true h)

@@ -10,7 +10,7 @@ use Rattle.division.specs.Conflicts.{Conflict, conflictList}
 use Rattle.division.specs.Analysis.{zeroSize, Verdict, going, conflict, crossed}
 use Rattle.division.specs.Noting.{noteAll}
 use Rattle.division.specs.Runs.{analysis, fetched, reasonOf}
-use Rattle.calls.specs.Table.{entered, badTable, someCurrent}
+use Rattle.calls.specs.Table.{entered, badTable, someCurrent, knows}
 use Rattle.calls.specs.Look.{Judgement, fine, clash, stopped, Looked, offers, firstFalse, falseList, stop, clashes, offered, lookedBy, looked, gone}
 use Rattle.calls.specs.Calls.{World, Call, initialize, propagate, undo, calcReason, calcLast, noted, undone, tableOf, Outcome, refuse, taken, adding, settledBy, settled, onPropagate, takeBack, onUndo, give, giveReason, onCalcReason, onCalcLast, Going, joinBy, oneBy, propagateAll, lastBy, finishBy, entry, onInitialize, call}
 
@@ -82,14 +82,18 @@ pub or-right : (a b : Bool) → (a || b) ≡ false → b ≡ false
 or-right true b e = absurd (true≢false e)
 or-right false b e = e
 
+pub not-not : (b : Bool) → not b ≡ false → b ≡ true
+not-not true e = refl
+not-not false e = absurd (true≢false e)
+
 -- a call in world w
 pub data Did (d : Plan) (w : World) : Call → Outcome → Type 0 where
   away : (c : Call) (n : ℕ) → Did d w c (refuse n w (tableOf c))
-  added : (room : Bool) (t : List ℕ) (l : ℕ) (pending : Bool) → pending ≡ true → taken w l ≡ false →
+  added : (room : Bool) (t : List ℕ) (l : ℕ) (pending : Bool) → pending ≡ true → taken w l ≡ false → knows d l ≡ true →
       Did d w (propagate room t l pending) (record { answer = noted; world = adding w l; table = t; handed = [] })
-  agreed : (room : Bool) (t : List ℕ) (l : ℕ) (pending : Bool) → pending ≡ false → (o : Looked) → o ≡ looked d (l ∷ w .standing) t → taken w l ≡ false → o .judgement ≡ fine → badTable d t ≡ false →
+  agreed : (room : Bool) (t : List ℕ) (l : ℕ) (pending : Bool) → pending ≡ false → (o : Looked) → o ≡ looked d (l ∷ w .standing) t → taken w l ≡ false → o .judgement ≡ fine → badTable d t ≡ false → knows d l ≡ true →
       Did d w (propagate room t l pending) (settledBy w t l o fine)
-  clashed : (room : Bool) (t : List ℕ) (l : ℕ) (pending : Bool) → pending ≡ false → (o : Looked) → o ≡ looked d (l ∷ w .standing) t → taken w l ≡ false → o .judgement ≡ clash → badTable d t ≡ false →
+  clashed : (room : Bool) (t : List ℕ) (l : ℕ) (pending : Bool) → pending ≡ false → (o : Looked) → o ≡ looked d (l ∷ w .standing) t → taken w l ≡ false → o .judgement ≡ clash → badTable d t ≡ false → knows d l ≡ true →
       Did d w (propagate room t l pending) (settledBy w t l o clash)
   took : (room : Bool) (l x : ℕ) (xs : List ℕ) → w .standing ≡ x ∷ xs →
       Did d w (undo room l) (record { answer = undone; world = record { standing = xs; reasons = w .reasons; last = w .last; done = w .done }; table = []; handed = [] })
@@ -105,16 +109,16 @@ module _ (d : Plan) (w : World) where
   propagate-did : (room : Bool) (t : List ℕ) (l : ℕ) (pending : Bool) → Did d w (propagate room t l pending) (onPropagate d w room t l pending)
   unfolding onPropagate settled settledBy tableOf
   propagate-did room t l pending =
-      pick-ind D _ _ _ (λ _. away _ 7) (λ b. pick-ind D _ _ _ (λ _. away _ 9) (λ _. pick-ind D _ _ _ (λ _. away _ 10)
-      (λ f. pick-ind D _ _ _ (λ p. added room t l pending p f) (λ p. by p _ refl f (or-right (not room) _ b)))))
+      pick-ind D _ _ _ (λ _. away _ 7) (λ b. pick-ind D _ _ _ (λ _. away _ 9) (λ kn. pick-ind D _ _ _ (λ _. away _ 10)
+      (λ f. pick-ind D _ _ _ (λ p. added room t l pending p f (not-not _ kn)) (λ p. by p _ refl f (or-right (not room) _ b) (not-not _ kn)))))
     where
       D : Outcome → Type 0
       D = Did d w (propagate room t l pending)
 
-      by : pending ≡ false → (j : Judgement) → looked d (l ∷ w .standing) t .judgement ≡ j → taken w l ≡ false → badTable d t ≡ false → D (settledBy w t l (looked d (l ∷ w .standing) t) j)
-      by p fine e f b = agreed room t l pending p _ refl f e b
-      by p clash e f b = clashed room t l pending p _ refl f e b
-      by p (stopped n) e f b = halt
+      by : pending ≡ false → (j : Judgement) → looked d (l ∷ w .standing) t .judgement ≡ j → taken w l ≡ false → badTable d t ≡ false → knows d l ≡ true → D (settledBy w t l (looked d (l ∷ w .standing) t) j)
+      by p fine e f b kn = agreed room t l pending p _ refl f e b kn
+      by p clash e f b kn = clashed room t l pending p _ refl f e b kn
+      by p (stopped n) e f b kn = halt
         where
           halt : D (settledBy w t l (looked d (l ∷ w .standing) t) (stopped n))
           halt = away _ n

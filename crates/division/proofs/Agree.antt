@@ -13,7 +13,8 @@ use Rattle.base.proofs.Lists.{every-map}
 use Rattle.base.proofs.Loop.{pick-ind, iter-ind}
 use Rattle.base.proofs.Tests.{and-right}
 use Rattle.sat.specs.Literal.{negate}
-use Rattle.division.specs.Views.{leastIn, mostIn, viewOf, Spot}
+use Rattle.regions.specs.Buckets.{leastIn, mostIn, Spot}
+use Rattle.division.specs.Views.{viewOf}
 use Rattle.division.specs.Plan.{Plan, Proper, left, right, touches, across}
 use Rattle.division.specs.Regions.{lowest}
 use Rattle.division.specs.State.{State, stateOf}

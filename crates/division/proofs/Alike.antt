@@ -12,6 +12,7 @@ use Rattle.base.proofs.Loop.{pick-ind}
 use Rattle.base.proofs.Lists.{collect-every, every-map, tab-at}
 use Rattle.graph.specs.Search.{Scan, at, edgeTo, reachedYet, Graph, graph, visited, popped, searchedOn, searched, passes}
 use Rattle.graph.specs.Paths.{climb}
+use Rattle.regions.specs.Buckets.{Spot, leastIn, mostIn}
 use Rattle.division.specs.Noting.{Bound, noteOne, turn, raise, lessen}
 use Rattle.division.specs.Plan.{Plan, Proper, left, right}
 use Rattle.division.specs.Regions.{within, regionLabel}
@@ -19,7 +20,7 @@ use Rattle.division.specs.State.{State, decided, potential}
 use Rattle.division.specs.Reasons.{connectedLit, connectedPath, decidedRegion, leaves, potentialRegion, Reason, listOf, edgeInSameGroup, edgeBetweenDifferentGroups, tooLargeIfRegionsAreMerged, regionAlreadyLarge, regionAlreadySmall, inconsistentBoundsIfRegionsAreMerged, boundPropagationWithinRegion, adjacentSameSizeRegions}
 use Rattle.division.specs.Conflicts.{spans, Conflict, conflictList}
 use Rattle.division.specs.Analysis.{analyzed}
-use Rattle.division.specs.Views.{weightOf, Spot, leastIn, mostIn, earlier, insert, sorted, cellsOf, membersOf, viewOf}
+use Rattle.division.specs.Views.{weightOf, earlier, insert, sorted, cellsOf, membersOf, viewOf}
 use Rattle.division.proofs.Walk.{joined-below}
 use Rattle.division.proofs.Views.{sorted-every}
 use Rattle.division.proofs.Proposed.{IsConflict, isDisconnected, isOver, isUnder, isCrowded, isApart}

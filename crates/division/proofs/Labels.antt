@@ -6,8 +6,8 @@ use mathlib.Core.Path.{_≡_}
 use mathlib.Core.Bool.{Bool}
 use mathlib.Core.List.{List}
 use Rattle.graph.specs.Search.{graph}
-use Rattle.graph.specs.Labels.{labelOf, Labelled}
 use Rattle.graph.proofs.Joined.{joined-sym}
+use Rattle.regions.specs.Labels.{labelOf, Labelled}
 use Rattle.division.specs.Plan.{Plan, Proper}
 use Rattle.division.specs.Regions.{regionLabel}
 use Rattle.division.proofs.Views.{label-is, label-lowest}

@@ -19,7 +19,6 @@ pub mod Phases
 pub mod Judge
 pub mod Judged
 pub mod Views
-pub mod Buckets
 pub mod Whole
 pub mod Computes
 pub mod Cases

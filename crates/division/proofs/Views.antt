@@ -16,10 +16,11 @@ use Rattle.graph.specs.Search.{Graph, graph, searched, at}
 use Rattle.graph.specs.Paths.{Joined, here}
 use Rattle.graph.proofs.Joined.{joined-trans, joined-sym, joined-refl}
 use Rattle.graph.proofs.Mark.{lt-cases}
+use Rattle.regions.specs.Buckets.{Spot, leastIn, mostIn}
 use Rattle.division.specs.Plan.{Plan, Proper}
 use Rattle.division.specs.Regions.{regionLabel, lowest, weightFrom, within}
 use Rattle.division.specs.State.{State, decided}
-use Rattle.division.specs.Views.{weightOf, Spot, leastIn, mostIn, insert, sorted, cellsOf, membersOf, viewOf}
+use Rattle.division.specs.Views.{weightOf, insert, sorted, cellsOf, membersOf, viewOf}
 use Rattle.division.proofs.Shown.{Cell, Shows}
 use Rattle.division.proofs.Sums.{total-le}
 use Rattle.division.proofs.Walk.{finds, within-joined, joined-within, joined-below}

@@ -8,5 +8,4 @@ pub mod Conflicts
 pub mod Analysis
 pub mod Refusals
 pub mod Views
-pub mod Buckets
 pub mod Runs

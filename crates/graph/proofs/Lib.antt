@@ -8,10 +8,3 @@ pub mod Joined
 pub mod Cases
 pub mod Lists
 pub mod Walkable
-pub mod Labels
-pub mod Buckets
-pub mod Spots
-pub mod Region
-pub mod Written
-pub mod Walk
-pub mod Answers

@@ -1,5 +1,5 @@
 -- Loops over the first entries of a list.
-use Prim.Native.Nat.{ℕ, zero, suc}
+use Prim.Native.Nat.{ℕ, zero, suc, _+_}
 use mathlib.Core.Bool.{Bool, true, _&&_}
 use mathlib.Core.List.{List}
 use lib.ListN.{getD, set}
@@ -17,3 +17,7 @@ mapped f n l = iter (put f) n l
 unfoldable pub every : (ℕ → Bool) → ℕ → Bool
 every b zero = true
 every b (suc n) = every b n && b n
+
+-- word first + v of a list that was lent: the number of vertex v or of edge v
+abbrev pub numberOf : List ℕ → ℕ → ℕ → ℕ
+numberOf words first v = getD words (first + v) 0

@@ -1,12 +1,23 @@
-// Whether a graph can be walked.
+// Whether a graph can be walked, and an edge passed.
 ghost use mathlib.Core.Path.{_≡_};
 ghost use Prim.Native.Nat.{ℕ, _<_, _≤_};
+ghost use Rattle.graph.specs.Search.{passes};
 ghost use Rattle.graph.specs.Bounds.{endsBelow, walkable};
 
 pub fn wide(x: u8) -> usize
     ensures { λ r. ⌜ r ≡ x ⌝ }
 {
     x as usize
+}
+
+// Whether an edge in this state can be passed.
+pub fn passable(state: u32, potential: bool) -> bool
+    ensures { λ r. ⌜ r ≡ passes potential state ⌝ }
+{
+    if potential {
+        return state != 1;
+    }
+    state == 2
 }
 
 // Whether the ends of edge g are vertices.

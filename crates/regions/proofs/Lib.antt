@@ -1,0 +1,4 @@
+pub mod Labels
+pub mod Buckets
+pub mod Spots
+pub mod Region
