@@ -1,4 +1,5 @@
 pub mod Written
 pub mod Walk
 pub mod Lists
+pub mod Same
 pub mod Answers
