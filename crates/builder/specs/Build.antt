@@ -1,7 +1,7 @@
 -- The plan that `new` builds from numbers that no refusal applies to: document 01's Plan section, laid out in words.
 use mathlib.Core.Bool.{Bool}
 use mathlib.Core.List.{List, [], _∷_}
-use Prim.Native.Nat.{ℕ, pred, _+_, _*_}
+use Prim.Native.Nat.{ℕ, pred, _+_, _*_, _%_, min}
 use lib.Dec.{eqb}
 use lib.IntN.{ℤ}
 use lib.ListN.{getD, set, replicate}
@@ -50,9 +50,10 @@ unfoldable pub planWords : List ℤ → ℕ → List ℤ → ℕ → Bool → Bo
 planWords vs n es m sameSize extraWalls =
     pick (eqb (refusal vs n es m) 0) (withIndex (given vs n es m sameSize extraWalls)) (replicate 15241 0)
 
--- "held as an array of pairs of pen numbers": the edge table, with 0 0 past the last edge
+-- "held as an array of pairs of pen numbers": the edge table, with 0 0 past the last edge. An end is the number given modulo
+-- 256, which is that number wherever it is a vertex.
 unfoldable pub edgeStep : List ℤ → ℕ → List (List ℕ) → List (List ℕ)
-edgeStep es g t = set t g (toNat (leftAt es g) ∷ toNat (rightAt es g) ∷ [])
+edgeStep es g t = set t g (toNat (leftAt es g) % 256 ∷ toNat (rightAt es g) % 256 ∷ [])
 
 unfoldable pub edgeTable : List ℤ → ℕ → List (List ℕ)
-edgeTable es m = iter (edgeStep es) m (replicate 128 (0 ∷ 0 ∷ []))
+edgeTable es m = iter (edgeStep es) (min m 128) (replicate 128 (0 ∷ 0 ∷ []))

@@ -10,12 +10,12 @@ use crate::input::size;
 use crate::input::size_lit;
 use crate::input::weight;
 ghost use mathlib.Core.Path.{_≡_};
-ghost use Prim.Native.Nat.{ℕ, pred, _+_, _*_, _<_, _≤_};
+ghost use Prim.Native.Nat.{ℕ, pred, _+_, _*_, _%_, _<_, _≤_, min};
 ghost use lib.ListN.{getD, set, replicate};
 ghost use Rattle.base.specs.Iter.{iter, pick};
 ghost use Rattle.base.specs.Lists.{filled};
 ghost use Rattle.base.specs.Range.{toNat};
-ghost use Rattle.builder.specs.Input.{weightAt, lenAt, sizeAt, litAt, edgeLitAt};
+ghost use Rattle.builder.specs.Input.{weightAt, lenAt, sizeAt, litAt, leftAt, rightAt, edgeLitAt};
 ghost use Rattle.builder.specs.Index.{indexed};
 ghost use Rattle.builder.specs.Build.{flag, rows, header, given, closed, totals, withIndex, planWords, edgeStep, edgeTable};
 
@@ -260,4 +260,50 @@ pub fn plan_words<'a>(
         return PlanWords { words: plan };
     }
     PlanWords { words: plan }
+}
+
+fn end_number(end: i32) -> u8
+    ensures { λ r. ⌜ r ≡ toNat end % 256 ⌝ }
+{
+    (base::to_nat(end) % 256) as u8
+}
+
+fn left_number(edges: &[i32; 384], g: usize) -> u8
+    requires { ⌜ g < 128 ⌝ }
+    ensures { λ r. ⌜ r ≡ toNat (leftAt (now (edges .entry)) g) % 256 ⌝ }
+{
+    end_number(left(edges, g))
+}
+
+fn right_number(edges: &[i32; 384], g: usize) -> u8
+    requires { ⌜ g < 128 ⌝ }
+    ensures { λ r. ⌜ r ≡ toNat (rightAt (now (edges .entry)) g) % 256 ⌝ }
+{
+    end_number(right(edges, g))
+}
+
+fn at_most_128(m: usize) -> usize
+    ensures { λ r. ⌜ r ≡ min m 128 ⌝ }
+{
+    if m < 128 {
+        return m;
+    }
+    128
+}
+
+// The edge table: for each edge the pair of its ends, and 0, 0 past the last edge. An end is the number given modulo 256,
+// which is that number wherever it is a vertex.
+pub fn edge_table(edges: &[i32; 384], m: usize) -> [[u8; 2]; 128]
+    ensures { λ r. ⌜ r ≡ edgeTable (now (edges .entry)) m ⌝ }
+{
+    let count = at_most_128(m);
+    let mut table = [[0u8; 2]; 128];
+    let mut g = 0;
+    while g < count {
+        let u = left_number(edges, g);
+        let v = right_number(edges, g);
+        table[g] = [u, v];
+        g += 1;
+    }
+    table
 }
