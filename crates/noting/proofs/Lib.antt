@@ -1,0 +1,4 @@
+pub mod Pushing
+pub mod Sizes
+pub mod Steps
+pub mod Place
