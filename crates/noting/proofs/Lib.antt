@@ -2,3 +2,4 @@ pub mod Pushing
 pub mod Sizes
 pub mod Steps
 pub mod Place
+pub mod Back

@@ -1,6 +1,8 @@
 // Noting a literal, undoing it, and what stands. The noted words are the part of the Rust's `GraphDivision` that
 // notifications change; specs/Words.antt says which word is which.
 pub mod note;
+pub mod stands;
+pub mod undo;
 
 ghost use mathlib.Core.Path.{_≡_};
 ghost use Prim.Native.Nat.{ℕ, _+_, _≤_, _<_};
