@@ -1,0 +1,5 @@
+pub mod Pushing
+pub mod Sizes
+pub mod Steps
+pub mod Place
+pub mod Back

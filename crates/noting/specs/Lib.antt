@@ -1,0 +1,4 @@
+pub mod Words
+pub mod Note
+pub mod Undo
+pub mod Standing

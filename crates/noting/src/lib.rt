@@ -1,0 +1,131 @@
+// Noting a literal, undoing it, and what stands. The noted words are the part of the Rust's `GraphDivision` that
+// notifications change; specs/Words.antt says which word is which.
+pub mod note;
+pub mod stands;
+pub mod undo;
+
+ghost use mathlib.Core.Path.{_≡_};
+ghost use Prim.Native.Nat.{ℕ, _+_, _≤_, _<_};
+ghost use Rattle.base.specs.Lists.{filled};
+ghost use Rattle.noting.specs.Words.{edgeStateOf, boundAt, lowerOf, upperOf, lowerLitOf, upperLitOf, capped, firstSize, lastSize, fresh};
+
+pub fn edge_state(noted: &[u32; 384], g: usize) -> u32
+    ensures { λ r. ⌜ r ≡ edgeStateOf (now (noted .entry)) g ⌝ }
+{
+    if g < 128 {
+        return noted[g];
+    }
+    0
+}
+
+fn bound_at(noted: &[u32; 384], from: usize, past: u32, v: usize) -> u32
+    requires { ⌜ from + 64 ≤ 384 ⌝ }
+    ensures { λ r. ⌜ r ≡ boundAt from past (now (noted .entry)) v ⌝ }
+{
+    if v < 64 {
+        return noted[from + v];
+    }
+    past
+}
+
+pub fn lower_bound(noted: &[u32; 384], v: usize) -> u32
+    ensures { λ r. ⌜ r ≡ lowerOf (now (noted .entry)) v ⌝ }
+{
+    bound_at(noted, 128, 0, v)
+}
+
+pub fn upper_bound(noted: &[u32; 384], v: usize) -> u32
+    ensures { λ r. ⌜ r ≡ upperOf (now (noted .entry)) v ⌝ }
+{
+    bound_at(noted, 192, 0, v)
+}
+
+// The literal that the lower bound is due to, or undo_log::NO_LIT.
+pub fn lower_bound_lit(noted: &[u32; 384], v: usize) -> u32
+    ensures { λ r. ⌜ r ≡ lowerLitOf (now (noted .entry)) v ⌝ }
+{
+    bound_at(noted, 256, 65535, v)
+}
+
+pub fn upper_bound_lit(noted: &[u32; 384], v: usize) -> u32
+    ensures { λ r. ⌜ r ≡ upperLitOf (now (noted .entry)) v ⌝ }
+{
+    bound_at(noted, 320, 65535, v)
+}
+
+fn capped(n: u32, most: u32) -> usize
+    ensures { λ r. ⌜ r ≡ capped n most ⌝ }
+{
+    if n < most {
+        return n as usize;
+    }
+    most as usize
+}
+
+fn first_size(plan: &[u32; 15241], v: usize) -> u32
+    ensures { λ r. ⌜ r ≡ firstSize (now (plan .entry)) v ⌝ }
+{
+    if 0 < plan::domain_len(plan, v) {
+        return plan::domain(plan, v, 0);
+    }
+    0
+}
+
+fn last_size(plan: &[u32; 15241], v: usize) -> u32
+    ensures { λ r. ⌜ r ≡ lastSize (now (plan .entry)) v ⌝ }
+{
+    let len = plan::domain_len(plan, v);
+    if 0 < len {
+        return plan::domain(plan, v, (len - 1) as usize);
+    }
+    2147483647
+}
+
+// The n words from `from` on become x.
+fn fill(noted: &mut [u32; 384], from: usize, n: usize, x: u32)
+    requires { ⌜ from + n ≤ 384 ⌝ }
+    ensures { λ r. ⌜ now (noted .exit) ≡ filled from n (λ v. x) (now (noted .entry)) ⌝ }
+{
+    let mut i = 0;
+    while i < n {
+        noted[from + i] = x;
+        i += 1;
+    }
+}
+
+fn fill_first(plan: &[u32; 15241], noted: &mut [u32; 384], n: usize)
+    requires { ⌜ n ≤ 64 ⌝ }
+    ensures { λ r. ⌜ now (noted .exit) ≡ filled 128 n (firstSize (now (plan .entry))) (now (noted .entry)) ⌝ }
+{
+    let mut i = 0;
+    while i < n {
+        let x = first_size(plan, i);
+        noted[128 + i] = x;
+        i += 1;
+    }
+}
+
+fn fill_last(plan: &[u32; 15241], noted: &mut [u32; 384], n: usize)
+    requires { ⌜ n ≤ 64 ⌝ }
+    ensures { λ r. ⌜ now (noted .exit) ≡ filled 192 n (lastSize (now (plan .entry))) (now (noted .entry)) ⌝ }
+{
+    let mut i = 0;
+    while i < n {
+        let x = last_size(plan, i);
+        noted[192 + i] = x;
+        i += 1;
+    }
+}
+
+// Nothing noted. Words that the plan does not use stay as they are.
+pub fn fresh(plan: &[u32; 15241], noted: &mut [u32; 384])
+    ensures { λ r. ⌜ now (noted .exit) ≡ fresh (now (plan .entry)) (now (noted .entry)) ⌝ }
+{
+    let vertices = capped(plan::num_vertices(plan), 64);
+    let edges = capped(plan::num_edges(plan), 128);
+    fill(noted, 0, edges, 0);
+    fill_first(plan, noted, vertices);
+    fill_last(plan, noted, vertices);
+    fill(noted, 320, vertices, 65535);
+    fill(noted, 256, vertices, 65535);
+}

@@ -1,0 +1,349 @@
+// The Rust's `notify`: a literal is noted in the noted words and in the undo log.
+use crate::lower_bound;
+use crate::lower_bound_lit;
+use crate::upper_bound;
+use crate::upper_bound_lit;
+use undo_log::Cursor;
+use undo_log::Pushed;
+use undo_log::Record;
+ghost use mathlib.Core.Path.{_≡_};
+ghost use Prim.Native.Nat.{ℕ, _+_, _-_, _≤_, _<_};
+ghost use Rattle.base.specs.Iter.{iter};
+ghost use Rattle.undo_log.specs.Log.{pushWords};
+ghost use Rattle.plan.specs.Words.{startAt, occurrenceAt};
+ghost use Rattle.noting.specs.Note.{effect, sizeEffect, edgeEffect, effectOf, undoRecord, boundSet, edgeSet, applied, noting, pushedTo, noteSlot, boundary, oneMore, levelPushed, halved, placeIn, known, noteAt, note};
+
+// What a literal says of one vertex or edge: `LiteralInfo` of the Rust. The kinds are the undo log's; 0 is nothing.
+pub struct Effect {
+    pub kind: u8,
+    pub index: u8,
+    pub value: u32,
+}
+
+// A part of the distinct variables.
+pub struct Span {
+    pub low: usize,
+    pub high: usize,
+}
+
+fn size_effect(plan: &[u32; 15241], noted: &[u32; 384], holds: bool, v: usize, j: usize) -> Effect
+    requires { ⌜ (v < 64) × (j < 32) ⌝ }
+    ensures { λ r. ⌜ r ≡ sizeEffect (now (plan .entry)) (now (noted .entry)) holds v j ⌝ }
+{
+    if holds {
+        let x = plan::domain(plan, v, j + 1);
+        if lower_bound(noted, v) < x {
+            return Effect {
+                kind: 2,
+                index: v as u8,
+                value: x,
+            };
+        }
+        return Effect {
+            kind: 0,
+            index: 0,
+            value: 0,
+        };
+    }
+    let x = plan::domain(plan, v, j);
+    if x < upper_bound(noted, v) {
+        return Effect {
+            kind: 3,
+            index: v as u8,
+            value: x,
+        };
+    }
+    Effect {
+        kind: 0,
+        index: 0,
+        value: 0,
+    }
+}
+
+fn edge_effect(holds: bool, g: usize) -> Effect
+    requires { ⌜ g < 128 ⌝ }
+    ensures { λ r. ⌜ r ≡ edgeEffect holds g ⌝ }
+{
+    if holds {
+        return Effect {
+            kind: 1,
+            index: g as u8,
+            value: 1,
+        };
+    }
+    Effect {
+        kind: 1,
+        index: g as u8,
+        value: 2,
+    }
+}
+
+fn effect_of(plan: &[u32; 15241], noted: &[u32; 384], lit: u16, s: usize) -> Effect
+    ensures { λ r. ⌜ r ≡ effectOf (now (plan .entry)) (now (noted .entry)) lit s ⌝ }
+{
+    let holds = plan::lit(plan, s) == lit as u32;
+    if s < 2048 {
+        return size_effect(plan, noted, holds, s / 32, s % 32);
+    }
+    if s < 2176 {
+        return edge_effect(holds, s - 2048);
+    }
+    Effect {
+        kind: 0,
+        index: 0,
+        value: 0,
+    }
+}
+
+fn undo_record(noted: &[u32; 384], e: Effect) -> Record
+    ensures { λ r. ⌜ r ≡ undoRecord (now (noted .entry)) e ⌝ }
+{
+    let v = e.index as usize;
+    if e.kind == 2 {
+        let lit = lower_bound_lit(noted, v);
+        return Record {
+            kind: e.kind,
+            index: e.index,
+            bound: lower_bound(noted, v),
+            lit: (lit % 65536) as u16,
+        };
+    }
+    if e.kind == 3 {
+        let lit = upper_bound_lit(noted, v);
+        return Record {
+            kind: e.kind,
+            index: e.index,
+            bound: upper_bound(noted, v),
+            lit: (lit % 65536) as u16,
+        };
+    }
+    Record {
+        kind: e.kind,
+        index: e.index,
+        bound: 0,
+        lit: 65535,
+    }
+}
+
+fn set_bound(noted: &mut [u32; 384], from: usize, v: usize, x: u32, lit: u16)
+    requires { ⌜ from ≤ 192 ⌝ }
+    ensures { λ r. ⌜ now (noted .exit) ≡ boundSet from v x lit (now (noted .entry)) ⌝ }
+{
+    if v < 64 {
+        noted[from + v] = x;
+        noted[from + 128 + v] = lit as u32;
+    }
+}
+
+fn set_edge(noted: &mut [u32; 384], g: usize, x: u32)
+    ensures { λ r. ⌜ now (noted .exit) ≡ edgeSet g x (now (noted .entry)) ⌝ }
+{
+    if g < 128 {
+        noted[g] = x;
+    }
+}
+
+// An effect that is due to a literal; undoing one is an effect too.
+pub fn apply(noted: &mut [u32; 384], e: Effect, lit: u16)
+    ensures { λ r. ⌜ now (noted .exit) ≡ applied e lit (now (noted .entry)) ⌝ }
+{
+    let i = e.index as usize;
+    if e.kind == 1 {
+        set_edge(noted, i, e.value);
+        return;
+    }
+    if e.kind == 2 {
+        set_bound(noted, 128, i, e.value, lit);
+        return;
+    }
+    if e.kind == 3 {
+        set_bound(noted, 192, i, e.value, lit);
+    }
+}
+
+// The cursor after the record; in a full log it stays.
+fn push(log: &mut [u64], cursor: Cursor, r: Record) -> Cursor
+    ensures { λ c. ⌜ (c ≡ pushedTo (now (log .entry)) cursor) × (now (log .exit) ≡ pushWords (now (log .entry)) cursor r) ⌝ }
+{
+    let p = undo_log::push(log, cursor, r);
+    match p {
+        Pushed::Moved(c) => c,
+        Pushed::Full => cursor,
+    }
+}
+
+// One slot of the literal's variable is noted.
+fn note_slot(
+    plan: &[u32; 15241],
+    noted: &mut [u32; 384],
+    log: &mut [u64],
+    cursor: Cursor,
+    lit: u16,
+    s: usize,
+) -> Cursor
+    ensures { λ c. ⌜ noting (now (noted .exit)) (now (log .exit)) c ≡ noteSlot (now (plan .entry)) lit s (noting (now (noted .entry)) (now (log .entry)) cursor) ⌝ }
+{
+    let e = effect_of(plan, noted, lit, s);
+    if e.kind == 0 {
+        return cursor;
+    }
+    let r = undo_record(noted, e);
+    let c = push(log, cursor, r);
+    apply(noted, e, lit);
+    c
+}
+
+fn note_occurrence(
+    plan: &[u32; 15241],
+    noted: &mut [u32; 384],
+    log: &mut [u64],
+    cursor: Cursor,
+    lit: u16,
+    i: usize,
+) -> Cursor
+    ensures { λ c. ⌜ noting (now (noted .exit)) (now (log .exit)) c ≡ noteSlot (now (plan .entry)) lit (occurrenceAt (now (plan .entry)) i) (noting (now (noted .entry)) (now (log .entry)) cursor) ⌝ }
+{
+    let s = plan::occurrence_at(plan, i) as usize;
+    note_slot(plan, noted, log, cursor, lit, s)
+}
+
+fn note_occurrences(
+    plan: &[u32; 15241],
+    noted: &mut [u32; 384],
+    log: &mut [u64],
+    cursor: Cursor,
+    lit: u16,
+    from: usize,
+    n: usize,
+) -> Cursor
+    requires { ⌜ from + n ≤ 8589934592 ⌝ }
+    ensures { λ c. ⌜ noting (now (noted .exit)) (now (log .exit)) c ≡ iter (λ i y. noteSlot (now (plan .entry)) lit (occurrenceAt (now (plan .entry)) (from + i)) y) n (noting (now (noted .entry)) (now (log .entry)) cursor) ⌝ }
+{
+    let mut cur = cursor;
+    let mut i = 0;
+    while i < n {
+        cur = note_occurrence(plan, noted, log, cur, lit, from + i);
+        i += 1;
+    }
+    cur
+}
+
+// A notification's first record, with its literal.
+fn push_level(log: &mut [u64], cursor: Cursor, lit: u16) -> Cursor
+    ensures { λ c. ⌜ (c ≡ oneMore (now (log .entry)) (pushedTo (now (log .entry)) cursor)) × (now (log .exit) ≡ pushWords (now (log .entry)) cursor (boundary lit)) ⌝ }
+{
+    let r = Record {
+        kind: 0,
+        index: 0,
+        bound: 0,
+        lit,
+    };
+    let c = push(log, cursor, r);
+    let standing = c.standing;
+    if standing < log.len() {
+        return Cursor {
+            used: c.used,
+            standing: standing + 1,
+        };
+    }
+    c
+}
+
+// One halving of a part of the distinct variables.
+fn halve(plan: &[u32; 15241], x: u32, p: Span) -> Span
+    requires { ⌜ (p .low ≤ 4294967296) × (p .high ≤ 4294967296) ⌝ }
+    ensures { λ r. ⌜ r ≡ halved (now (plan .entry)) x 0 p ⌝ }
+{
+    let low = p.low;
+    let high = p.high;
+    if low < high {
+        let mid = low + (high - low) / 2;
+        if plan::variable_at(plan, mid) < x {
+            return Span { low: mid + 1, high };
+        }
+        return Span { low, high: mid };
+    }
+    p
+}
+
+fn search(plan: &[u32; 15241], x: u32) -> usize
+    ensures { λ r. ⌜ (r ≡ placeIn (now (plan .entry)) x) × (r ≤ 4294967296) ⌝ }
+{
+    let mut p = Span {
+        low: 0,
+        high: plan::num_variables(plan) as usize,
+    };
+    let mut i: usize = 0;
+    while i < 12 {
+        p = halve(plan, x, p);
+        i += 1;
+    }
+    p.low
+}
+
+// Variable x's place among the distinct variables, if it is one of them.
+pub fn place_in(plan: &[u32; 15241], x: u32) -> usize
+    ensures { λ r. ⌜ r ≡ placeIn (now (plan .entry)) x ⌝ }
+{
+    search(plan, x)
+}
+
+// Whether variable x is one of the plan's: refusal 9 where it is not.
+pub fn known(plan: &[u32; 15241], x: u32) -> bool
+    ensures { λ r. ⌜ r ≡ known (now (plan .entry)) x ⌝ }
+{
+    let k = place_in(plan, x);
+    if k < plan::num_variables(plan) as usize {
+        return plan::variable_at(plan, k) == x;
+    }
+    false
+}
+
+// How many occurrences distinct variable k has.
+fn num_occurrences(plan: &[u32; 15241], k: usize) -> usize
+    requires { ⌜ k ≤ 4294967296 ⌝ }
+    ensures { λ r. ⌜ (r ≡ startAt (now (plan .entry)) (k + 1) - startAt (now (plan .entry)) k) × (r < 4294967296) ⌝ }
+{
+    let from = plan::start_at(plan, k) as usize;
+    let to = plan::start_at(plan, k + 1) as usize;
+    if from < to {
+        return to - from;
+    }
+    0
+}
+
+// Every occurrence of the literal's variable, which is distinct variable k, is noted.
+fn note_at(
+    plan: &[u32; 15241],
+    noted: &mut [u32; 384],
+    log: &mut [u64],
+    cursor: Cursor,
+    lit: u16,
+    k: usize,
+) -> Cursor
+    requires { ⌜ k ≤ 4294967296 ⌝ }
+    ensures { λ c. ⌜ noting (now (noted .exit)) (now (log .exit)) c ≡ noteAt (now (plan .entry)) lit k (noting (now (noted .entry)) (now (log .entry)) cursor) ⌝ }
+{
+    let n = num_occurrences(plan, k);
+    let from = plan::start_at(plan, k) as usize;
+    note_occurrences(plan, noted, log, cursor, lit, from, n)
+}
+
+// `notify`: the literal stands from here on. A literal that the plan does not have changes no edge and no bound.
+pub fn note(
+    plan: &[u32; 15241],
+    noted: &mut [u32; 384],
+    log: &mut [u64],
+    cursor: Cursor,
+    lit: u16,
+) -> Cursor
+    ensures { λ c. ⌜ noting (now (noted .exit)) (now (log .exit)) c ≡ note (now (plan .entry)) lit (noting (now (noted .entry)) (now (log .entry)) cursor) ⌝ }
+{
+    let c = push_level(log, cursor, lit);
+    let x = lit as u32 / 2;
+    if known(plan, x) {
+        let k = search(plan, x);
+        return note_at(plan, noted, log, c, lit, k);
+    }
+    c
+}
