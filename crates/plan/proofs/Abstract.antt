@@ -46,14 +46,14 @@ module _ (ws : List ℕ) (ends : List (List ℕ)) (p : ProperWords ws ends) wher
   pub unique-rising : (i : ℕ) → suc i < 2 * variablesOf ws → uniqueLitAt ws i < uniqueLitAt ws (suc i)
   unique-rising i h = ⊎-elim
       (λ (e : i % 2 ≡ 0).
-        let a : suc i / 2 ≡ i / 2 = omega arith in
-        let b : suc i % 2 ≡ 1 = omega arith in
-        omega (arith, ap (variableAt ws) a))
+      let a : suc i / 2 ≡ i / 2 = omega arith in
+      let b : suc i % 2 ≡ 1 = omega arith in
+      omega (arith, ap (variableAt ws) a))
       (λ (e : i % 2 ≡ 0 → ⊥).
-        let o : i % 2 ≡ 1 = ⊎-elim (λ (x : i % 2 ≡ 1). x) (λ (x : i % 2 ≡ 1 → ⊥). absurd (e (even i x))) (eq-or-not (i % 2) 1) in
-        let a : suc i / 2 ≡ suc (i / 2) = omega arith in
-        let b : suc i % 2 ≡ 0 = omega arith in
-        omega (arith, ap (variableAt ws) a, p .distinct (i / 2) (omega arith)))
+      let o : i % 2 ≡ 1 = ⊎-elim (λ (x : i % 2 ≡ 1). x) (λ (x : i % 2 ≡ 1 → ⊥). absurd (e (even i x))) (eq-or-not (i % 2) 1) in
+      let a : suc i / 2 ≡ suc (i / 2) = omega arith in
+      let b : suc i % 2 ≡ 0 = omega arith in
+      omega (arith, ap (variableAt ws) a, p .distinct (i / 2) (omega arith)))
       (eq-or-not (i % 2) 0)
     where
       even : (n : ℕ) → (n % 2 ≡ 1 → ⊥) → n % 2 ≡ 0

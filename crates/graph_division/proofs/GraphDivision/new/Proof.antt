@@ -1,0 +1,46 @@
+use mathlib.Core.Path.{_≡_, ap, ap₂, _∙_}
+use mathlib.Core.List.{List}
+use Prim.Native.Nat.{ℕ}
+use Rattle.noting.specs.Words.{fresh}
+use Rattle.graph_division.specs.New.{built}
+use borrow.Author.Needs.{needs}
+use Rattle.graph_division.proofs.GraphDivision.new.Statement.{statement}
+use Rattle.graph_division.proofs.GraphDivision.new.Tie as tie
+
+refusal-of-requires : tie.Need-refusal-of-requires
+refusal-of-requires c κs = search needs
+
+plan-words-requires : tie.Need-plan-words-requires
+plan-words-requires c κs = search needs
+
+no-notes-requires : tie.Need-no-notes-requires
+no-notes-requires c κs = search needs
+
+fresh-requires : tie.Need-fresh-requires
+fresh-requires c κs = search needs
+
+edge-table-requires : tie.Need-edge-table-requires
+edge-table-requires c κs = search needs
+
+hold-requires : tie.Need-hold-requires
+hold-requires c κs = search needs
+
+returns : tie.Need-returns
+unfolding built
+returns c =
+    let plan = (c .before .before .before .before .before .before .before .plan-words) .ensures in
+    let noted = (c .before .before .fresh) .ensures ∙ ap₂ fresh plan ((c .before .before .before .before .before .no-notes) .ensures) in
+    let ends = (c .hold) .ensures ∙ (c .before .edge-table) .ensures in
+    λ i. record { refusal = (c .before .before .before .before .before .before .before .before .refusal-of) .ensures i; state = record { plan = plan i; edges = record { ends = ends i }; noted = noted i } }
+
+pub new-spec : {M : Type 1} → statement M
+new-spec =
+    tie.close
+    (tie.spec
+    refusal-of-requires
+    plan-words-requires
+    no-notes-requires
+    fresh-requires
+    edge-table-requires
+    hold-requires
+    returns)
