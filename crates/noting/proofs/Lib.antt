@@ -6,3 +6,5 @@ pub mod Back
 pub mod Effects
 pub mod After
 pub mod UndoNote
+pub mod Rising
+pub mod Indexed
