@@ -8,3 +8,4 @@ pub mod After
 pub mod UndoNote
 pub mod Rising
 pub mod Indexed
+pub mod Undoing
