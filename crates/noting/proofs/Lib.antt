@@ -9,3 +9,4 @@ pub mod UndoNote
 pub mod Rising
 pub mod Indexed
 pub mod Undoing
+pub mod Follow
