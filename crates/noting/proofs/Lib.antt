@@ -3,3 +3,10 @@ pub mod Sizes
 pub mod Steps
 pub mod Place
 pub mod Back
+pub mod Effects
+pub mod After
+pub mod UndoNote
+pub mod Rising
+pub mod Indexed
+pub mod Undoing
+pub mod Follow

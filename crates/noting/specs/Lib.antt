@@ -2,3 +2,4 @@ pub mod Words
 pub mod Note
 pub mod Undo
 pub mod Standing
+pub mod Replay

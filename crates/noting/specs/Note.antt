@@ -9,6 +9,7 @@ use Rattle.undo_log.specs.declared.Record.{Record}
 use Rattle.undo_log.specs.declared.Cursor.{Cursor}
 use Rattle.undo_log.specs.Log.{pushWords, hasRoom, movedTo}
 use Rattle.plan.specs.Words.{word, variablesOf, domainOf, litOf, variableAt, startAt, occurrenceAt}
+use Rattle.plan.specs.Check.{usedSlot}
 use Rattle.noting.specs.declared.note.Effect.{Effect}
 use Rattle.noting.specs.declared.note.Span.{Span}
 use Rattle.noting.specs.Words.{lowerOf, upperOf, lowerLitOf, upperLitOf}
@@ -116,3 +117,11 @@ noteAt ws l k x = iter (λ i y. noteSlot ws l (occurrenceAt ws (startAt ws k + i
 
 unfoldable pub note : List ℕ → ℕ → Noting → Noting
 note ws l x = pick (known ws (l / 2)) (noteAt ws l (placeIn ws (l / 2)) (levelPushed l x)) (levelPushed l x)
+
+-- The same with no index of the plan: slot s is in use, and its literal is variable x's
+unfoldable pub isOf : List ℕ → ℕ → ℕ → Bool
+isOf ws x s = usedSlot ws s && eqb (litOf ws s / 2) x
+
+-- and each slot of the literal's variable is noted, in rising order: size literals by vertex and entry, then edges
+unfoldable pub noteLit : List ℕ → ℕ → Noting → Noting
+noteLit ws l x = iter (λ s y. pick (isOf ws (l / 2) s) (noteSlot ws l s y) y) 2176 (levelPushed l x)

@@ -78,7 +78,7 @@ fn edge_effect(holds: bool, g: usize) -> Effect
     }
 }
 
-fn effect_of(plan: &[u32; 15241], noted: &[u32; 384], lit: u16, s: usize) -> Effect
+pub(crate) fn effect_of(plan: &[u32; 15241], noted: &[u32; 384], lit: u16, s: usize) -> Effect
     ensures { λ r. ⌜ r ≡ effectOf (now (plan .entry)) (now (noted .entry)) lit s ⌝ }
 {
     let holds = plan::lit(plan, s) == lit as u32;
@@ -95,7 +95,7 @@ fn effect_of(plan: &[u32; 15241], noted: &[u32; 384], lit: u16, s: usize) -> Eff
     }
 }
 
-fn undo_record(noted: &[u32; 384], e: Effect) -> Record
+pub(crate) fn undo_record(noted: &[u32; 384], e: Effect) -> Record
     ensures { λ r. ⌜ r ≡ undoRecord (now (noted .entry)) e ⌝ }
 {
     let v = e.index as usize;
@@ -266,7 +266,7 @@ fn halve(plan: &[u32; 15241], x: u32, p: Span) -> Span
     p
 }
 
-fn search(plan: &[u32; 15241], x: u32) -> usize
+pub(crate) fn search(plan: &[u32; 15241], x: u32) -> usize
     ensures { λ r. ⌜ (r ≡ placeIn (now (plan .entry)) x) × (r ≤ 4294967296) ⌝ }
 {
     let mut p = Span {
@@ -300,7 +300,7 @@ pub fn known(plan: &[u32; 15241], x: u32) -> bool
 }
 
 // How many occurrences distinct variable k has.
-fn num_occurrences(plan: &[u32; 15241], k: usize) -> usize
+pub(crate) fn num_occurrences(plan: &[u32; 15241], k: usize) -> usize
     requires { ⌜ k ≤ 4294967296 ⌝ }
     ensures { λ r. ⌜ (r ≡ startAt (now (plan .entry)) (k + 1) - startAt (now (plan .entry)) k) × (r < 4294967296) ⌝ }
 {

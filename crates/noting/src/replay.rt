@@ -1,0 +1,162 @@
+// The last part of refusal 7: the log's literals are noted afresh, oldest first, into working words, and each record that
+// noting would push is compared with the one in the log. Linear in the log and in the standing literals' occurrences.
+use crate::edge_state;
+use crate::fresh;
+use crate::lower_bound;
+use crate::lower_bound_lit;
+use crate::note::apply;
+use crate::note::effect_of;
+use crate::note::known;
+use crate::note::num_occurrences;
+use crate::note::search;
+use crate::note::undo_record;
+use crate::undo::record_at;
+use crate::upper_bound;
+use crate::upper_bound_lit;
+use undo_log::Cursor;
+use undo_log::Record;
+ghost use mathlib.Core.Path.{_≡_};
+ghost use mathlib.Core.Bool.{not};
+ghost use Prim.Native.Nat.{ℕ, _+_, _-_, _≤_, _<_};
+ghost use lib.ListN.{length, getD};
+ghost use Rattle.base.specs.Iter.{iter};
+ghost use Rattle.base.specs.Lists.{some};
+ghost use Rattle.plan.specs.Words.{verticesOf, edgesOf, occurrenceAt};
+ghost use Rattle.noting.specs.Undo.{recordsOf};
+ghost use Rattle.noting.specs.Standing.{standing};
+ghost use Rattle.noting.specs.Replay.{place, holdsAt, followed, followSlot, followAt, replayed, marked, setMark, opens, replayLevel, replay, edgeDiffers, vertexDiffers, notedDiffers, afresh, logBad};
+
+// Whether the log is as noting gives it, and how far it was read.
+pub struct Place {
+    pub ok: bool,
+    pub at: usize,
+}
+
+fn word_at(log: &[u64], i: usize) -> u64
+    ensures { λ r. ⌜ r ≡ getD (now (log .entry)) i 0 ⌝ }
+{
+    if i < log.len() {
+        return log[i];
+    }
+    0
+}
+
+fn holds_at(log: &[u64], used: usize, at: usize, r: Record) -> bool
+    ensures { λ b. ⌜ b ≡ holdsAt (now (log .entry)) used at r ⌝ }
+{
+    if at < used {
+        return word_at(log, at) == undo_log::word_of(r);
+    }
+    false
+}
+
+fn follow_slot(
+    plan: &[u32; 15241],
+    noted: &mut [u32; 384],
+    log: &[u64],
+    used: usize,
+    lit: u16,
+    s: usize,
+    p: Place,
+) -> Place
+    ensures { λ r. ⌜ followed (now (noted .exit)) r ≡ followSlot (now (plan .entry)) (now (log .entry)) used lit s (followed (now (noted .entry)) p) ⌝ }
+{
+    let at = p.at;
+    if p.ok {
+        let e = effect_of(plan, noted, lit, s);
+        if e.kind == 0 {
+            return p;
+        }
+        let r = undo_record(noted, e);
+        if holds_at(log, used, at, r) {
+            apply(noted, e, lit);
+            return Place {
+                ok: true,
+                at: at + 1,
+            };
+        }
+        return Place { ok: false, at };
+    }
+    p
+}
+
+fn follow_occurrence(
+    plan: &[u32; 15241],
+    noted: &mut [u32; 384],
+    log: &[u64],
+    used: usize,
+    lit: u16,
+    i: usize,
+    p: Place,
+) -> Place
+    ensures { λ r. ⌜ followed (now (noted .exit)) r ≡ followSlot (now (plan .entry)) (now (log .entry)) used lit (occurrenceAt (now (plan .entry)) i) (followed (now (noted .entry)) p) ⌝ }
+{
+    let s = plan::occurrence_at(plan, i) as usize;
+    follow_slot(plan, noted, log, used, lit, s, p)
+}
+
+// Every occurrence of the literal's variable, which is distinct variable k.
+fn follow_at(
+    plan: &[u32; 15241],
+    noted: &mut [u32; 384],
+    log: &[u64],
+    used: usize,
+    lit: u16,
+    k: usize,
+    p: Place,
+) -> Place
+    requires { ⌜ k ≤ 4294967296 ⌝ }
+    ensures { λ r. ⌜ followed (now (noted .exit)) r ≡ followAt (now (plan .entry)) (now (log .entry)) used lit k (followed (now (noted .entry)) p) ⌝ }
+{
+    let n = num_occurrences(plan, k);
+    let from = plan::start_at(plan, k) as usize;
+    let mut cur = p;
+    let mut i = 0;
+    while i < n {
+        cur = follow_occurrence(plan, noted, log, used, lit, from + i, cur);
+        i += 1;
+    }
+    cur
+}
+
+fn marked(marks: &[u8; 2176], k: usize) -> bool
+    ensures { λ r. ⌜ r ≡ marked (now (marks .entry)) k ⌝ }
+{
+    if k < 2176 {
+        return marks[k] != 0;
+    }
+    true
+}
+
+fn mark(marks: &mut [u8; 2176], k: usize)
+    ensures { λ _. ⌜ now (marks .exit) ≡ setMark k (now (marks .entry)) ⌝ }
+{
+    if k < 2176 {
+        marks[k] = 1;
+    }
+}
+
+// Whether a notification starts there whose literal is known, and neither it nor its negation stood before.
+fn opens(plan: &[u32; 15241], marks: &[u8; 2176], log: &[u64], at: usize) -> bool
+    ensures { λ r. ⌜ r ≡ opens (now (plan .entry)) (now (marks .entry)) (now (log .entry)) at ⌝ }
+{
+    let lit = record_at(log, at).lit;
+    let r = Record {
+        kind: 0,
+        index: 0,
+        bound: 0,
+        lit,
+    };
+    if word_at(log, at) == undo_log::word_of(r) {
+        let x = lit as u32 / 2;
+        if known(plan, x) {
+            let k = search(plan, x);
+            if marked(marks, k) {
+                return false;
+            }
+            return true;
+        }
+        return false;
+    }
+    false
+}
