@@ -28,6 +28,7 @@ use Rattle.plan.proofs.Proper.{slot-cases}
 use Rattle.plan.proofs.Passes.{passes}
 use Rattle.builder.specs.Input.{weightAt, lenAt, sizeAt, litAt, leftAt, rightAt, edgeLitAt, sizeWrong, domainWrong, sizeLitOutside, edgeLitOutside, isVertex, refusal}
 use Rattle.builder.specs.Index.{variableOf, isOf, Indexing, indexed}
+use Rattle.builder.specs.Given.{Given}
 use Rattle.builder.specs.Build.{flag, header, given, closed, totals, withIndex, planWords, edgeStep, edgeTable}
 use Rattle.builder.proofs.Refusal.{Counted, counted}
 use Rattle.builder.proofs.Lowest.{Clean, clean}
@@ -37,6 +38,11 @@ use Rattle.builder.proofs.Rounds.{Good, Group, Kept, indexed-good, end-
 use Rattle.builder.proofs.BuildCases.{indexed-few}
 use Rattle.builder.proofs.Count.{slots-counted}
 use Rattle.builder.proofs.Given.{given-length, given-header, given-weight, given-len, given-size, given-lit, given-edge, kept-word, total-word, index-word, entry-in, entry-same, cell-in}
+
+flag-back : (t : Bool) → eqb (flag t) 1 ≡ t
+unfolding pick
+flag-back true = refl
+flag-back false = refl
 
 above : (k j : ℕ) → suc j < k → j < pred k
 above zero j h = absurd (omega arith)
@@ -330,6 +336,40 @@ module _ (vs : List ℤ) (n : ℕ) (es : List ℤ) (m : ℕ) (a b : Bool) (c : C
       let q = same 1 (omega arith) (inl (omega arith)) in
       λ t. iter (λ v i. i + pred (len-same v t)) (p t) (q t)
 
+  -- ---- the plan is the one that was given
+  pub built-given : Given vs n es m a b f (edgeTable es m)
+  unfolding header pick
+  built-given =
+      let z = k .vertices in
+      let y = k .edges in
+      record {
+        vertices = f-vertices;
+        edges = f-edges;
+        weight = f-weight;
+        domainLen = f-len;
+        domain = f-size;
+        domLit = λ v j h l.
+            let q = k .sizes v h in
+            let c′ = pred-less (lenAt vs v) j l in
+            cell-in 2184 f v j (omega arith) (omega arith) ∙ same (2184 + 32 * v + j) (omega arith) (inr (omega arith)) ∙ given-lit vs n es m a b (k .vertices) (k .edges) (k .sizes) v j h l;
+        edgeLit = λ g h.
+            entry-in 4232 128 f g (omega arith) ∙ same (4232 + g) (omega arith) (inr (omega arith)) ∙ given-edge vs n es m a b (k .vertices) (k .edges) (k .sizes) g h;
+        left = λ g h. let q = ends-in vs n es m c g h in ap (λ (t : List ℕ). getD t 0 0) (edge-pair es m g (k .edges) h) ∙ small (toNat (leftAt es g)) (omega arith);
+        right = λ g h. let q = ends-in vs n es m c g h in ap (λ (t : List ℕ). getD t 1 0) (edge-pair es m g (k .edges) h) ∙ small (toNat (rightAt es g)) (omega arith);
+        sameSize = ap (λ (i : ℕ). eqb i 1) (same 2 (omega arith) (inl (omega arith)) ∙ given-header vs n es m a b (k .vertices) (k .edges) (k .sizes) 2 (omega arith)) ∙ flag-is a;
+        extraWalls = ap (λ (i : ℕ). eqb i 1) (same 3 (omega arith) (inl (omega arith)) ∙ given-header vs n es m a b (k .vertices) (k .edges) (k .sizes) 3 (omega arith)) ∙ flag-is b;
+      }
+    where
+      pred-less : (l j : ℕ) → j < pred l → suc j < l
+      pred-less zero j h = absurd (omega arith)
+      pred-less (suc l) j h = omega arith
+
+      small : (i : ℕ) → i < 64 → i % 256 ≡ i
+      small i h = omega arith
+
+      flag-is : (t : Bool) → eqb (flag t) 1 ≡ t
+      flag-is t = flag-back t
+
   pub built-proper : ProperWords f (edgeTable es m)
   built-proper =
       let kf = few in
@@ -375,13 +415,14 @@ module _ (vs : List ℤ) (n : ℕ) (es : List ℤ) (m : ℕ) (a b : Bool) (c : C
   pub built-passes : planBad f (edgeTable es m) ≡ false
   built-passes = passes f (edgeTable es m) built-proper
 
--- "Every plan that new makes": where no refusal applies, the words that are built are those, and they pass
+-- every plan that `new` makes, where no refusal applies: it is proper, it passes its own test, and it is the plan that was given
 pub new-proper : (vs : List ℤ) (n : ℕ) (es : List ℤ) (m : ℕ) (a b : Bool) → refusal vs n es m ≡ 0 →
-    ProperWords (planWords vs n es m a b) (edgeTable es m) × (planBad (planWords vs n es m a b) (edgeTable es m) ≡ false)
+    ProperWords (planWords vs n es m a b) (edgeTable es m) × (planBad (planWords vs n es m a b) (edgeTable es m) ≡ false) × Given vs n es m a b (planWords vs n es m a b) (edgeTable es m)
 unfolding planWords
 new-proper vs n es m a b z =
     let e : planWords vs n es m a b ≡ withIndex (given vs n es m a b) = pick-yes _ _ (eq-eqb (refusal vs n es m) 0 z) in
     let c = clean vs n es m z in (
       subst (λ (ws : List ℕ). ProperWords ws (edgeTable es m)) (sym e) (built-proper vs n es m a b c),
       ap (λ (ws : List ℕ). planBad ws (edgeTable es m)) e ∙ built-passes vs n es m a b c,
+      subst (λ (ws : List ℕ). Given vs n es m a b ws (edgeTable es m)) (sym e) (built-given vs n es m a b c),
     )

@@ -3,3 +3,4 @@ pub mod Applies
 pub mod Index
 pub mod Filed
 pub mod Build
+pub mod Given

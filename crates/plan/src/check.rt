@@ -1,6 +1,5 @@
 // The plan's own test. Every call begins with it, so that a corrupted state is refused and never reaches an index; it is
 // linear in what the plan uses.
-use crate::dom_lit;
 use crate::domain;
 use crate::domain_len;
 use crate::lit;
