@@ -10,3 +10,6 @@ pub mod Rising
 pub mod Indexed
 pub mod Undoing
 pub mod Follow
+pub mod Block
+pub mod Agrees
+pub mod Bounds
