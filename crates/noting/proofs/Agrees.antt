@@ -34,6 +34,9 @@ idle-applied e l noted h =
     pick-no _ _ (ne-eqb (e .kind) 1 (λ (q : e .kind ≡ 1). omega arith)) ∙ pick-no _ _ (ne-eqb (e .kind) 2 (λ (q : e .kind ≡ 2). omega arith))
     ∙ pick-no _ _ (ne-eqb (e .kind) 3 (λ (q : e .kind ≡ 3). omega arith))
 
+pub nothing-applied : (l : ℕ) (noted : List ℕ) → applied nothing l noted ≡ noted
+nothing-applied l noted = idle-applied nothing l noted refl
+
 pub slot-words : (ws : List ℕ) (l s : ℕ) (x : Noting) → noteSlot ws l s x .noted ≡ applied (effectOf ws (x .noted) l s) l (x .noted)
 unfolding noteSlot
 slot-words ws l s x =

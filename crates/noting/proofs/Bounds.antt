@@ -39,21 +39,21 @@ lits-some l h = pick-no _ _ (ne-eqb l 65535 (λ (e : l ≡ 65535). omega arith))
 
 -- what an effect does to the two bounds of vertex v
 module _ (noted : List ℕ) (l v : ℕ) (h : v < 64) (len : length noted ≡ 384) (small : l < 65535) where
-  low-now : (d : ℕ) → lowPart v (applied (effect 2 v d) l noted) ≡ boundOf d (l ∷ [])
+  pub low-now : (d : ℕ) → lowPart v (applied (effect 2 v d) l noted) ≡ boundOf d (l ∷ [])
   unfolding applied pick
   low-now d = ap₂ boundOf (bound-now noted 128 v d l h len (omega arith) 0) (ap litsOf (lit-now noted 128 v d l h len (omega arith) 65535) ∙ lits-some l small)
 
-  high-now : (d : ℕ) → highPart v (applied (effect 3 v d) l noted) ≡ boundOf d (l ∷ [])
+  pub high-now : (d : ℕ) → highPart v (applied (effect 3 v d) l noted) ≡ boundOf d (l ∷ [])
   unfolding applied pick
   high-now d = ap₂ boundOf (bound-now noted 192 v d l h len (omega arith) 0) (ap litsOf (lit-now noted 192 v d l h len (omega arith) 65535) ∙ lits-some l small)
 
-  low-high : (u d : ℕ) → u < 64 → lowPart v (applied (effect 3 u d) l noted) ≡ lowPart v noted
+  pub low-high : (u d : ℕ) → u < 64 → lowPart v (applied (effect 3 u d) l noted) ≡ lowPart v noted
   unfolding applied pick
   low-high u d k = ap₂ boundOf
       (bound-other noted 192 u d l k 128 0 v h (λ (e : 128 + v ≡ 192 + u). omega arith) (λ (e : 128 + v ≡ 192 + 128 + u). omega arith))
       (ap litsOf (bound-other noted 192 u d l k 256 65535 v h (λ (e : 256 + v ≡ 192 + u). omega arith) (λ (e : 256 + v ≡ 192 + 128 + u). omega arith)))
 
-  high-low : (u d : ℕ) → u < 64 → highPart v (applied (effect 2 u d) l noted) ≡ highPart v noted
+  pub high-low : (u d : ℕ) → u < 64 → highPart v (applied (effect 2 u d) l noted) ≡ highPart v noted
   unfolding applied pick
   high-low u d k = ap₂ boundOf
       (bound-other noted 128 u d l k 192 0 v h (λ (e : 192 + v ≡ 128 + u). omega arith) (λ (e : 192 + v ≡ 128 + 128 + u). omega arith))

@@ -13,3 +13,4 @@ pub mod Follow
 pub mod Block
 pub mod Agrees
 pub mod Bounds
+pub mod Vertex
