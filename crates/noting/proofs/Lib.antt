@@ -14,3 +14,4 @@ pub mod Block
 pub mod Agrees
 pub mod Bounds
 pub mod Vertex
+pub mod Noted
