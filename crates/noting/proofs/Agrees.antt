@@ -28,7 +28,7 @@ use Rattle.noting.proofs.Block.{block, iter-same}
 unfoldable pub slotNoted : List ℕ → ℕ → ℕ → List ℕ → List ℕ
 slotNoted ws l s noted = pick (isOf ws (l / 2) s) (applied (effectOf ws noted l s) l noted) noted
 
-idle-applied : (e : Effect) (l : ℕ) (noted : List ℕ) → e .kind ≡ 0 → applied e l noted ≡ noted
+pub idle-applied : (e : Effect) (l : ℕ) (noted : List ℕ) → e .kind ≡ 0 → applied e l noted ≡ noted
 unfolding applied
 idle-applied e l noted h =
     pick-no _ _ (ne-eqb (e .kind) 1 (λ (q : e .kind ≡ 1). omega arith)) ∙ pick-no _ _ (ne-eqb (e .kind) 2 (λ (q : e .kind ≡ 2). omega arith))
@@ -56,7 +56,7 @@ words-after ws l (suc n) x =
     y = iter (λ s y. pick (isOf ws (l / 2) s) (noteSlot ws l s y) y) n x
 
 -- lengths stay
-applied-length : (e : Effect) (l : ℕ) (noted : List ℕ) → length (applied e l noted) ≡ length noted
+pub applied-length : (e : Effect) (l : ℕ) (noted : List ℕ) → length (applied e l noted) ≡ length noted
 unfolding applied edgeSet boundSet
 applied-length e l noted =
     pick-ind P (eqb (e .kind) 1) _ _

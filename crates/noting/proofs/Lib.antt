@@ -15,3 +15,5 @@ pub mod Agrees
 pub mod Bounds
 pub mod Vertex
 pub mod Noted
+pub mod Unnoted
+pub mod Following
