@@ -17,3 +17,4 @@ pub mod Vertex
 pub mod Noted
 pub mod Unnoted
 pub mod Following
+pub mod Replaying
