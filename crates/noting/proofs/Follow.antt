@@ -5,17 +5,18 @@ use mathlib.Core.List.{List}
 use Prim.Native.Nat.{ℕ, _+_, _-_, _/_, _≤_, _<_}
 use native.Mathlib.Omega.{arith}
 use lib.Dec.{ltb, eqb}
-use lib.ListN.{getD}
+use lib.ListN.{getD, replicate}
 use borrow.Author.Tests.{eq-eqb, ne-eqb, lt-ltb, le-ltb, ltb-true}
 use Rattle.base.specs.Iter.{iter, pick}
 use Rattle.base.proofs.Loop.{pick-yes, pick-no}
-use Rattle.base.proofs.Tests.{and-left, and-next, and-no}
+use Rattle.base.proofs.Tests.{and-left, and-next, and-no, or-yes, or-next}
 use Rattle.undo_log.specs.declared.Record.{Record}
 use Rattle.undo_log.specs.Log.{recordOf, wordOf}
 use Rattle.noting.specs.declared.note.Effect.{Effect}
 use Rattle.noting.specs.declared.replay.Place.{Place}
+use Rattle.noting.specs.Words.{fresh}
 use Rattle.noting.specs.Note.{effectOf, undoRecord, applied, boundary, placeIn, known}
-use Rattle.noting.specs.Replay.{Followed, followed, place, holdsAt, followSlot, Replayed, replayed, marked, setMark, litAt, opens, followAt, replayLevel}
+use Rattle.noting.specs.Replay.{Followed, followed, place, holdsAt, followSlot, Replayed, replayed, marked, setMark, litAt, opens, followAt, replayLevel, replay, notedDiffers, afresh}
 
 pub holds-before : (log : List ℕ) (used at : ℕ) (r : Record) → holdsAt log used at r ≡ true → at < used
 unfolding holdsAt
@@ -72,3 +73,48 @@ module _ (ws marks log : List ℕ) (at l w v : ℕ) (hl : l ≡ litAt log at) (h
     opens-known q k hk m hm b hb =
         and-next _ _ (sym starts ∙ eq-eqb w v y) (and-next _ _ (sym known-is ∙ q)
         (hb ∙ ap not (hm ∙ ap (marked marks) (hk ∙ ap (λ (n : ℕ). placeIn ws (n / 2)) hl))))
+
+module _ (ws log marks noted : List ℕ) (used : ℕ) (p : Place) where
+  abbrev x : Replayed
+  x = replayed marks noted p
+
+  pub level-off : p .ok ≡ false → x ≡ replayLevel ws log used x
+  unfolding replayLevel
+  level-off h = sym (pick-no _ _ (sym (and-no _ h)))
+
+  module _ (h : p .ok ≡ true) where
+    pub level-past : used ≤ p .at → x ≡ replayLevel ws log used x
+    unfolding replayLevel
+    level-past k = sym (pick-no _ _ (sym (and-next _ _ h (sym (le-ltb (p .at) used k)))))
+
+    module _ (k : p .at < used) (b : Bool) (hb : b ≡ opens ws marks log (p .at)) where
+      on : (p .ok && ltb (p .at) used) ≡ true
+      on = sym (and-next _ _ h (sym (lt-ltb (p .at) used k)))
+
+      pub level-no : b ≡ false → replayed marks noted (place false (p .at)) ≡ replayLevel ws log used x
+      unfolding replayLevel
+      level-no y = sym (pick-yes _ _ on ∙ pick-no _ _ (sym hb ∙ y))
+
+      pub level-yes : b ≡ true → (l k : ℕ) → l ≡ litAt log (p .at) → k ≡ placeIn ws (l / 2) → (marks₁ noted₁ : List ℕ) (q : Place) → marks₁ ≡ setMark k marks → followed noted₁ q ≡ followAt ws log used l k (followed noted (place true (p .at + 1))) → replayed marks₁ noted₁ q ≡ replayLevel ws log used x
+      unfolding replayLevel
+      level-yes y l k hl hk marks₁ noted₁ q hm hf =
+          let k' : k ≡ placeIn ws (litAt log (p .at) / 2) = hk ∙ ap (λ (n : ℕ). placeIn ws (n / 2)) hl in
+          ap₂ (λ (m : List ℕ) (f : Followed). both m f) (hm ∙ ap (λ (n : ℕ). setMark n marks) k') (hf ∙ ap₂ (λ (a n : ℕ). followAt ws log used a n (followed noted (place true (p .at + 1)))) hl k')
+          ∙ sym (pick-yes _ _ on ∙ pick-yes _ _ (sym hb ∙ y))
+        where
+          both : List ℕ → Followed → Replayed
+          both m f = record { marks = m; follow = f }
+
+module _ (ws log : List ℕ) (used : ℕ) (m n work : List ℕ) (q : Place) (hw : work ≡ fresh ws (replicate 384 0)) (h : replayed m n q ≡ replay ws log used (replayed (replicate 2176 0) work (place true 0))) (noted : List ℕ) where
+  is-afresh : replayed m n q ≡ afresh ws log used
+  unfolding afresh
+  is-afresh = h ∙ ap (λ (w : List ℕ). replay ws log used (replayed (replicate 2176 0) w (place true 0))) hw
+
+  ok-is : q .ok ≡ afresh ws log used .follow .place .ok
+  ok-is = ap (λ (z : Replayed). z .follow .place .ok) is-afresh
+
+  pub differs-on : q .ok ≡ true → (b : Bool) → b ≡ notedDiffers ws n noted → b ≡ (not (afresh ws log used .follow .place .ok) || notedDiffers ws (afresh ws log used .follow .noted) noted)
+  differs-on y b e = or-next _ _ (ap not (sym ok-is ∙ y)) (e ∙ ap (λ (z : Replayed). notedDiffers ws (z .follow .noted) noted) is-afresh)
+
+  pub differs-off : q .ok ≡ false → true ≡ (not (afresh ws log used .follow .place .ok) || notedDiffers ws (afresh ws log used .follow .noted) noted)
+  differs-off y = or-yes _ (ap not (sym ok-is ∙ y))

@@ -10,3 +10,11 @@ pub mod Rising
 pub mod Indexed
 pub mod Undoing
 pub mod Follow
+pub mod Block
+pub mod Agrees
+pub mod Bounds
+pub mod Vertex
+pub mod Noted
+pub mod Unnoted
+pub mod Following
+pub mod Replaying

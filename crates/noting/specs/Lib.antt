@@ -3,3 +3,4 @@ pub mod Note
 pub mod Undo
 pub mod Standing
 pub mod Replay
+pub mod Buffers

@@ -16,7 +16,7 @@ use crate::upper_bound_lit;
 use undo_log::Cursor;
 use undo_log::Record;
 ghost use mathlib.Core.Path.{_≡_};
-ghost use mathlib.Core.Bool.{not};
+ghost use mathlib.Core.Bool.{true, not, _||_};
 ghost use Prim.Native.Nat.{ℕ, _+_, _-_, _≤_, _<_};
 ghost use lib.ListN.{length, getD};
 ghost use Rattle.base.specs.Iter.{iter};
@@ -159,4 +159,153 @@ fn opens(plan: &[u32; 15241], marks: &[u8; 2176], log: &[u64], at: usize) -> boo
         return false;
     }
     false
+}
+
+// One notification of the log; past the cursor, nothing.
+fn replay_level(
+    plan: &[u32; 15241],
+    noted: &mut [u32; 384],
+    marks: &mut [u8; 2176],
+    log: &[u64],
+    used: usize,
+    p: Place,
+) -> Place
+    ensures { λ r. ⌜ replayed (now (marks .exit)) (now (noted .exit)) r ≡ replayLevel (now (plan .entry)) (now (log .entry)) used (replayed (now (marks .entry)) (now (noted .entry)) p) ⌝ }
+{
+    let at = p.at;
+    if p.ok {
+        if at < used {
+            if opens(plan, marks, log, at) {
+                let lit = record_at(log, at).lit;
+                let k = search(plan, lit as u32 / 2);
+                mark(marks, k);
+                let q = Place {
+                    ok: true,
+                    at: at + 1,
+                };
+                return follow_at(plan, noted, log, used, lit, k, q);
+            }
+            return Place { ok: false, at };
+        }
+        return p;
+    }
+    p
+}
+
+fn replay(
+    plan: &[u32; 15241],
+    noted: &mut [u32; 384],
+    marks: &mut [u8; 2176],
+    log: &[u64],
+    used: usize,
+) -> Place
+    ensures { λ r. ⌜ replayed (now (marks .exit)) (now (noted .exit)) r ≡ replay (now (plan .entry)) (now (log .entry)) used (replayed (now (marks .entry)) (now (noted .entry)) (place true 0)) ⌝ }
+{
+    let mut p = Place { ok: true, at: 0 };
+    let mut i = 0;
+    while i < used {
+        p = replay_level(plan, noted, marks, log, used, p);
+        i += 1;
+    }
+    p
+}
+
+fn edge_differs(a: &[u32; 384], b: &[u32; 384], g: usize) -> bool
+    ensures { λ r. ⌜ r ≡ edgeDiffers (now (a .entry)) (now (b .entry)) g ⌝ }
+{
+    edge_state(a, g) != edge_state(b, g)
+}
+
+fn vertex_differs(a: &[u32; 384], b: &[u32; 384], v: usize) -> bool
+    ensures { λ r. ⌜ r ≡ vertexDiffers (now (a .entry)) (now (b .entry)) v ⌝ }
+{
+    if lower_bound(a, v) != lower_bound(b, v) {
+        return true;
+    }
+    if upper_bound(a, v) != upper_bound(b, v) {
+        return true;
+    }
+    if lower_bound_lit(a, v) != lower_bound_lit(b, v) {
+        return true;
+    }
+    upper_bound_lit(a, v) != upper_bound_lit(b, v)
+}
+
+fn some_edge_differs(a: &[u32; 384], b: &[u32; 384], n: usize) -> bool
+    ensures { λ r. ⌜ r ≡ some (edgeDiffers (now (a .entry)) (now (b .entry))) n ⌝ }
+{
+    let mut g = 0;
+    while g < n {
+        if edge_differs(a, b, g) {
+            return true;
+        }
+        g += 1;
+    }
+    false
+}
+
+fn some_vertex_differs(a: &[u32; 384], b: &[u32; 384], n: usize) -> bool
+    ensures { λ r. ⌜ r ≡ some (vertexDiffers (now (a .entry)) (now (b .entry))) n ⌝ }
+{
+    let mut v = 0;
+    while v < n {
+        if vertex_differs(a, b, v) {
+            return true;
+        }
+        v += 1;
+    }
+    false
+}
+
+fn noted_differs(plan: &[u32; 15241], a: &[u32; 384], b: &[u32; 384]) -> bool
+    ensures { λ r. ⌜ r ≡ notedDiffers (now (plan .entry)) (now (a .entry)) (now (b .entry)) ⌝ }
+{
+    if some_edge_differs(a, b, plan::num_edges(plan) as usize) {
+        return true;
+    }
+    some_vertex_differs(a, b, plan::num_vertices(plan) as usize)
+}
+
+// How many notifications stand by the log's first n records.
+fn num_standing(log: &[u64], n: usize) -> usize
+    ensures { λ r. ⌜ r ≡ length (standing (recordsOf (now (log .entry)) n)) ⌝ }
+{
+    let mut count = 0;
+    let mut left = n;
+    while 0 < left {
+        left -= 1;
+        let r = record_at(log, left);
+        if r.kind == 0 {
+            count += 1;
+        }
+    }
+    count
+}
+
+// Whether noting the log's literals afresh gives another log or other noted words.
+fn differs(plan: &[u32; 15241], noted: &[u32; 384], log: &[u64], used: usize) -> bool
+    ensures { λ r. ⌜ r ≡ (not (afresh (now (plan .entry)) (now (log .entry)) used .follow .place .ok) || notedDiffers (now (plan .entry)) (afresh (now (plan .entry)) (now (log .entry)) used .follow .noted) (now (noted .entry))) ⌝ }
+{
+    let mut work = [0u32; 384];
+    let mut marks = [0u8; 2176];
+    fresh(plan, &mut work);
+    let p = replay(plan, &mut work, &mut marks, log, used);
+    if p.ok {
+        return noted_differs(plan, &work, noted);
+    }
+    true
+}
+
+// The last part of refusal 7.
+pub fn log_bad(plan: &[u32; 15241], noted: &[u32; 384], log: &[u64], cursor: Cursor) -> bool
+    ensures { λ r. ⌜ r ≡ logBad (now (plan .entry)) (now (noted .entry)) (now (log .entry)) cursor ⌝ }
+{
+    let used = cursor.used;
+    if log.len() < used {
+        return true;
+    }
+    if num_standing(log, used) != cursor.standing {
+        return true;
+    }
+    differs(plan, noted, log, used)
 }

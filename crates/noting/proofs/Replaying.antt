@@ -1,0 +1,338 @@
+-- What refusal 7 leaves: the standing literals are the plan's, no two of one variable, and edge states, bounds and their
+-- literals are what they give.
+use mathlib.Core.Path.{_≡_, refl, sym, ap, ap₂, subst, _∙_}
+use mathlib.Core.Logic.{_⊎_, inl, inr, ⊎-elim}
+use mathlib.Core.Bool.{Bool, true, false, not, _&&_, _||_, true≢false, false≢true}
+use mathlib.Core.List.{List, [], _∷_, List·Memᴰ, List·Memᴰ·cases-cons, List·Memᴰ·not-nil}
+use Prim.Native.Nat.{ℕ, zero, suc, _+_, _-_, _*_, _/_, _%_, _≤_, _<_}
+use native.Mathlib.Omega.{arith}
+use native.Mathlib.Numerals.{add-one}
+use lib.Dec.{eqb, ltb}
+use lib.ListN.{length, getD, set, replicate, length-set, length-replicate, getD-replicate, List·getD-eq-default}
+use lib.Seq.{getD-set-same, getD-set-other}
+use borrow.Author.Tests.{lt-ltb, ltb-true, ltb-false, eqb-true, eqb-false, ne-eqb, eq-eqb, not-true}
+use Rattle.base.specs.Iter.{iter, pick}
+use Rattle.base.specs.Lists.{some}
+use Rattle.base.proofs.Loop.{pick-ind, pick-yes, pick-no, tested, iter-ind, eq-or-not}
+use Rattle.base.proofs.Tests.{and-left, and-right, or-none, not-false, le-or-lt}
+use Rattle.base.proofs.Some.{some-none}
+use Rattle.sat.specs.Literal.{negate}
+use Rattle.undo_log.specs.declared.Record.{Record}
+use Rattle.undo_log.specs.declared.Cursor.{Cursor}
+use Rattle.undo_log.specs.Log.{recordOf, wordOf}
+use Rattle.undo_log.proofs.Words.{record-in-range}
+use Rattle.plan.specs.Words.{verticesOf, edgesOf, variablesOf, variableAt, startAt, occurrenceAt}
+use Rattle.plan.specs.Plan.{planOf}
+use Rattle.plan.specs.Proper.{ProperWords}
+use Rattle.division.specs.Plan.{Plan}
+use Rattle.division.specs.State.{State}
+use Rattle.division.specs.Noting.{noteOne, noteAll, unnoted, In, Consistent}
+use Rattle.division.proofs.Agree.{SameState}
+use Rattle.division.proofs.Alike.{note-same}
+use Rattle.division.proofs.Noted.{Noted}
+use Rattle.division.proofs.Noting.{noted-all}
+use Rattle.noting.specs.declared.replay.Place.{Place}
+use Rattle.noting.specs.Words.{edgeStateOf, boundAt, lowerOf, upperOf, lowerLitOf, upperLitOf, litsOf, stateOf, fresh}
+use Rattle.noting.specs.Note.{Noting, noting, boundary, levelPushed, placeIn, known, noteAt, note}
+use Rattle.noting.specs.Undo.{recordsOf}
+use Rattle.noting.specs.Standing.{standing, hasVariable}
+use Rattle.noting.specs.Replay.{Followed, followed, place, Replayed, replayed, marked, setMark, litAt, opens, followAt, replayLevel, replay, edgeDiffers, vertexDiffers, notedDiffers, afresh, logBad}
+use Rattle.noting.proofs.Effects.{LitsFit}
+use Rattle.noting.proofs.After.{WordsFit}
+use Rattle.noting.proofs.Vertex.{negate-other}
+use Rattle.noting.proofs.Indexed.{one-place}
+use Rattle.noting.proofs.Noted.{note-agrees}
+use Rattle.noting.proofs.Unnoted.{fresh-length, fresh-fits, fresh-lits, fresh-agrees}
+use Rattle.noting.proofs.Following.{Good, standing-next, Goes, loop-goes}
+
+pub same-trans : (d : Plan) (s t u : State) → SameState d s t → SameState d t u → SameState d s u
+same-trans d s t u a b = record {
+  edge = λ g h. a .edge g h ∙ b .edge g h;
+  lower = λ v h. a .lower v h ∙ b .lower v h;
+  upper = λ v h. a .upper v h ∙ b .upper v h;
+  lowerLit = λ v h. a .lowerLit v h ∙ b .lowerLit v h;
+  upperLit = λ v h. a .upperLit v h ∙ b .upperLit v h;
+}
+
+state-word : (m : List ℕ) (g : ℕ) → g < 128 → getD m g 0 ≡ edgeStateOf m g
+unfolding edgeStateOf
+state-word m g h = sym (pick-yes _ _ (lt-ltb g 128 h))
+
+same-edge : (a b : List ℕ) (g : ℕ) → edgeDiffers a b g ≡ false → edgeStateOf a g ≡ edgeStateOf b g
+unfolding edgeDiffers
+same-edge a b g e = eqb-true (edgeStateOf a g) (edgeStateOf b g) (not-false _ e)
+
+same-vertex : (a b : List ℕ) (v : ℕ) → vertexDiffers a b v ≡ false → (lowerOf a v ≡ lowerOf b v) × (upperOf a v ≡ upperOf b v) × (lowerLitOf a v ≡ lowerLitOf b v) × (upperLitOf a v ≡ upperLitOf b v)
+unfolding vertexDiffers
+same-vertex a b v e =
+    let (c, e₁) = or-none (not (eqb (lowerOf a v) (lowerOf b v))) _ e in
+    let (d, e₂) = or-none (not (eqb (upperOf a v) (upperOf b v))) _ e₁ in
+    let (f, g) = or-none (not (eqb (lowerLitOf a v) (lowerLitOf b v))) _ e₂ in
+    (eqb-true _ _ (not-false _ c), eqb-true _ _ (not-false _ d), eqb-true _ _ (not-false _ f), eqb-true _ _ (not-false _ g))
+
+-- no two literals of one variable
+pub data Distinct : List ℕ → Type 0 where
+  none : Distinct []
+  one : {l : ℕ} {ls : List ℕ} → hasVariable (l / 2) ls ≡ false → Distinct ls → Distinct (l ∷ ls)
+
+-- and each is the plan's
+pub data AllKnown (ws : List ℕ) : List ℕ → Type 0 where
+  none : AllKnown ws []
+  one : {l : ℕ} {ls : List ℕ} → known ws (l / 2) ≡ true → AllKnown ws ls → AllKnown ws (l ∷ ls)
+
+member-variable : (x a : ℕ) (ls : List ℕ) → In ls a → a / 2 ≡ x → hasVariable x ls ≡ false → ⊥
+unfolding hasVariable
+member-variable x a [] m e h = absurd (List·Memᴰ·not-nil m)
+member-variable x a (l ∷ ls) m e h =
+    let (p, q) = or-none (eqb (l / 2) x) _ h in
+    ⊎-elim (λ (z : a ≡ l). eqb-false (l / 2) x p (ap (λ (n : ℕ). n / 2) (sym z) ∙ e)) (λ z. member-variable x a ls z e q) (List·Memᴰ·cases-cons m)
+
+distinct-same : (ls : List ℕ) → Distinct ls → (a b : ℕ) → In ls a → In ls b → a / 2 ≡ b / 2 → a ≡ b
+distinct-same [] d a b m n e = absurd (List·Memᴰ·not-nil m)
+distinct-same (l ∷ ls) (one h d) a b m n e = ⊎-elim
+    (λ (p : a ≡ l). ⊎-elim (λ (q : b ≡ l). p ∙ sym q) (λ q. absurd (member-variable (l / 2) b ls q (sym e ∙ ap (λ (k : ℕ). k / 2) p) h)) (List·Memᴰ·cases-cons n))
+    (λ p. ⊎-elim (λ (q : b ≡ l). absurd (member-variable (l / 2) a ls p (e ∙ ap (λ (k : ℕ). k / 2) q) h)) (λ q. distinct-same ls d a b p q e) (List·Memᴰ·cases-cons n))
+    (List·Memᴰ·cases-cons m)
+
+-- never both signs
+pub never-both : (ls : List ℕ) → Distinct ls → Consistent ls
+never-both ls d l m n = let (a, b) = negate-other l (negate l) refl in a (distinct-same ls d l (negate l) m n b)
+
+module _ (ws : List ℕ) (ends : List (List ℕ)) (p : ProperWords ws ends) (fw : WordsFit ws) (log : List ℕ) (used : ℕ) where
+  abbrev ls : ℕ → List ℕ
+  ls n = standing (recordsOf log n)
+
+  -- after a part of the log that agrees
+  record Stand (i : ℕ) (x : Replayed) : Type 0 where
+    good : Good (x .follow .noted)
+    state : SameState (planOf ws ends) (stateOf (x .follow .noted)) (noteAll (planOf ws ends) (ls (x .follow .place .at)))
+    down : x .follow .place .at ≤ used
+    far : (i ≤ x .follow .place .at) ⊎ (used ≤ x .follow .place .at)
+    distinct : Distinct (ls (x .follow .place .at))
+    knows : AllKnown ws (ls (x .follow .place .at))
+    room : length (x .marks) ≡ 2176
+    free : (k : ℕ) → k < variablesOf ws → marked (x .marks) k ≡ false → hasVariable (variableAt ws k) (ls (x .follow .place .at)) ≡ false
+
+  module _ (i : ℕ) (x : Replayed) (st : Stand i x) where
+    abbrev at : ℕ
+    at = x .follow .place .at
+
+    abbrev l : ℕ
+    l = litAt log at
+
+    abbrev k : ℕ
+    k = placeIn ws (l / 2)
+
+    abbrev y : Followed
+    y = followed (x .follow .noted) (place true (at + 1))
+
+    module _ (h : at < used) (o : opens ws (x .marks) log at ≡ true) where
+      is-known : known ws (l / 2) ≡ true
+      unfolding opens
+      is-known = and-left _ _ (and-right (eqb (getD log at 0) (wordOf (boundary l))) _ o)
+
+      unmarked : marked (x .marks) k ≡ false
+      unfolding opens
+      unmarked = not-true _ (and-right (known ws (l / 2)) _ (and-right (eqb (getD log at 0) (wordOf (boundary l))) _ o))
+
+      boundary-there : getD log at 0 ≡ wordOf (boundary l)
+      unfolding opens
+      boundary-there = eqb-true _ _ (and-left _ _ o)
+
+      k-below : k < variablesOf ws
+      unfolding known
+      k-below = ltb-true _ _ (and-left _ _ is-known)
+
+      k-is : variableAt ws k ≡ l / 2
+      unfolding known
+      k-is = eqb-true _ _ (and-right (ltb k (variablesOf ws)) _ is-known)
+
+      l-small : l < 65535
+      l-small = let v = p .listed k k-below .range in omega (arith, k-is)
+
+      fresh-variable : hasVariable (l / 2) (ls at) ≡ false
+      fresh-variable = subst (λ (n : ℕ). hasVariable n (ls at) ≡ false) k-is (st .free k k-below unmarked)
+
+      -- the boundary's literal stands
+      stands-next : ls (at + 1) ≡ l ∷ ls at
+      unfolding pick
+      stands-next = ap ls (add-one at) ∙ standing-next log at (boundary l) (record { kind = omega arith; index = omega arith; bound = omega arith; lit = omega (arith, l-small) }) boundary-there
+
+      module _ (q : followAt ws log used l k y .place .ok ≡ true) where
+        abbrev z : Followed
+        z = followAt ws log used l k y
+
+        abbrev n : Noting
+        n = noting (x .follow .noted) [] (record { used = 0; standing = 0 })
+
+        goes : Goes ws log used l (omega (arith, l-small)) fw (noteAt ws l k (levelPushed l n) .noted) (at + 1) z
+        unfolding followAt noteAt levelPushed
+        goes = loop-goes ws log used l (omega (arith, l-small)) fw (λ i. occurrenceAt ws (startAt ws k + i)) (startAt ws (k + 1) - startAt ws k) y (levelPushed l n) refl (st .good) (omega arith) q
+
+        note-at : note ws l n ≡ noteAt ws l k (levelPushed l n)
+        unfolding note
+        note-at = pick-yes _ _ is-known
+
+        after : ls (z .place .at) ≡ l ∷ ls at
+        after = goes .stands ∙ stands-next
+
+        state-next : SameState (planOf ws ends) (stateOf (z .noted)) (noteAll (planOf ws ends) (l ∷ ls at))
+        unfolding noteAll
+        state-next =
+            same-trans (planOf ws ends) _ _ _ (subst (λ (m : List ℕ). SameState (planOf ws ends) (stateOf m) (noteOne (planOf ws ends) l (stateOf (x .follow .noted)))) (ap (λ (w : Noting). w .noted) note-at ∙ sym (goes .same)) (note-agrees ws ends p fw l l-small n (st .good .len)))
+            (note-same (planOf ws ends) l (stateOf (x .follow .noted)) (noteAll (planOf ws ends) (ls at)) (st .state))
+
+        free-next : (j : ℕ) → j < variablesOf ws → marked (setMark k (x .marks)) j ≡ false → hasVariable (variableAt ws j) (l ∷ ls at) ≡ false
+        unfolding hasVariable marked setMark
+        free-next j hj m =
+            let b = not-false _ m in
+            let j2 = ltb-true j 2176 (and-left _ _ b) in
+            let w : getD (pick (ltb k 2176) (set (x .marks) k 1) (x .marks)) j 0 ≡ 0 = eqb-true _ _ (and-right (ltb j 2176) _ b) in
+            let k2 : k < 2176 = omega (arith, k-below, p .few .0) in
+            let w' : getD (set (x .marks) k 1) j 0 ≡ 0 = subst (λ (c : List ℕ). getD c j 0 ≡ 0) (pick-yes _ _ (lt-ltb k 2176 k2)) w in
+            let ne : j ≡ k → ⊥ = λ (e : j ≡ k). let v : getD (set (x .marks) k 1) j 0 ≡ 1 = ap (λ (i : ℕ). getD (set (x .marks) k 1) i 0) e ∙ getD-set-same (x .marks) k 1 0 (omega (arith, st .room)) in omega arith in
+            let old : getD (x .marks) j 0 ≡ 0 = sym (getD-set-other (x .marks) k j 1 0 ne) ∙ w' in
+            let u : marked (x .marks) j ≡ false = ap not (ap₂ _&&_ (lt-ltb j 2176 j2) (eq-eqb (getD (x .marks) j 0) 0 old)) in
+            ap₂ _||_ (ne-eqb (l / 2) (variableAt ws j) (λ (e : l / 2 ≡ variableAt ws j). ne (one-place ws ends p j k hj k-below (sym e ∙ sym k-is)))) (st .free j hj u)
+
+        next : Stand (suc i) (record { marks = setMark k (x .marks); follow = z })
+        unfolding setMark
+        next = record {
+          good = goes .good;
+          state = subst (λ (m : List ℕ). SameState (planOf ws ends) (stateOf (z .noted)) (noteAll (planOf ws ends) m)) (sym after) state-next;
+          down = goes .down;
+          far = ⊎-elim (λ (a : i ≤ at). inl (omega (arith, goes .up))) (λ (a : used ≤ at). absurd (omega arith)) (st .far);
+          distinct = subst Distinct (sym after) (one fresh-variable (st .distinct));
+          knows = subst (AllKnown ws) (sym after) (AllKnown.one is-known (st .knows));
+          room = pick-ind (λ (m : List ℕ). length m ≡ 2176) (ltb k 2176) _ _ (λ _. length-set (x .marks) k 1 ∙ st .room) (λ _. st .room);
+          free = λ j a b. subst (λ (m : List ℕ). hasVariable (variableAt ws j) m ≡ false) (sym after) (free-next j a b);
+        }
+
+    past : used ≤ at → Stand (suc i) x
+    past h = record {
+      good = st .good;
+      state = st .state;
+      down = st .down;
+      far = inr h;
+      distinct = st .distinct;
+      knows = st .knows;
+      room = st .room;
+      free = st .free;
+    }
+
+  abbrev If : ℕ → Replayed → Type 0
+  If i x = x .follow .place .ok ≡ true → Stand i x
+
+  level : (i : ℕ) (x : Replayed) → If i x → If (suc i) (replayLevel ws log used x)
+  unfolding replayLevel
+  level i x f =
+      pick-ind (If (suc i)) (x .follow .place .ok && ltb (x .follow .place .at) used) _ _
+      (λ t. let ok = and-left _ _ t in
+      let h = ltb-true (x .follow .place .at) used (and-right (x .follow .place .ok) _ t) in
+      pick-ind (If (suc i)) (opens ws (x .marks) log (x .follow .place .at)) _ _ (λ o q. next i x (f ok) h o q) (λ _ q. absurd (false≢true q)))
+      (λ t ok. past i x (f ok) (ltb-false (x .follow .place .at) used (rest _ _ ok t)))
+    where
+      rest : (a b : Bool) → a ≡ true → (a && b) ≡ false → b ≡ false
+      rest true b e g = g
+      rest false b e g = absurd (false≢true e)
+
+  -- zero words, as the code begins
+  zeros-length : (n : ℕ) → length (replicate {A = ℕ} n 0) ≡ n
+  zeros-length n = length-replicate n 0
+
+  zeros-fit : (n : ℕ) → WordsFit (replicate n 0)
+  zeros-fit n i = ⊎-elim
+      (λ (h : n ≤ i). let e : getD (replicate n 0) i 0 ≡ 0 = List·getD-eq-default (replicate n 0) 0 (subst (λ (k : ℕ). k ≤ i) (sym (zeros-length n)) h) in subst (λ (k : ℕ). k < 4294967296) (sym e) (omega arith))
+      (λ (h : i < n). let e : getD (replicate n 0) i 0 ≡ 0 = getD-replicate n i 0 0 h in subst (λ (k : ℕ). k < 4294967296) (sym e) (omega arith)) (le-or-lt n i)
+
+  zeros-lits : LitsFit (replicate 384 0)
+  unfolding boundAt
+  zeros-lits = record {
+    low = λ v h. pick-ind (λ (n : ℕ). n < 65536) (ltb v 64) _ _ (λ _. let e : getD (replicate 384 0) (256 + v) 0 ≡ 0 = getD-replicate 384 (256 + v) 0 0 (omega arith) in subst (λ (k : ℕ). k < 65536) (sym e) (omega arith)) (λ _. omega arith);
+    high = λ v h. pick-ind (λ (n : ℕ). n < 65536) (ltb v 64) _ _ (λ _. let e : getD (replicate 384 0) (320 + v) 0 ≡ 0 = getD-replicate 384 (320 + v) 0 0 (omega arith) in subst (λ (k : ℕ). k < 65536) (sym e) (omega arith)) (λ _. omega arith);
+  }
+
+  start : Stand 0 (replayed (replicate 2176 0) (fresh ws (replicate 384 0)) (place true 0))
+  unfolding recordsOf standing noteAll hasVariable
+  start = record {
+    good = record {
+      len = fresh-length ws (replicate 384 0) (zeros-length 384) ends p;
+      words = fresh-fits ws (replicate 384 0) fw (zeros-fit 384);
+      lits = fresh-lits ws (replicate 384 0) (zeros-length 384) ends p zeros-lits;
+    };
+    state = fresh-agrees ws (replicate 384 0) (zeros-length 384) ends p;
+    down = omega arith;
+    far = inl (omega arith);
+    distinct = none;
+    knows = AllKnown.none;
+    room = zeros-length 2176;
+    free = λ k h m. refl;
+  }
+
+  pub record Stands (noted : List ℕ) : Type 0 where
+    pub distinct : Distinct (ls used)
+    pub known : AllKnown ws (ls used)
+    pub state : SameState (planOf ws ends) (stateOf noted) (noteAll (planOf ws ends) (ls used))
+
+  afresh-stands : afresh ws log used .follow .place .ok ≡ true → Stands (afresh ws log used .follow .noted)
+  unfolding afresh replay
+  afresh-stands ok =
+      let st = iter-ind If (λ _ y. replayLevel ws log used y) (replayed (replicate 2176 0) (fresh ws (replicate 384 0)) (place true 0)) used (λ _. start) (λ i x h f. level i x f) ok in
+      let x = iter (λ _ y. replayLevel ws log used y) used (replayed (replicate 2176 0) (fresh ws (replicate 384 0)) (place true 0)) in
+      let e : x .follow .place .at ≡ used = ⊎-elim (λ (a : used ≤ x .follow .place .at). omega (arith, st .down)) (λ (a : used ≤ x .follow .place .at). omega (arith, st .down)) (st .far) in
+      record {
+        distinct = subst (λ (n : ℕ). Distinct (ls n)) e (st .distinct);
+        known = subst (λ (n : ℕ). AllKnown ws (ls n)) e (st .knows);
+        state = subst (λ (n : ℕ). SameState (planOf ws ends) (stateOf (x .follow .noted)) (noteAll (planOf ws ends) (ls n))) e (st .state);
+      }
+
+  -- words that do not differ stand for one state
+  same-words : (a b : List ℕ) → notedDiffers ws a b ≡ false → SameState (planOf ws ends) (stateOf b) (stateOf a)
+  unfolding notedDiffers
+  same-words a b e =
+      let (d, f) = or-none (some (edgeDiffers a b) (edgesOf ws)) (some (vertexDiffers a b) (verticesOf ws)) e in
+      record {
+        edge = λ g h. state-word b g (omega (arith, p .fine .fits)) ∙ sym (same-edge a b g (some-none (edgeDiffers a b) (edgesOf ws) d g h)) ∙ sym (state-word a g (omega (arith, p .fine .fits)));
+        lower = λ v h. sym (same-vertex a b v (some-none (vertexDiffers a b) (verticesOf ws) f v h) .0);
+        upper = λ v h. sym (same-vertex a b v (some-none (vertexDiffers a b) (verticesOf ws) f v h) .1);
+        lowerLit = λ v h. ap litsOf (sym (same-vertex a b v (some-none (vertexDiffers a b) (verticesOf ws) f v h) .2));
+        upperLit = λ v h. ap litsOf (sym (same-vertex a b v (some-none (vertexDiffers a b) (verticesOf ws) f v h) .3));
+      }
+
+-- Refusal 7's last part leaves a log whose literals are the plan's, no two of one variable; edge states, bounds and their
+-- literals are what the standing literals give; and the cursor counts them.
+module _ (ws : List ℕ) (ends : List (List ℕ)) (p : ProperWords ws ends) (fw : WordsFit ws) (noted log : List ℕ) (c : Cursor) (e : logBad ws noted log c ≡ false) where
+  abbrev now : List ℕ
+  now = standing (recordsOf log (c .used))
+
+  parts : (c .used ≤ length log) × (length now ≡ c .standing) × (afresh ws log (c .used) .follow .place .ok ≡ true) × (notedDiffers ws (afresh ws log (c .used) .follow .noted) noted ≡ false)
+  unfolding logBad
+  parts =
+      let (a, e₁) = or-none (ltb (length log) (c .used)) _ e in
+      let (b, e₂) = or-none (not (eqb (length now) (c .standing))) _ e₁ in
+      let (d, f) = or-none (not (afresh ws log (c .used) .follow .place .ok)) _ e₂ in
+      (ltb-false (length log) (c .used) a, eqb-true _ _ (not-false _ b), not-false _ d, f)
+
+  pub log-fits : c .used ≤ length log
+  log-fits = parts .0
+
+  pub counts : length now ≡ c .standing
+  counts = parts .1
+
+  replayed-stands : Stands ws ends p fw log (c .used) (afresh ws log (c .used) .follow .noted)
+  replayed-stands = afresh-stands ws ends p fw log (c .used) (parts .2)
+
+  -- no two standing literals are of one variable, so never both signs
+  pub standing-distinct : Distinct now
+  standing-distinct = replayed-stands .distinct
+
+  pub standing-known : AllKnown ws now
+  standing-known = replayed-stands .known
+
+  -- each edge state, bound and bound literal is what the standing literals give
+  pub state-stands : SameState (planOf ws ends) (stateOf noted) (noteAll (planOf ws ends) now)
+  state-stands = same-trans (planOf ws ends) _ _ _ (same-words ws ends p fw log (c .used) (afresh ws log (c .used) .follow .noted) noted (parts .3)) (replayed-stands .state)
+
+  -- so the abstract state is the noted one
+  pub standing-noted : Noted (planOf ws ends) (In now) (noteAll (planOf ws ends) now)
+  standing-noted = noted-all (planOf ws ends) now (never-both now standing-distinct)

@@ -1,0 +1,66 @@
+// Refusal 7's tests of the lent buffers.
+ghost use mathlib.Core.Path.{_≡_};
+ghost use Prim.Native.Nat.{ℕ, _≤_};
+ghost use lib.ListN.{length};
+ghost use Rattle.base.specs.Lists.{some};
+ghost use Rattle.noting.specs.Buffers.{tableLen, codeBad, tableBad, listShort, reasonShort, logShort};
+
+// The largest variable and one, 0 with none.
+pub fn table_len(plan: &[u32; 15241]) -> usize
+    ensures { λ r. ⌜ r ≡ tableLen (now (plan .entry)) ⌝ }
+{
+    let n = plan::num_variables(plan) as usize;
+    if 0 < n {
+        return plan::variable_at(plan, n - 1) as usize + 1;
+    }
+    0
+}
+
+fn code_bad(table: &[u8], i: usize) -> bool
+    ensures { λ r. ⌜ r ≡ codeBad (now (table .entry)) i ⌝ }
+{
+    if i < table.len() {
+        return 4 < table[i];
+    }
+    false
+}
+
+fn some_code_bad(table: &[u8], n: usize) -> bool
+    ensures { λ r. ⌜ r ≡ some (codeBad (now (table .entry))) n ⌝ }
+{
+    let mut i = 0;
+    while i < n {
+        if code_bad(table, i) {
+            return true;
+        }
+        i += 1;
+    }
+    false
+}
+
+pub fn table_bad(plan: &[u32; 15241], table: &[u8]) -> bool
+    ensures { λ r. ⌜ r ≡ tableBad (now (plan .entry)) (now (table .entry)) ⌝ }
+{
+    if table.len() < table_len(plan) {
+        return true;
+    }
+    some_code_bad(table, table.len())
+}
+
+pub fn list_short(plan: &[u32; 15241], n: usize) -> bool
+    ensures { λ r. ⌜ r ≡ listShort (now (plan .entry)) n ⌝ }
+{
+    n < 2 * (plan::num_variables(plan) as usize)
+}
+
+pub fn reason_short(plan: &[u32; 15241], n: usize) -> bool
+    ensures { λ r. ⌜ r ≡ reasonShort (now (plan .entry)) n ⌝ }
+{
+    n < plan::num_edges(plan) as usize + 2 * (plan::num_vertices(plan) as usize) + 4
+}
+
+pub fn log_short(plan: &[u32; 15241], n: usize) -> bool
+    ensures { λ r. ⌜ r ≡ logShort (now (plan .entry)) n ⌝ }
+{
+    n < 2 * (plan::num_slots(plan) as usize)
+}
