@@ -51,7 +51,7 @@ pred-under (suc l) i = ⊎-elim
     (λ (h : i < l). lt-ltb (i + 1) (suc l) (omega arith) ∙ sym (lt-ltb i l h))
     (le-or-lt l i)
 
-pred-few : (l : ℕ) → l ≤ 32 → pred l ≤ 32
+pub pred-few : (l : ℕ) → l ≤ 32 → pred l ≤ 32
 pred-few zero h = h
 pred-few (suc l) h = omega arith
 

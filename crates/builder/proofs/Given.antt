@@ -19,6 +19,7 @@ use Rattle.base.proofs.Filled.{filled-length, filled-in, filled-out}
 use Rattle.plan.specs.Words.{word, entry, cell}
 use Rattle.builder.specs.Input.{weightAt, lenAt, sizeAt, litAt, edgeLitAt}
 use Rattle.builder.specs.Index.{Indexing, indexed}
+use Rattle.builder.proofs.Count.{pred-few}
 use Rattle.builder.specs.Build.{flag, rows, header, given, closed, totals, withIndex}
 
 -- ---- rows
@@ -52,10 +53,6 @@ module _ (from : ℕ) (count : ℕ → ℕ) (f : ℕ → ℕ → ℕ) (l : List 
       filled-out (from + 32 * n) (f n) (rows from count f n l) (count n) (from + 32 * v + j) (inl (omega arith))
       ∙ rows-in n v j (λ u x. c u (omega arith)) b k (omega arith))
       (eq-or-lt-of-le {n = v} {m = n} (omega arith))
-
-pred-few : (k : ℕ) → k ≤ 32 → pred k ≤ 32
-pred-few zero h = h
-pred-few (suc k) h = omega arith
 
 -- ---- the words as they were given
 module _ (vs : List ℤ) (n : ℕ) (es : List ℤ) (m : ℕ) (a b : Bool) (fn : n ≤ 64) (fm : m ≤ 128) (fl : (v : ℕ) → v < n → lenAt vs v ≤ 32) where
