@@ -1,3 +1,4 @@
 pub mod Pass
 pub mod Shapes
 pub mod Place
+pub mod Matching

@@ -1,5 +1,7 @@
 // The steps of `analyze`, over lent words: plan, noted, view. Each reads, and stores what it proposes by the literal's place
 // among the distinct literals; nothing of the state is changed.
+pub mod step1;
+
 ghost use mathlib.Core.Path.{_≡_};
 ghost use mathlib.Core.List.{[]};
 ghost use Prim.Native.Nat.{ℕ, pred, suc, _+_, _*_, _<_, _≤_};
