@@ -128,7 +128,7 @@ pub pass-regular : (f : ℕ → Out → Out) → ((i : ℕ) → Follows (f i)) �
 pass-regular f u n = iter-regular (guarded f) (λ i. guarded-regular f i (u i)) n
 
 -- code that goes on: the verdict was Going
-module _ (f : Out → Out) (u : Regular f) (o : Out) (a b c : List ℕ) (r : Verdict) where
+module _ (f : Out → Out) (u : Follows f) (o : Out) (a b c : List ℕ) (r : Verdict) where
   pub ran-after : ran Going b ≡ ranOf o a → ran r c ≡ ranOf (f begun) b → ran r c ≡ ranOf (f o) a
   unfolding ranOf goesOn
   ran-after e h =
@@ -159,7 +159,7 @@ module _ (f : ℕ → Out → Out) where
   pub ran-more : ((i : ℕ) → Follows (f i)) → (n : ℕ) (a b c : List ℕ) (r : Verdict) → ran Going b ≡ ranOf (iter (guarded f) n begun) a →
       ran r c ≡ ranOf (f n begun) b → ran r c ≡ ranOf (iter (guarded f) (n + 1) begun) a
   unfolding iter
-  ran-more u n a b c r e h = rw add-one (ran-after (guarded f n) (guarded-regular f n (u n)) (iter (guarded f) n begun) a b c r e (h ∙ ap (λ q. ranOf q b) (sym (guarded-goes f n begun refl))))
+  ran-more u n a b c r e h = rw add-one (ran-after (guarded f n) (follows (guarded f n) (guarded-regular f n (u n))) (iter (guarded f) n begun) a b c r e (h ∙ ap (λ q. ranOf q b) (sym (guarded-goes f n begun refl))))
 
   pub ran-done : (n m : ℕ) (a : List ℕ) (q : Ran) → q ≡ ranOf (iter (guarded f) n begun) a → n ≤ m → m ≤ n → q ≡ ranOf (iter (guarded f) m begun) a
   ran-done n m a q e h k = e ∙ ap (λ i. ranOf (iter (guarded f) i begun) a) (le-antisymm h k)

@@ -1,7 +1,7 @@
 -- The steps of the analysis on words: the definition of crate division, with each literal named by its place among the
 -- distinct literals, so that a proposal is stored where its literal stands. Places rise with literals, and 2k and 2k + 1 are
 -- the two signs of distinct variable k, as 2v and 2v + 1 are of variable v.
-use mathlib.Core.Bool.{Bool}
+use mathlib.Core.Path.{_≡_}
 use mathlib.Core.List.{List}
 use Prim.Native.Nat.{ℕ, _+_, _*_}
 use lib.Dec.{ltb}
@@ -11,6 +11,8 @@ use Rattle.division.specs.State.{State}
 use Rattle.division.specs.Analysis.{View, Out}
 use Rattle.plan.specs.Words.{verticesOf, edgesOf, sameSizeOf, extraWallsOf, weightOf, domainLenOf, domainOf, placeOf}
 use Rattle.noting.specs.Words.{stateOf}
+use Rattle.reasons.specs.declared.Verdict.{Verdict}
+use Rattle.reasons.specs.Verdicts.{ran, ranOf}
 use Rattle.views.specs.Words.{shown}
 
 -- the places of an edge's literal and of size literal j of vertex v, 0 past their limits
@@ -54,3 +56,7 @@ viewIn x = shown (planIn x) (stateOf (x .noted)) (x .view)
 -- a definition of division's analysis, on words
 abbrev pub on : {A : Type 0} → (Plan → State → View → A) → Words → A
 on f x = f (planIn x) (stateOf (x .noted)) (viewIn x)
+
+-- a pass that stores nothing leaves verdict r where the definition leaves o
+abbrev pub Finds : Verdict → Out → Type 0
+Finds r o = (a : List ℕ) → ran r a ≡ ranOf o a

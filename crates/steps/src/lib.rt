@@ -1,6 +1,9 @@
 // The steps of `analyze`, over lent words: plan, noted, view. Each reads, and stores what it proposes by the literal's place
 // among the distinct literals; nothing of the state is changed.
 pub mod step1;
+pub mod step2;
+pub mod step3;
+pub mod step4;
 
 ghost use mathlib.Core.Path.{_≡_};
 ghost use mathlib.Core.List.{[]};
@@ -10,7 +13,7 @@ ghost use lib.ListN.{getD};
 ghost use Rattle.sat.specs.Literal.{negate};
 ghost use Rattle.division.specs.Analysis.{place};
 ghost use Rattle.plan.specs.Words.{domainLenOf, domainOf};
-ghost use Rattle.views.specs.Words.{decidedRegionOf};
+ghost use Rattle.views.specs.Words.{decidedRegionOf, potentialRegionOf, decidedWeightOf, potentialWeightOf};
 ghost use Rattle.steps.specs.Placed.{edgePlaceOf, domPlaceOf};
 
 // The place of edge g's literal.
@@ -127,4 +130,18 @@ pub(crate) fn lit_at_least(plan: &[u32; 15241], v: usize, x: u64) -> u32
         v,
         less_one(sizes_below(plan, v, x, plan::domain_len(plan, v) as usize)),
     )
+}
+
+// The weight of v's region.
+pub(crate) fn decided_weight(view: &[u32; 512], v: usize) -> u32
+    ensures { λ r. ⌜ r ≡ decidedWeightOf (now (view .entry)) (decidedRegionOf (now (view .entry)) v) ⌝ }
+{
+    views::decided_region_weight(view, views::decided_region(view, v) as usize)
+}
+
+// The weight of v's potential region.
+pub(crate) fn potential_weight(view: &[u32; 512], v: usize) -> u32
+    ensures { λ r. ⌜ r ≡ potentialWeightOf (now (view .entry)) (potentialRegionOf (now (view .entry)) v) ⌝ }
+{
+    views::potential_region_weight(view, views::potential_region(view, v) as usize)
 }

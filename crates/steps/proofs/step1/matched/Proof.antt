@@ -50,7 +50,7 @@ same-length c = search needs
 
 returns : tie.Need-returns
 unfolding loose matches
-returns c = 
+returns c =
     let h = (c .before .before .before .before .before .before .before .before .before .before .lowest-match .ensures) ∙ ap (lowest (on matches (words [] (c .before .before .before .before .before .before .before .before .before .before .before .before .before .before .before .args .edges .now) (c .before .before .before .before .before .before .before .before .before .before .before .before .before .before .before .args .noted .now) (c .before .before .before .before .before .before .before .before .before .before .before .before .before .before .before .args .view .now)) (c .before .before .before .before .before .before .before .before .before .before .before .before .before .before .before .args .g))) (c .before .before .before .before .before .before .before .before .before .before .before .num-edges .ensures) in
     ap (ran Going) (c .before .before .put .ensures)
     ∙ matched-some _ _ _ _ _ _ _ _ _ (sym (c .before .before .before .before .before .before .before .before .before .before .before .before .before .loose .ensures) ∙ (c .before .before .before .before .before .before .before .before .before .before .before .before .if1 .taken)) h (omega arith) (ap₂ eqb (c .before .before .before .before .before .before .before .before .left-region .ensures) (c .before .before .before .before .before .before .before .right-region .ensures)) (c .before .before .before .before .before .edge-place .ensures)
@@ -58,8 +58,7 @@ returns c =
 
 returns-2 : tie.Need-returns-2
 unfolding loose matches
-returns-2 c = 
-    let h = (c .before .lowest-match .ensures) ∙ ap (lowest (on matches (words [] (c .before .before .before .before .before .before .args .edges .now) (c .before .before .before .before .before .before .args .noted .now) (c .before .before .before .before .before .before .args .view .now)) (c .before .before .before .before .before .before .args .g))) (c .before .before .num-edges .ensures) in
+returns-2 c =
     matched-none _ _ _ _ _ (sym (c .before .before .before .before .loose .ensures) ∙ (c .before .before .before .if1 .taken)) (subst (λ i. i ≤ lowest (on matches (words [] (c .before .before .before .before .before .before .args .edges .now) (c .before .before .before .before .before .before .args .noted .now) (c .before .before .before .before .before .before .args .view .now)) (c .before .before .before .before .before .before .args .g)) i) (c .before .before .num-edges .ensures) (subst (λ i. (c .before .before .num-edges .result) ≤ i) (c .before .lowest-match .ensures) (omega arith)))
 
 returns-3 : tie.Need-returns-3
