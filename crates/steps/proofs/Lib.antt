@@ -4,3 +4,4 @@ pub mod Place
 pub mod Matching
 pub mod Bounds
 pub mod Spreading
+pub mod Forks

@@ -4,6 +4,7 @@ pub mod step1;
 pub mod step2;
 pub mod step3;
 pub mod step4;
+pub mod step5;
 
 ghost use mathlib.Core.Path.{_≡_};
 ghost use mathlib.Core.List.{[]};

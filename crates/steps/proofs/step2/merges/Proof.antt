@@ -44,7 +44,7 @@ same-length c = search needs
 
 returns : tie.Need-returns
 unfolding loose
-returns c = 
+returns c =
     ap (ran Going) (c .before .before .put .ensures)
     ∙ merges-some _ _ _ _ _ _ _ _ _ _ _ (sym (c .before .before .before .before .before .before .before .before .before .before .before .before .before .loose .ensures) ∙ (c .before .before .before .before .before .before .before .before .before .before .before .before .if1 .taken)) (c .before .before .before .before .before .before .before .before .before .before .before .left-region .ensures) (c .before .before .before .before .before .before .before .before .before .before .right-region .ensures) (sym (c .before .before .before .before .before .before .before .before .before .too-large-if-merged .ensures) ∙ (c .before .before .before .before .before .before .before .before .if2 .taken)) (c .before .before .before .before .before .before .before .tighter-upper-bound .ensures)
     (ap litsOf (sym (c .before .before .before .before .before .before .upper-bound-lit .ensures))) (c .before .before .before .before .edge-place .ensures) (c .before .before .before .packed .ensures)

@@ -32,7 +32,7 @@ same-length : tie.Need-same-length
 same-length c = search needs
 
 returns : tie.Need-returns
-returns c = 
+returns c =
     ap (ran Going) (c .before .before .put .ensures)
     ∙ raises-some _ _ _ _ _ _ _ _ (omega arith) (omega arith) (c .before .before .before .before .before .before .before .before .decided-weight .ensures) (c .before .before .before .before .before .lit-at-least .ensures) (c .before .before .before .packed .ensures)
 

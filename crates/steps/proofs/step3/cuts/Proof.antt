@@ -47,7 +47,7 @@ same-length : tie.Need-same-length
 same-length c = search needs
 
 returns-3 : tie.Need-returns-3
-returns-3 c = 
+returns-3 c =
     ap (ran Going) (c .before .before .put .ensures)
     ∙ cuts-some _ _ _ _ _ _ _ _ _ (omega arith) (omega arith) (omega arith) (c .before .before .before .before .before .before .before .before .before .before .before .potential-weight .ensures) (c .before .before .before .before .before .before .lit-at-least .ensures) (c .before .before .before .before .negation .ensures) (c .before .before .before .packed .ensures)
 

@@ -54,7 +54,7 @@ same-length : tie.Need-same-length
 same-length c = search needs
 
 returns : tie.Need-returns
-returns c = 
+returns c =
     ap (ran Going) (c .before .before .put .ensures)
     ∙ spreadsHigh-some _ _ _ _ _ _ _ _ _ _ _ _ (omega arith) (omega arith) (c .before .before .before .before .before .before .before .before .before .before .before .before .decided-region .ensures) (c .before .before .before .before .before .before .before .before .before .before .before .region-upper-bound .ensures) (c .before .before .before .before .before .before .before .region-upper-bound-idx .ensures)
     (ap litsOf (sym (c .before .before .before .before .upper-bound-lit .ensures))) (c .before .before .before .before .before .before .before .before .lit-at-least .ensures) (c .before .before .before .before .before .negation .ensures) (c .before .before .before .packed .ensures)

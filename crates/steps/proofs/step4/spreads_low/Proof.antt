@@ -48,7 +48,7 @@ same-length : tie.Need-same-length
 same-length c = search needs
 
 returns : tie.Need-returns
-returns c = 
+returns c =
     ap (ran Going) (c .before .before .put .ensures)
     ∙ spreadsLow-some _ _ _ _ _ _ _ _ _ _ _ (omega arith) (omega arith) (c .before .before .before .before .before .before .before .before .before .before .before .decided-region .ensures) (c .before .before .before .before .before .before .before .before .before .before .region-lower-bound .ensures) (c .before .before .before .before .before .before .region-lower-bound-idx .ensures)
     (ap litsOf (sym (c .before .before .before .before .lower-bound-lit .ensures))) (c .before .before .before .before .before .before .before .lit-at-least .ensures) (c .before .before .before .packed .ensures)
