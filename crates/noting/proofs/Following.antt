@@ -11,7 +11,7 @@ use lib.Dec.{eqb, ltb}
 use lib.ListN.{length, getD}
 use borrow.Author.Tests.{lt-ltb, ltb-true, eqb-true, eqb-false, ne-eqb, eq-eqb}
 use Rattle.base.specs.Iter.{iter, pick}
-use Rattle.base.proofs.Loop.{pick-ind, pick-yes, pick-no, tested, iter-ind}
+use Rattle.base.proofs.Loop.{pick-ind, pick-yes, pick-no, iter-ind}
 use Rattle.base.proofs.Tests.{and-left, and-right}
 use Rattle.undo_log.specs.declared.Record.{Record}
 use Rattle.undo_log.specs.Log.{recordOf, wordOf}
@@ -25,6 +25,7 @@ use Rattle.noting.specs.Replay.{Followed, followed, place, holdsAt, foll
 use Rattle.noting.proofs.Effects.{effective, LitsFit}
 use Rattle.noting.proofs.After.{WordsFit, applied-words, applied-lits, record-fits}
 use Rattle.noting.proofs.Agrees.{slot-words, applied-length, idle-applied}
+use Rattle.noting.proofs.Prefix.{slot-was}
 
 -- words that code can hold
 pub record Good (noted : List ℕ) : Type 0 where
@@ -89,11 +90,6 @@ module _ (ws log : List ℕ) (used l : ℕ) (wl : l < 65536) (fw : WordsFit ws) 
         (λ h _. went (eqb-false _ _ t) h) (λ _ q. absurd (false≢true q))))
         (λ n. absurd (true≢false (sym o ∙ n)))
 
-  -- what does not agree stays so
-  pub slot-was : (s : ℕ) (y : Followed) → followSlot ws log used l s y .place .ok ≡ true → y .place .ok ≡ true
-  unfolding followSlot
-  slot-was s y = tested (y .place .ok) (λ t _. t) (λ t q. sym (ap (λ (z : Followed). z .place .ok) (pick-no _ _ t)) ∙ q)
-
   pub loop-goes : (at : ℕ → ℕ) (n : ℕ) (y : Followed) (x : Noting) → x .noted ≡ y .noted → Good (y .noted) → y .place .at ≤ used →
       iter (λ i z. followSlot ws log used l (at i) z) n y .place .ok ≡ true → Goes (iter (λ i z. noteSlot ws l (at i) z) n x .noted) (y .place .at) (iter (λ i z. followSlot ws log used l (at i) z) n y)
   unfolding iter
@@ -101,7 +97,7 @@ module _ (ws log : List ℕ) (used l : ℕ) (wl : l < 65536) (fw : WordsFit ws) 
   loop-goes at (suc n) y x e g d o =
       let z = iter (λ i z. followSlot ws log used l (at i) z) n y in
       let w = iter (λ i z. noteSlot ws l (at i) z) n x in
-      let o' : z .place .ok ≡ true = slot-was (at n) z o in
+      let o' : z .place .ok ≡ true = slot-was ws log used l (at n) z o in
       let q = loop-goes at n y x e g d o' in
       let t = slot-goes (at n) z (q .good) (q .down) o' o in
       record {

@@ -16,5 +16,7 @@ pub mod Bounds
 pub mod Vertex
 pub mod Noted
 pub mod Unnoted
+pub mod Prefix
 pub mod Following
+pub mod Logged
 pub mod Replaying
