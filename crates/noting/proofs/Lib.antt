@@ -20,3 +20,4 @@ pub mod Prefix
 pub mod Following
 pub mod Logged
 pub mod Replaying
+pub mod Room

@@ -71,7 +71,7 @@ logged-length ws log (Logged.one {at = at} {noted = noted} {l = l} {to = to} {af
     omega (arith, logged-length ws log x)
 
 -- zero words, as the code begins
-zeros-length : (n : ℕ) → length (replicate {A = ℕ} n 0) ≡ n
+pub zeros-length : (n : ℕ) → length (replicate {A = ℕ} n 0) ≡ n
 zeros-length n = length-replicate n 0
 
 zeros-fit : (n : ℕ) → WordsFit (replicate n 0)
@@ -117,8 +117,7 @@ module _ (ws : List ℕ) (ends : List (List ℕ)) (p : ProperWords ws ends) wher
         let (a, _) = one-on ws log l at to noted after f in
         let y = followed noted (place true (at + 1)) in
         let q = placeIn ws (l / 2) in
-        let t = loop-goes ws log to l (omega arith) fw (λ i. occurrenceAt ws (startAt ws q + i)) (startAt ws (q + 1) - startAt ws q) y (noting noted [] (record { used = 0; standing = 0 })) refl g a (ap (λ (z : Followed). z .place .ok) f) in
-        (
+        let t = loop-goes ws log to l (omega arith) fw (λ i. occurrenceAt ws (startAt ws q + i)) (startAt ws (q + 1) - startAt ws q) y (noting noted [] (record { used = 0; standing = 0 })) refl g a (ap (λ (z : Followed). z .place .ok) f) in (
           subst Good (ap (λ (z : Followed). z .noted) f) (t .good),
           ap (λ (n : ℕ). standing (recordsOf log n)) (sym (ap (λ (z : Followed). z .place .at) f)) ∙ t .stands ∙ ap (λ (n : ℕ). standing (recordsOf log n)) (add-one at)
               ∙ standing-next log at (boundary l) (record { kind = omega arith; index = omega arith; bound = omega arith; lit = omega arith }) b

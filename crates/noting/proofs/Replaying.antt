@@ -8,13 +8,13 @@ use Prim.Native.Nat.{ℕ, zero, suc, _+_, _-_, _*_, _/_, _%_, _≤_, _<_}
 use native.Mathlib.Omega.{arith}
 use native.Mathlib.Numerals.{add-one}
 use lib.Dec.{eqb, ltb}
-use lib.ListN.{length, getD, set, replicate, length-set, length-replicate, getD-replicate, List·getD-eq-default}
+use lib.ListN.{length, getD, set, replicate, length-set}
 use lib.Seq.{getD-set-same, getD-set-other}
 use borrow.Author.Tests.{lt-ltb, ltb-true, ltb-false, eqb-true, eqb-false, ne-eqb, eq-eqb, not-true}
 use Rattle.base.specs.Iter.{iter, pick}
 use Rattle.base.specs.Lists.{some}
 use Rattle.base.proofs.Loop.{pick-ind, pick-yes, pick-no, tested, iter-ind, eq-or-not}
-use Rattle.base.proofs.Tests.{and-left, and-right, or-none, not-false, le-or-lt}
+use Rattle.base.proofs.Tests.{and-left, and-right, or-none, not-false}
 use Rattle.base.proofs.Some.{some-none}
 use Rattle.sat.specs.Literal.{negate}
 use Rattle.undo_log.specs.declared.Record.{Record}
@@ -37,13 +37,13 @@ use Rattle.noting.specs.Note.{Noting, noting, boundary, levelPushed, pla
 use Rattle.noting.specs.Undo.{recordsOf}
 use Rattle.noting.specs.Standing.{standing, hasVariable}
 use Rattle.noting.specs.Replay.{Followed, followed, place, Replayed, replayed, marked, setMark, litAt, opens, followAt, replayLevel, replay, edgeDiffers, vertexDiffers, notedDiffers, afresh, logBad}
-use Rattle.noting.proofs.Effects.{LitsFit}
 use Rattle.noting.proofs.After.{WordsFit}
 use Rattle.noting.proofs.Vertex.{negate-other}
 use Rattle.noting.proofs.Indexed.{one-place}
 use Rattle.noting.proofs.Noted.{note-agrees}
-use Rattle.noting.proofs.Unnoted.{fresh-length, fresh-fits, fresh-lits, fresh-agrees}
+use Rattle.noting.proofs.Unnoted.{fresh-agrees}
 use Rattle.noting.proofs.Following.{Good, standing-next, Goes, loop-goes}
+use Rattle.noting.proofs.Logged.{Logged, follow-other, zeros-length, zeros-good}
 
 pub same-trans : (d : Plan) (s t u : State) → SameState d s t → SameState d t u → SameState d s u
 same-trans d s t u a b = record {
@@ -54,15 +54,15 @@ same-trans d s t u a b = record {
   upperLit = λ v h. a .upperLit v h ∙ b .upperLit v h;
 }
 
-state-word : (m : List ℕ) (g : ℕ) → g < 128 → getD m g 0 ≡ edgeStateOf m g
+pub state-word : (m : List ℕ) (g : ℕ) → g < 128 → getD m g 0 ≡ edgeStateOf m g
 unfolding edgeStateOf
 state-word m g h = sym (pick-yes _ _ (lt-ltb g 128 h))
 
-same-edge : (a b : List ℕ) (g : ℕ) → edgeDiffers a b g ≡ false → edgeStateOf a g ≡ edgeStateOf b g
+pub same-edge : (a b : List ℕ) (g : ℕ) → edgeDiffers a b g ≡ false → edgeStateOf a g ≡ edgeStateOf b g
 unfolding edgeDiffers
 same-edge a b g e = eqb-true (edgeStateOf a g) (edgeStateOf b g) (not-false _ e)
 
-same-vertex : (a b : List ℕ) (v : ℕ) → vertexDiffers a b v ≡ false → (lowerOf a v ≡ lowerOf b v) × (upperOf a v ≡ upperOf b v) × (lowerLitOf a v ≡ lowerLitOf b v) × (upperLitOf a v ≡ upperLitOf b v)
+pub same-vertex : (a b : List ℕ) (v : ℕ) → vertexDiffers a b v ≡ false → (lowerOf a v ≡ lowerOf b v) × (upperOf a v ≡ upperOf b v) × (lowerLitOf a v ≡ lowerLitOf b v) × (upperLitOf a v ≡ upperLitOf b v)
 unfolding vertexDiffers
 same-vertex a b v e =
     let (c, e₁) = or-none (not (eqb (lowerOf a v) (lowerOf b v))) _ e in
@@ -80,7 +80,7 @@ pub data AllKnown (ws : List ℕ) : List ℕ → Type 0 where
   none : AllKnown ws []
   one : {l : ℕ} {ls : List ℕ} → known ws (l / 2) ≡ true → AllKnown ws ls → AllKnown ws (l ∷ ls)
 
-member-variable : (x a : ℕ) (ls : List ℕ) → In ls a → a / 2 ≡ x → hasVariable x ls ≡ false → ⊥
+pub member-variable : (x a : ℕ) (ls : List ℕ) → In ls a → a / 2 ≡ x → hasVariable x ls ≡ false → ⊥
 unfolding hasVariable
 member-variable x a [] m e h = absurd (List·Memᴰ·not-nil m)
 member-variable x a (l ∷ ls) m e h =
@@ -105,6 +105,7 @@ module _ (ws : List ℕ) (ends : List (List ℕ)) (p : ProperWords ws ends) (fw 
   -- after a part of the log that agrees
   record Stand (i : ℕ) (x : Replayed) : Type 0 where
     good : Good (x .follow .noted)
+    logged : Logged ws log (ls (x .follow .place .at)) (x .follow .place .at) (x .follow .noted)
     state : SameState (planOf ws ends) (stateOf (x .follow .noted)) (noteAll (planOf ws ends) (ls (x .follow .place .at)))
     down : x .follow .place .at ≤ used
     far : (i ≤ x .follow .place .at) ⊎ (used ≤ x .follow .place .at)
@@ -182,6 +183,12 @@ module _ (ws : List ℕ) (ends : List (List ℕ)) (p : ProperWords ws ends) (fw 
             same-trans (planOf ws ends) _ _ _ (subst (λ (m : List ℕ). SameState (planOf ws ends) (stateOf m) (noteOne (planOf ws ends) l (stateOf (x .follow .noted)))) (ap (λ (w : Noting). w .noted) note-at ∙ sym (goes .same)) (note-agrees ws ends p fw l l-small n (st .good .len)))
             (note-same (planOf ws ends) l (stateOf (x .follow .noted)) (noteAll (planOf ws ends) (ls at)) (st .state))
 
+        -- no word past the place that was reached is read
+        follow-next : followAt ws log (z .place .at) l k y ≡ followed (z .noted) (place true (z .place .at))
+        follow-next =
+            follow-other ws log used l k y log (z .place .at) (record { ok = q; same = λ i b. refl; within = omega arith })
+            ∙ ap (λ (b : Bool). followed (z .noted) (place b (z .place .at))) q
+
         free-next : (j : ℕ) → j < variablesOf ws → marked (setMark k (x .marks)) j ≡ false → hasVariable (variableAt ws j) (l ∷ ls at) ≡ false
         unfolding hasVariable marked setMark
         free-next j hj m =
@@ -199,6 +206,7 @@ module _ (ws : List ℕ) (ends : List (List ℕ)) (p : ProperWords ws ends) (fw 
         unfolding setMark
         next = record {
           good = goes .good;
+          logged = subst (λ (m : List ℕ). Logged ws log m (z .place .at) (z .noted)) (sym after) (Logged.one (st .logged) is-known fresh-variable boundary-there follow-next);
           state = subst (λ (m : List ℕ). SameState (planOf ws ends) (stateOf (z .noted)) (noteAll (planOf ws ends) m)) (sym after) state-next;
           down = goes .down;
           far = ⊎-elim (λ (a : i ≤ at). inl (omega (arith, goes .up))) (λ (a : used ≤ at). absurd (omega arith)) (st .far);
@@ -211,6 +219,7 @@ module _ (ws : List ℕ) (ends : List (List ℕ)) (p : ProperWords ws ends) (fw 
     past : used ≤ at → Stand (suc i) x
     past h = record {
       good = st .good;
+      logged = st .logged;
       state = st .state;
       down = st .down;
       far = inr h;
@@ -236,30 +245,11 @@ module _ (ws : List ℕ) (ends : List (List ℕ)) (p : ProperWords ws ends) (fw 
       rest true b e g = g
       rest false b e g = absurd (false≢true e)
 
-  -- zero words, as the code begins
-  zeros-length : (n : ℕ) → length (replicate {A = ℕ} n 0) ≡ n
-  zeros-length n = length-replicate n 0
-
-  zeros-fit : (n : ℕ) → WordsFit (replicate n 0)
-  zeros-fit n i = ⊎-elim
-      (λ (h : n ≤ i). let e : getD (replicate n 0) i 0 ≡ 0 = List·getD-eq-default (replicate n 0) 0 (subst (λ (k : ℕ). k ≤ i) (sym (zeros-length n)) h) in subst (λ (k : ℕ). k < 4294967296) (sym e) (omega arith))
-      (λ (h : i < n). let e : getD (replicate n 0) i 0 ≡ 0 = getD-replicate n i 0 0 h in subst (λ (k : ℕ). k < 4294967296) (sym e) (omega arith)) (le-or-lt n i)
-
-  zeros-lits : LitsFit (replicate 384 0)
-  unfolding boundAt
-  zeros-lits = record {
-    low = λ v h. pick-ind (λ (n : ℕ). n < 65536) (ltb v 64) _ _ (λ _. let e : getD (replicate 384 0) (256 + v) 0 ≡ 0 = getD-replicate 384 (256 + v) 0 0 (omega arith) in subst (λ (k : ℕ). k < 65536) (sym e) (omega arith)) (λ _. omega arith);
-    high = λ v h. pick-ind (λ (n : ℕ). n < 65536) (ltb v 64) _ _ (λ _. let e : getD (replicate 384 0) (320 + v) 0 ≡ 0 = getD-replicate 384 (320 + v) 0 0 (omega arith) in subst (λ (k : ℕ). k < 65536) (sym e) (omega arith)) (λ _. omega arith);
-  }
-
   start : Stand 0 (replayed (replicate 2176 0) (fresh ws (replicate 384 0)) (place true 0))
   unfolding recordsOf standing noteAll hasVariable
   start = record {
-    good = record {
-      len = fresh-length ws (replicate 384 0) (zeros-length 384) ends p;
-      words = fresh-fits ws (replicate 384 0) fw (zeros-fit 384);
-      lits = fresh-lits ws (replicate 384 0) (zeros-length 384) ends p zeros-lits;
-    };
+    good = zeros-good ws ends p fw;
+    logged = Logged.none;
     state = fresh-agrees ws (replicate 384 0) (zeros-length 384) ends p;
     down = omega arith;
     far = inl (omega arith);
@@ -273,6 +263,7 @@ module _ (ws : List ℕ) (ends : List (List ℕ)) (p : ProperWords ws ends) (fw 
     pub distinct : Distinct (ls used)
     pub known : AllKnown ws (ls used)
     pub state : SameState (planOf ws ends) (stateOf noted) (noteAll (planOf ws ends) (ls used))
+    pub logged : Logged ws log (ls used) used noted
 
   afresh-stands : afresh ws log used .follow .place .ok ≡ true → Stands (afresh ws log used .follow .noted)
   unfolding afresh replay
@@ -284,6 +275,7 @@ module _ (ws : List ℕ) (ends : List (List ℕ)) (p : ProperWords ws ends) (fw 
         distinct = subst (λ (n : ℕ). Distinct (ls n)) e (st .distinct);
         known = subst (λ (n : ℕ). AllKnown ws (ls n)) e (st .knows);
         state = subst (λ (n : ℕ). SameState (planOf ws ends) (stateOf (x .follow .noted)) (noteAll (planOf ws ends) (ls n))) e (st .state);
+        logged = subst (λ (n : ℕ). Logged ws log (ls n) n (x .follow .noted)) e (st .logged);
       }
 
   -- words that do not differ stand for one state
@@ -305,7 +297,7 @@ module _ (ws : List ℕ) (ends : List (List ℕ)) (p : ProperWords ws ends) (fw 
   abbrev now : List ℕ
   now = standing (recordsOf log (c .used))
 
-  parts : (c .used ≤ length log) × (length now ≡ c .standing) × (afresh ws log (c .used) .follow .place .ok ≡ true) × (notedDiffers ws (afresh ws log (c .used) .follow .noted) noted ≡ false)
+  pub parts : (c .used ≤ length log) × (length now ≡ c .standing) × (afresh ws log (c .used) .follow .place .ok ≡ true) × (notedDiffers ws (afresh ws log (c .used) .follow .noted) noted ≡ false)
   unfolding logBad
   parts =
       let (a, e₁) = or-none (ltb (length log) (c .used)) _ e in
@@ -319,8 +311,12 @@ module _ (ws : List ℕ) (ends : List (List ℕ)) (p : ProperWords ws ends) (fw 
   pub counts : length now ≡ c .standing
   counts = parts .1
 
-  replayed-stands : Stands ws ends p fw log (c .used) (afresh ws log (c .used) .follow .noted)
+  pub replayed-stands : Stands ws ends p fw log (c .used) (afresh ws log (c .used) .follow .noted)
   replayed-stands = afresh-stands ws ends p fw log (c .used) (parts .2)
+
+  -- the log is one that noting gives
+  pub passed-logged : Logged ws log now (c .used) (afresh ws log (c .used) .follow .noted)
+  passed-logged = replayed-stands .logged
 
   -- no two standing literals are of one variable, so never both signs
   pub standing-distinct : Distinct now
