@@ -19,5 +19,6 @@ pub mod Unnoted
 pub mod Prefix
 pub mod Following
 pub mod Logged
+pub mod Appending
 pub mod Replaying
 pub mod Room
