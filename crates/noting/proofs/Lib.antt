@@ -22,3 +22,5 @@ pub mod Logged
 pub mod Appending
 pub mod Replaying
 pub mod Room
+pub mod Passing
+pub mod Alike
