@@ -21,19 +21,20 @@ use Rattle.plan.specs.Words.{word, verticesOf, edgesOf, domainOf, domainLenOf, 
 use Rattle.plan.specs.Check.{usedSlot}
 use Rattle.plan.specs.Proper.{ProperWords}
 use Rattle.noting.specs.declared.note.Effect.{Effect}
-use Rattle.noting.specs.Words.{edgeStateOf, boundAt, lowerOf, upperOf, lowerLitOf, upperLitOf}
+use Rattle.noting.specs.Words.{edgeStateOf, boundAt, lowerOf, upperOf, lowerLitOf, upperLitOf, fresh}
 use Rattle.noting.specs.Note.{Noting, noting, effect, nothing, sizeEffect, edgeEffect, effectOf, undoRecord, boundSet, edgeSet, applied, pushedTo, noteSlot, levelPushed, placeIn, known, noteAt, note, isOf}
 use Rattle.noting.specs.Undo.{recordsOf, restored, undone, kept, undo}
 use Rattle.noting.specs.Replay.{edgeDiffers, vertexDiffers, notedDiffers}
 use Rattle.noting.proofs.Effects.{Effective, idle, edge, low, high, effective}
 use Rattle.noting.proofs.Agrees.{applied-length}
 use Rattle.noting.proofs.Indexed.{at-of}
+use Rattle.noting.proofs.Unnoted.{fresh-length, edge-word, low-word, high-word, low-lit-word, high-lit-word}
 use Rattle.noting.proofs.Logged.{known-place}
 use Rattle.noting.proofs.Replaying.{same-edge, same-vertex}
 
 -- the places of the plan's edges, and of its vertices' bounds and their literals
 abbrev pub Held : List ℕ → ℕ → Type 0
-Held ws i = (i < edgesOf ws) ⊎ ((128 ≤ i) × ((i - 128) % 64 < verticesOf ws))
+Held ws i = (i < edgesOf ws) ⊎ ((128 ≤ i) × (i < 384) × ((i - 128) % 64 < verticesOf ws))
 
 pub record Alike (ws a b : List ℕ) : Type 0 where
   pub long : length a ≡ length b
@@ -44,6 +45,19 @@ alike-trans ws a b c p q = record { long = p .long ∙ q .long; same = λ i h. p
 
 pub alike-sym : (ws a b : List ℕ) → Alike ws a b → Alike ws b a
 alike-sym ws a b p = record { long = sym (p .long); same = λ i h. sym (p .same i h) }
+
+-- a place that is held is an edge's, or one of a vertex's four
+by-part : (ws : List ℕ) (P : ℕ → Type 0) → ((g : ℕ) → g < edgesOf ws → P g) → ((from v : ℕ) → (from ≡ 128) ⊎ ((from ≡ 192) ⊎ ((from ≡ 256) ⊎ (from ≡ 320))) → v < verticesOf ws → v < 64 → P (from + v)) → (i : ℕ) → Held ws i → P i
+by-part ws P f g i h = ⊎-elim (λ (a : i < edgesOf ws). f i a) (λ (a : (128 ≤ i) × (i < 384) × ((i - 128) % 64 < verticesOf ws)). part a) h
+  where
+    put : (from : ℕ) → (from ≡ 128) ⊎ ((from ≡ 192) ⊎ ((from ≡ 256) ⊎ (from ≡ 320))) → from ≤ i → i < from + 64 → i - from < verticesOf ws → P i
+    put from t a b c = let e : from + (i - from) ≡ i = omega arith in subst P e (g from (i - from) t c (omega arith))
+
+    part : (128 ≤ i) × (i < 384) × ((i - 128) % 64 < verticesOf ws) → P i
+    part (a, b, c) = ⊎-elim
+        (λ (x : 256 ≤ i). ⊎-elim (λ (y : 320 ≤ i). put 320 (inr (inr (inr refl))) y (omega arith) (omega arith)) (λ (y : i < 320). put 256 (inr (inr (inl refl))) x y (omega arith)) (le-or-lt 320 i))
+        (λ (x : i < 256). ⊎-elim (λ (y : 192 ≤ i). put 192 (inr (inl refl)) y x (omega arith)) (λ (y : i < 192). put 128 (inl refl) a y (omega arith)) (le-or-lt 192 i))
+        (le-or-lt 256 i)
 
 -- one test on both sides
 two : {A : Type 0} (P : A → A → Type 0) (b : Bool) {x y u v : A} → P x u → P y v → P (pick b x y) (pick b u v)
@@ -99,18 +113,47 @@ undo-twins ws x y t =
     }
 
 module _ (ws : List ℕ) (ends : List (List ℕ)) (p : ProperWords ws ends) where
+  -- words that do not differ agree
+  pub same-alike : (a b : List ℕ) → length a ≡ length b → notedDiffers ws a b ≡ false → Alike ws a b
+  unfolding notedDiffers edgeStateOf boundAt
+  same-alike a b len e =
+      let (d, f) = or-none (some (edgeDiffers a b) (edgesOf ws)) (some (vertexDiffers a b) (verticesOf ws)) e in
+      record {
+        long = len;
+        same = by-part ws (λ i. getD a i 0 ≡ getD b i 0) (λ g h. let y = lt-ltb g 128 (omega (arith, p .fine .fits)) in sym (pick-yes _ _ y) ∙ same-edge a b g (some-none (edgeDiffers a b) (edgesOf ws) d g h) ∙ pick-yes _ _ y)
+            (λ from v t h s. let w = same-vertex a b v (some-none (vertexDiffers a b) (verticesOf ws) f v h) in
+            ⊎-elim (λ (x : from ≡ 128). take 128 from v s x 0 (w .0)) (λ x. ⊎-elim (λ (x : from ≡ 192). take 192 from v s x 0 (w .1)) (λ x. ⊎-elim (λ (x : from ≡ 256). take 256 from v s x 65535 (w .2)) (λ (x : from ≡ 320). take 320 from v s x 65535 (w .3)) x) x) t);
+      }
+    where
+      take : (to from v : ℕ) → v < 64 → from ≡ to → (past : ℕ) → pick (ltb v 64) (word a (to + v)) past ≡ pick (ltb v 64) (word b (to + v)) past → getD a (from + v) 0 ≡ getD b (from + v) 0
+      take to from v s x past z = let y = lt-ltb v 64 s in ap (λ (n : ℕ). getD a (n + v) 0) x ∙ sym (pick-yes _ _ y) ∙ z ∙ pick-yes _ _ y ∙ ap (λ (n : ℕ). getD b (n + v) 0) (sym x)
+
+  -- fresh words agree whatever stood there
+  pub fresh-alike : (a b : List ℕ) → length a ≡ 384 → length b ≡ 384 → Alike ws (fresh ws a) (fresh ws b)
+  fresh-alike a b la lb = record {
+    long = fresh-length ws a la ends p ∙ sym (fresh-length ws b lb ends p);
+    same = by-part ws (λ i. getD (fresh ws a) i 0 ≡ getD (fresh ws b) i 0) (λ g h. edge-word ws a la ends p g h ∙ sym (edge-word ws b lb ends p g h))
+        (λ from v t h s. ⊎-elim (λ (x : from ≡ 128). take 128 from v x (low-word ws a la ends p v h ∙ sym (low-word ws b lb ends p v h)))
+        (λ x. ⊎-elim (λ (x : from ≡ 192). take 192 from v x (high-word ws a la ends p v h ∙ sym (high-word ws b lb ends p v h)))
+        (λ x. ⊎-elim (λ (x : from ≡ 256). take 256 from v x (low-lit-word ws a la ends p v h ∙ sym (low-lit-word ws b lb ends p v h)))
+        (λ (x : from ≡ 320). take 320 from v x (high-lit-word ws a la ends p v h ∙ sym (high-lit-word ws b lb ends p v h))) x) x) t);
+  }
+    where
+      take : (to from v : ℕ) → from ≡ to → getD (fresh ws a) (to + v) 0 ≡ getD (fresh ws b) (to + v) 0 → getD (fresh ws a) (from + v) 0 ≡ getD (fresh ws b) (from + v) 0
+      take to from v x z = ap (λ (n : ℕ). getD (fresh ws a) (n + v) 0) x ∙ z ∙ ap (λ (n : ℕ). getD (fresh ws b) (n + v) 0) (sym x)
+
   module _ (a b : List ℕ) (q : Alike ws a b) where
-    bound-alike : (from past v : ℕ) → 128 ≤ from → (from - 128) % 64 ≡ 0 → v < verticesOf ws → boundAt from past a v ≡ boundAt from past b v
+    bound-alike : (from past v : ℕ) → (128 ≤ from) × (from ≤ 320) → (from - 128) % 64 ≡ 0 → v < verticesOf ws → boundAt from past a v ≡ boundAt from past b v
     unfolding boundAt
-    bound-alike from past v f g h = ap (λ (w : ℕ). pick (ltb v 64) w past) (q .same (from + v) (inr (omega arith, omega (arith, p .fine .vertices))))
+    bound-alike from past v f g h = ap (λ (w : ℕ). pick (ltb v 64) w past) (q .same (from + v) (inr (omega (arith, f), omega (arith, f, p .fine .vertices), omega (arith, f, p .fine .vertices))))
 
     pub alike-same : notedDiffers ws a b ≡ false
     unfolding notedDiffers edgeDiffers vertexDiffers edgeStateOf
     alike-same = or-both
         (some-all (edgeDiffers a b) (edgesOf ws) (λ g h. ap not (eq-eqb _ _ (ap (λ (w : ℕ). pick (ltb g 128) w 0) (q .same g (inl h))))))
-        (some-all (vertexDiffers a b) (verticesOf ws) (λ v h. or-both (ap not (eq-eqb _ _ (bound-alike 128 0 v (omega arith) refl h)))
-        (or-both (ap not (eq-eqb _ _ (bound-alike 192 0 v (omega arith) refl h)))
-        (or-both (ap not (eq-eqb _ _ (bound-alike 256 65535 v (omega arith) refl h))) (ap not (eq-eqb _ _ (bound-alike 320 65535 v (omega arith) refl h)))))))
+        (some-all (vertexDiffers a b) (verticesOf ws) (λ v h. or-both (ap not (eq-eqb _ _ (bound-alike 128 0 v (omega arith, omega arith) refl h)))
+        (or-both (ap not (eq-eqb _ _ (bound-alike 192 0 v (omega arith, omega arith) refl h)))
+        (or-both (ap not (eq-eqb _ _ (bound-alike 256 65535 v (omega arith, omega arith) refl h))) (ap not (eq-eqb _ _ (bound-alike 320 65535 v (omega arith, omega arith) refl h)))))))
 
     module _ (l s : ℕ) (u : usedSlot ws s ≡ true) where
       vertex-of : s < 2048 → s / 32 < verticesOf ws
@@ -124,15 +167,15 @@ module _ (ws : List ℕ) (ends : List (List ℕ)) (p : ProperWords ws ends) wher
           pick-yes _ _ t ∙ ap₂ (λ (x y : ℕ). pick (eqb (litOf ws s) l)
           (pick (ltb x (domainOf ws (s / 32) (s % 32 + 1))) (effect 2 (s / 32) (domainOf ws (s / 32) (s % 32 + 1))) nothing)
           (pick (ltb (domainOf ws (s / 32) (s % 32)) y) (effect 3 (s / 32) (domainOf ws (s / 32) (s % 32))) nothing))
-          (bound-alike 128 0 (s / 32) (omega arith) refl h) (bound-alike 192 0 (s / 32) (omega arith) refl h) ∙ sym (pick-yes _ _ t))
+          (bound-alike 128 0 (s / 32) (omega arith, omega arith) refl h) (bound-alike 192 0 (s / 32) (omega arith, omega arith) refl h) ∙ sym (pick-yes _ _ t))
           (λ t. pick-no _ _ t ∙ sym (pick-no _ _ t))
 
       record-alike : (e : Effect) → Effective ws a l s e → undoRecord a e ≡ undoRecord b e
       unfolding undoRecord pick
       record-alike e idle = refl
       record-alike e (edge c d) = refl
-      record-alike e (low c d) = ap₂ (λ (x y : ℕ). record { kind = 2; index = s / 32; bound = x; lit = y % 65536 }) (bound-alike 128 0 (s / 32) (omega arith) refl (vertex-of c)) (bound-alike 256 65535 (s / 32) (omega arith) refl (vertex-of c))
-      record-alike e (high c d) = ap₂ (λ (x y : ℕ). record { kind = 3; index = s / 32; bound = x; lit = y % 65536 }) (bound-alike 192 0 (s / 32) (omega arith) refl (vertex-of c)) (bound-alike 320 65535 (s / 32) (omega arith) refl (vertex-of c))
+      record-alike e (low c d) = ap₂ (λ (x y : ℕ). record { kind = 2; index = s / 32; bound = x; lit = y % 65536 }) (bound-alike 128 0 (s / 32) (omega arith, omega arith) refl (vertex-of c)) (bound-alike 256 65535 (s / 32) (omega arith, omega arith) refl (vertex-of c))
+      record-alike e (high c d) = ap₂ (λ (x y : ℕ). record { kind = 3; index = s / 32; bound = x; lit = y % 65536 }) (bound-alike 192 0 (s / 32) (omega arith, omega arith) refl (vertex-of c)) (bound-alike 320 65535 (s / 32) (omega arith, omega arith) refl (vertex-of c))
 
   slot-twins : (l s : ℕ) (x y : Noting) → usedSlot ws s ≡ true → Twins ws x y → Twins ws (noteSlot ws l s x) (noteSlot ws l s y)
   unfolding noteSlot

@@ -100,7 +100,7 @@ module _ (ws noted : List ℕ) where
     unfolding fresh
     fresh-length = filled-length 256 (λ v. 65535) m4 nv ∙ l4
 
-    edge-word : (g : ℕ) → g < edgesOf ws → getD (fresh ws noted) g 0 ≡ 0
+    pub edge-word : (g : ℕ) → g < edgesOf ws → getD (fresh ws noted) g 0 ≡ 0
     unfolding fresh
     edge-word g h =
         let k : g < ne = omega (arith, ne-is) in
@@ -115,24 +115,24 @@ module _ (ws noted : List ℕ) where
       v64 : v < 64
       v64 = omega (arith, p .fine .vertices)
 
-      low-word : getD (fresh ws noted) (128 + v) 0 ≡ firstSize ws v
+      pub low-word : getD (fresh ws noted) (128 + v) 0 ≡ firstSize ws v
       unfolding fresh
       low-word =
           filled-out 256 (λ v. 65535) m4 nv (128 + v) (inl (omega (arith, v64))) ∙ filled-out 320 (λ v. 65535) m3 nv (128 + v) (inl (omega (arith, v64)))
           ∙ filled-out 192 (lastSize ws) m2 nv (128 + v) (inl (omega (arith, v64))) ∙ filled-in 128 (firstSize ws) m1 nv v k (omega (arith, nv64, l1))
 
-      high-word : getD (fresh ws noted) (192 + v) 0 ≡ lastSize ws v
+      pub high-word : getD (fresh ws noted) (192 + v) 0 ≡ lastSize ws v
       unfolding fresh
       high-word =
           filled-out 256 (λ v. 65535) m4 nv (192 + v) (inl (omega (arith, v64))) ∙ filled-out 320 (λ v. 65535) m3 nv (192 + v) (inl (omega (arith, v64)))
           ∙ filled-in 192 (lastSize ws) m2 nv v k (omega (arith, nv64, l2))
 
-      high-lit-word : getD (fresh ws noted) (320 + v) 0 ≡ 65535
+      pub high-lit-word : getD (fresh ws noted) (320 + v) 0 ≡ 65535
       unfolding fresh
       high-lit-word =
           filled-out 256 (λ v. 65535) m4 nv (320 + v) (inr (omega (arith, nv64))) ∙ filled-in 320 (λ v. 65535) m3 nv v k (omega (arith, nv64, l3))
 
-      low-lit-word : getD (fresh ws noted) (256 + v) 0 ≡ 65535
+      pub low-lit-word : getD (fresh ws noted) (256 + v) 0 ≡ 65535
       unfolding fresh
       low-lit-word = filled-in 256 (λ v. 65535) m4 nv v k (omega (arith, nv64, l4))
 
