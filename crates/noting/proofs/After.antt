@@ -86,10 +86,10 @@ module _ (ws noted : List ℕ) (l s : ℕ) (wl : l < 65536) (fw : WordsFit ws) w
       go e (low a b) = lits-fit (λ (n : ℕ). n < 65536) noted 128 (s / 32) _ l (from + v) (omega arith) (omega arith) wl q
       go e (high a b) = lits-fit (λ (n : ℕ). n < 65536) noted 192 (s / 32) _ l (from + v) (omega arith) (omega arith) wl q
 
-  pub applied-lits : LitsFit noted → (e : Effect) → Effective ws noted l s e → LitsFit (applied e l noted)
+  pub applied-lits : LitsFit ws noted → (e : Effect) → Effective ws noted l s e → LitsFit ws (applied e l noted)
   applied-lits f e t = record {
-    low = λ v h. lit-kept 256 v (omega arith) h (f .low v h) e t;
-    high = λ v h. lit-kept 320 v (omega arith) h (f .high v h) e t;
+    low = λ v q h. lit-kept 256 v (omega arith) h (f .low v q h) e t;
+    high = λ v q h. lit-kept 320 v (omega arith) h (f .high v q h) e t;
   }
 
   -- an effect decides no edge but its own
@@ -113,9 +113,9 @@ module _ (ws noted : List ℕ) (l s : ℕ) (wl : l < 65536) (fw : WordsFit ws) w
       go e (high a b) = same (pick (ltb (s / 32) 64) (set (set noted (192 + s / 32) (domainOf ws (s / 32) (s % 32))) (192 + 128 + s / 32) l) noted) (bound 192 (s / 32) (domainOf ws (s / 32) (s % 32)) (omega arith))
 
   -- the record that an effect leaves fits its word
-  pub record-fits : WordsFit noted → LitsFit noted → (e : Effect) → Effective ws noted l s e → InRange (undoRecord noted e)
+  pub record-fits : WordsFit noted → (e : Effect) → Effective ws noted l s e → InRange (undoRecord noted e)
   unfolding undoRecord pick
-  record-fits f g e idle = record { kind = omega arith; index = omega arith; bound = omega arith; lit = omega arith }
-  record-fits f g e (edge a b) = record { kind = omega arith; index = omega arith; bound = omega arith; lit = omega arith }
-  record-fits f g e (low a b) = record { kind = omega arith; index = omega arith; bound = bound-fits noted f 128 (s / 32); lit = omega arith }
-  record-fits f g e (high a b) = record { kind = omega arith; index = omega arith; bound = bound-fits noted f 192 (s / 32); lit = omega arith }
+  record-fits f e idle = record { kind = omega arith; index = omega arith; bound = omega arith; lit = omega arith }
+  record-fits f e (edge a b) = record { kind = omega arith; index = omega arith; bound = omega arith; lit = omega arith }
+  record-fits f e (low a b) = record { kind = omega arith; index = omega arith; bound = bound-fits noted f 128 (s / 32); lit = omega arith }
+  record-fits f e (high a b) = record { kind = omega arith; index = omega arith; bound = bound-fits noted f 192 (s / 32); lit = omega arith }

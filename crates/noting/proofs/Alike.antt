@@ -25,7 +25,7 @@ use Rattle.noting.specs.Words.{edgeStateOf, boundAt, lowerOf, upperOf, l
 use Rattle.noting.specs.Note.{Noting, noting, effect, nothing, sizeEffect, edgeEffect, effectOf, undoRecord, boundSet, edgeSet, applied, pushedTo, noteSlot, levelPushed, placeIn, known, noteAt, note, isOf}
 use Rattle.noting.specs.Undo.{recordsOf, restored, undone, kept, undo}
 use Rattle.noting.specs.Replay.{edgeDiffers, vertexDiffers, notedDiffers}
-use Rattle.noting.proofs.Effects.{Effective, idle, edge, low, high, effective}
+use Rattle.noting.proofs.Effects.{Effective, idle, edge, low, high, effective, slot-vertex}
 use Rattle.noting.proofs.Agrees.{applied-length}
 use Rattle.noting.proofs.Indexed.{at-of}
 use Rattle.noting.proofs.Unnoted.{fresh-length, edge-word, low-word, high-word, low-lit-word, high-lit-word}
@@ -156,14 +156,10 @@ module _ (ws : List ℕ) (ends : List (List ℕ)) (p : ProperWords ws ends) wher
         (or-both (ap not (eq-eqb _ _ (bound-alike 256 65535 v (omega arith, omega arith) refl h))) (ap not (eq-eqb _ _ (bound-alike 320 65535 v (omega arith, omega arith) refl h)))))))
 
     module _ (l s : ℕ) (u : usedSlot ws s ≡ true) where
-      vertex-of : s < 2048 → s / 32 < verticesOf ws
-      unfolding usedSlot
-      vertex-of h = ltb-true _ _ (and-left _ _ (sym (pick-yes _ _ (lt-ltb s 2048 h)) ∙ u))
-
       effect-alike : effectOf ws a l s ≡ effectOf ws b l s
       unfolding effectOf sizeEffect
       effect-alike = tested (ltb s 2048)
-          (λ t. let h = vertex-of (ltb-true s 2048 t) in
+          (λ t. let h = slot-vertex ws s u (ltb-true s 2048 t) in
           pick-yes _ _ t ∙ ap₂ (λ (x y : ℕ). pick (eqb (litOf ws s) l)
           (pick (ltb x (domainOf ws (s / 32) (s % 32 + 1))) (effect 2 (s / 32) (domainOf ws (s / 32) (s % 32 + 1))) nothing)
           (pick (ltb (domainOf ws (s / 32) (s % 32)) y) (effect 3 (s / 32) (domainOf ws (s / 32) (s % 32))) nothing))
@@ -174,8 +170,8 @@ module _ (ws : List ℕ) (ends : List (List ℕ)) (p : ProperWords ws ends) wher
       unfolding undoRecord pick
       record-alike e idle = refl
       record-alike e (edge c d) = refl
-      record-alike e (low c d) = ap₂ (λ (x y : ℕ). record { kind = 2; index = s / 32; bound = x; lit = y % 65536 }) (bound-alike 128 0 (s / 32) (omega arith, omega arith) refl (vertex-of c)) (bound-alike 256 65535 (s / 32) (omega arith, omega arith) refl (vertex-of c))
-      record-alike e (high c d) = ap₂ (λ (x y : ℕ). record { kind = 3; index = s / 32; bound = x; lit = y % 65536 }) (bound-alike 192 0 (s / 32) (omega arith, omega arith) refl (vertex-of c)) (bound-alike 320 65535 (s / 32) (omega arith, omega arith) refl (vertex-of c))
+      record-alike e (low c d) = ap₂ (λ (x y : ℕ). record { kind = 2; index = s / 32; bound = x; lit = y % 65536 }) (bound-alike 128 0 (s / 32) (omega arith, omega arith) refl (slot-vertex ws s u c)) (bound-alike 256 65535 (s / 32) (omega arith, omega arith) refl (slot-vertex ws s u c))
+      record-alike e (high c d) = ap₂ (λ (x y : ℕ). record { kind = 3; index = s / 32; bound = x; lit = y % 65536 }) (bound-alike 192 0 (s / 32) (omega arith, omega arith) refl (slot-vertex ws s u c)) (bound-alike 320 65535 (s / 32) (omega arith, omega arith) refl (slot-vertex ws s u c))
 
   slot-twins : (l s : ℕ) (x y : Noting) → usedSlot ws s ≡ true → Twins ws x y → Twins ws (noteSlot ws l s x) (noteSlot ws l s y)
   unfolding noteSlot

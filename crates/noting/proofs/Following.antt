@@ -28,10 +28,10 @@ use Rattle.noting.proofs.Agrees.{slot-words, applied-length, idle-appli
 use Rattle.noting.proofs.Prefix.{slot-was}
 
 -- words that code can hold
-pub record Good (noted : List ℕ) : Type 0 where
+pub record Good (ws noted : List ℕ) : Type 0 where
   pub len : length noted ≡ 384
   pub words : WordsFit noted
-  pub lits : LitsFit noted
+  pub lits : LitsFit ws noted
 
 -- a record that starts a notification, or none
 pub standing-next : (log : List ℕ) (n : ℕ) (r : Record) → InRange r → getD log n 0 ≡ wordOf r → standing (recordsOf log (suc n)) ≡ pick (eqb (r .kind) 0) (r .lit ∷ standing (recordsOf log n)) (standing (recordsOf log n))
@@ -41,13 +41,13 @@ standing-next log n r ok e = ap (λ (q : Record). pick (eqb (q .kind) 0) (q .lit
 module _ (ws log : List ℕ) (used l : ℕ) (wl : l < 65536) (fw : WordsFit ws) where
   -- from y to z, both agreeing with the log
   pub record Goes (noted : List ℕ) (from : ℕ) (z : Followed) : Type 0 where
-    pub good : Good (z .noted)
+    pub good : Good ws (z .noted)
     pub same : z .noted ≡ noted
     pub up : from ≤ z .place .at
     pub down : z .place .at ≤ used
     pub stands : standing (recordsOf log (z .place .at)) ≡ standing (recordsOf log from)
 
-  module _ (s : ℕ) (y : Followed) (g : Good (y .noted)) (d : y .place .at ≤ used) (o : y .place .ok ≡ true) where
+  module _ (s : ℕ) (y : Followed) (g : Good ws (y .noted)) (d : y .place .at ≤ used) (o : y .place .ok ≡ true) where
     abbrev e : Effect
     e = effectOf ws (y .noted) l s
 
@@ -58,7 +58,7 @@ module _ (ws log : List ℕ) (used l : ℕ) (wl : l < 65536) (fw : WordsFit ws) 
     unfolding undoRecord
     kind-of = refl
 
-    good-next : Good (applied e l (y .noted))
+    good-next : Good ws (applied e l (y .noted))
     good-next = record {
       len = applied-length e l (y .noted) ∙ g .len;
       words = applied-words ws (y .noted) l s wl fw (g .words) e (effective ws (y .noted) l s);
@@ -76,7 +76,7 @@ module _ (ws log : List ℕ) (used l : ℕ) (wl : l < 65536) (fw : WordsFit ws) 
           up = omega arith;
           down = omega arith;
           stands = ap (λ (n : ℕ). standing (recordsOf log n)) (add-one (y .place .at))
-              ∙ standing-next log (y .place .at) r (record-fits ws (y .noted) l s wl fw (g .words) (g .lits) e (effective ws (y .noted) l s)) q
+              ∙ standing-next log (y .place .at) r (record-fits ws (y .noted) l s wl fw (g .words) e (effective ws (y .noted) l s)) q
               ∙ pick-no _ _ (ne-eqb (r .kind) 0 (λ (z : r .kind ≡ 0). k (sym kind-of ∙ z)));
         }
 
@@ -90,7 +90,7 @@ module _ (ws log : List ℕ) (used l : ℕ) (wl : l < 65536) (fw : WordsFit ws) 
         (λ h _. went (eqb-false _ _ t) h) (λ _ q. absurd (false≢true q))))
         (λ n. absurd (true≢false (sym o ∙ n)))
 
-  pub loop-goes : (at : ℕ → ℕ) (n : ℕ) (y : Followed) (x : Noting) → x .noted ≡ y .noted → Good (y .noted) → y .place .at ≤ used →
+  pub loop-goes : (at : ℕ → ℕ) (n : ℕ) (y : Followed) (x : Noting) → x .noted ≡ y .noted → Good ws (y .noted) → y .place .at ≤ used →
       iter (λ i z. followSlot ws log used l (at i) z) n y .place .ok ≡ true → Goes (iter (λ i z. noteSlot ws l (at i) z) n x .noted) (y .place .at) (iter (λ i z. followSlot ws log used l (at i) z) n y)
   unfolding iter
   loop-goes at zero y x e g d o = record { good = g; same = sym e; up = omega arith; down = d; stands = refl }

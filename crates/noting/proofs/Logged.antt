@@ -16,12 +16,11 @@ use Rattle.undo_log.specs.declared.Record.{Record}
 use Rattle.undo_log.specs.Log.{wordOf}
 use Rattle.plan.specs.Words.{variablesOf, variableAt, startAt, occurrenceAt}
 use Rattle.plan.specs.Proper.{ProperWords}
-use Rattle.noting.specs.Words.{boundAt, fresh}
+use Rattle.noting.specs.Words.{fresh}
 use Rattle.noting.specs.Note.{Noting, noting, boundary, placeIn, known}
 use Rattle.noting.specs.Undo.{recordsOf}
 use Rattle.noting.specs.Standing.{standing, hasVariable}
 use Rattle.noting.specs.Replay.{Followed, followed, place, followAt}
-use Rattle.noting.proofs.Effects.{LitsFit}
 use Rattle.noting.proofs.After.{WordsFit}
 use Rattle.noting.proofs.Unnoted.{fresh-length, fresh-fits, fresh-lits}
 use Rattle.noting.proofs.Prefix.{Covers, loop-on, loop-other}
@@ -79,13 +78,6 @@ zeros-fit n i = ⊎-elim
     (λ (h : n ≤ i). let e : getD (replicate n 0) i 0 ≡ 0 = List·getD-eq-default (replicate n 0) 0 (subst (λ (k : ℕ). k ≤ i) (sym (zeros-length n)) h) in subst (λ (k : ℕ). k < 4294967296) (sym e) (omega arith))
     (λ (h : i < n). let e : getD (replicate n 0) i 0 ≡ 0 = getD-replicate n i 0 0 h in subst (λ (k : ℕ). k < 4294967296) (sym e) (omega arith)) (le-or-lt n i)
 
-zeros-lits : LitsFit (replicate 384 0)
-unfolding boundAt
-zeros-lits = record {
-  low = λ v h. pick-ind (λ (n : ℕ). n < 65536) (ltb v 64) _ _ (λ _. let e : getD (replicate 384 0) (256 + v) 0 ≡ 0 = getD-replicate 384 (256 + v) 0 0 (omega arith) in subst (λ (k : ℕ). k < 65536) (sym e) (omega arith)) (λ _. omega arith);
-  high = λ v h. pick-ind (λ (n : ℕ). n < 65536) (ltb v 64) _ _ (λ _. let e : getD (replicate 384 0) (320 + v) 0 ≡ 0 = getD-replicate 384 (320 + v) 0 0 (omega arith) in subst (λ (k : ℕ). k < 65536) (sym e) (omega arith)) (λ _. omega arith);
-}
-
 module _ (ws : List ℕ) (ends : List (List ℕ)) (p : ProperWords ws ends) where
   -- a known variable has its place among the distinct ones
   pub known-place : (x : ℕ) → known ws x ≡ true → (placeIn ws x < variablesOf ws) × (variableAt ws (placeIn ws x) ≡ x)
@@ -100,15 +92,15 @@ module _ (ws : List ℕ) (ends : List (List ℕ)) (p : ProperWords ws ends) wher
       omega arith
 
   module _ (fw : WordsFit ws) where
-    pub zeros-good : Good (fresh ws (replicate 384 0))
+    pub zeros-good : Good ws (fresh ws (replicate 384 0))
     zeros-good = record {
       len = fresh-length ws (replicate 384 0) (zeros-length 384) ends p;
       words = fresh-fits ws (replicate 384 0) fw (zeros-fit 384);
-      lits = fresh-lits ws (replicate 384 0) (zeros-length 384) ends p zeros-lits;
+      lits = fresh-lits ws (replicate 384 0) (zeros-length 384) ends p;
     }
 
     -- the noted words are words that code can hold, and the literals are those that stand
-    pub logged-good : (log : List ℕ) {ls : List ℕ} {at : ℕ} {noted : List ℕ} → Logged ws log ls at noted → Good noted × (standing (recordsOf log at) ≡ ls)
+    pub logged-good : (log : List ℕ) {ls : List ℕ} {at : ℕ} {noted : List ℕ} → Logged ws log ls at noted → Good ws noted × (standing (recordsOf log at) ≡ ls)
     unfolding followAt recordsOf standing pick
     logged-good log Logged.none = (zeros-good, refl)
     logged-good log (Logged.one {ls = ls} {at = at} {noted = noted} {l = l} {to = to} {after = after} x k h b f) =
@@ -118,7 +110,7 @@ module _ (ws : List ℕ) (ends : List (List ℕ)) (p : ProperWords ws ends) wher
         let y = followed noted (place true (at + 1)) in
         let q = placeIn ws (l / 2) in
         let t = loop-goes ws log to l (omega arith) fw (λ i. occurrenceAt ws (startAt ws q + i)) (startAt ws (q + 1) - startAt ws q) y (noting noted [] (record { used = 0; standing = 0 })) refl g a (ap (λ (z : Followed). z .place .ok) f) in (
-          subst Good (ap (λ (z : Followed). z .noted) f) (t .good),
+          subst (Good ws) (ap (λ (z : Followed). z .noted) f) (t .good),
           ap (λ (n : ℕ). standing (recordsOf log n)) (sym (ap (λ (z : Followed). z .place .at) f)) ∙ t .stands ∙ ap (λ (n : ℕ). standing (recordsOf log n)) (add-one at)
               ∙ standing-next log at (boundary l) (record { kind = omega arith; index = omega arith; bound = omega arith; lit = omega arith }) b
               ∙ ap (λ (m : List ℕ). l ∷ m) e,

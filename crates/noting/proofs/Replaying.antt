@@ -104,7 +104,7 @@ module _ (ws : List ℕ) (ends : List (List ℕ)) (p : ProperWords ws ends) (fw 
 
   -- after a part of the log that agrees
   record Stand (i : ℕ) (x : Replayed) : Type 0 where
-    good : Good (x .follow .noted)
+    good : Good ws (x .follow .noted)
     logged : Logged ws log (ls (x .follow .place .at)) (x .follow .place .at) (x .follow .noted)
     state : SameState (planOf ws ends) (stateOf (x .follow .noted)) (noteAll (planOf ws ends) (ls (x .follow .place .at)))
     down : x .follow .place .at ≤ used

@@ -17,6 +17,7 @@ use Rattle.undo_log.specs.declared.Record.{Record}
 use Rattle.undo_log.specs.declared.Cursor.{Cursor}
 use Rattle.undo_log.specs.Log.{recordOf, wordOf, pushWords, movedTo}
 use Rattle.undo_log.proofs.Words.{InRange, word-back}
+use Rattle.plan.specs.Check.{usedSlot}
 use Rattle.noting.specs.declared.note.Effect.{Effect}
 use Rattle.noting.specs.Words.{edgeStateOf}
 use Rattle.noting.specs.Note.{Noting, noting, effectOf, undoRecord, applied, pushedTo, noteSlot, boundary, oneMore, levelPushed}
@@ -52,11 +53,11 @@ module _ (log : List ℕ) (c : Cursor) (r : Record) (room : c .used < length log
       (records-same (set log (c .used) (wordOf r)) log (c .used) (λ i h. getD-set-other log (c .used) i (wordOf r) 0 (λ (e : i ≡ c .used). omega arith)))
 
 -- slots at 0, at 1, up to at (n - 1), rising, are noted for literal l; the noted words were x, and n records are left to write
-module _ (ws : List ℕ) (l : ℕ) (at : ℕ → ℕ) (n : ℕ) (wl : l < 65536) (fw : WordsFit ws) (rising : (i j : ℕ) → i < j → j < n → at i < at j) (noted : List ℕ) (used standing : ℕ) where
+module _ (ws : List ℕ) (l : ℕ) (at : ℕ → ℕ) (n : ℕ) (wl : l < 65536) (fw : WordsFit ws) (rising : (i j : ℕ) → i < j → j < n → at i < at j) (inUse : (i : ℕ) → i < n → usedSlot ws (at i) ≡ true) (noted : List ℕ) (used standing : ℕ) where
   -- after i slots
   pub record At (i : ℕ) (y : Noting) : Type 0 where
     pub words : WordsFit (y .noted)
-    pub lits : LitsFit (y .noted)
+    pub lits : LitsFit ws (y .noted)
     pub room : y .cursor .used + (n - i) ≤ length (y .log)
     pub undecided : (j : ℕ) → i ≤ j → j < n → 2048 ≤ at j → at j < 2176 → edgeStateOf (y .noted) (at j - 2048) ≡ 0
     pub same : undone (recordsOf (y .log) (y .cursor .used)) (y .noted) ≡ noted
@@ -92,7 +93,7 @@ module _ (ws : List ℕ) (l : ℕ) (at : ℕ → ℕ) (n : ℕ) (wl : l < 65536)
     }
 
     back : restored r (applied e l (y .noted)) ≡ y .noted
-    back = restore-applied ws (y .noted) l (at i) (p .lits) (λ a b. p .undecided i (omega arith) h a b) e t
+    back = restore-applied ws (y .noted) l (at i) (p .lits) (inUse i h) (λ a b. p .undecided i (omega arith) h a b) e t
 
     abbrev z : Noting
     z = noting (applied e l (y .noted)) (pushWords (y .log) (y .cursor) r) (pushedTo (y .log) (y .cursor))
@@ -102,7 +103,7 @@ module _ (ws : List ℕ) (l : ℕ) (at : ℕ → ℕ) (n : ℕ) (wl : l < 65536)
 
     records-next : recordsOf (z .log) (z .cursor .used) ≡ r ∷ recordsOf (y .log) (y .cursor .used)
     records-next =
-        ap (recordsOf (z .log)) used-next ∙ records-push (y .log) (y .cursor) r free (record-fits ws (y .noted) l (at i) wl fw (p .words) (p .lits) e t)
+        ap (recordsOf (z .log)) used-next ∙ records-push (y .log) (y .cursor) r free (record-fits ws (y .noted) l (at i) wl fw (p .words) e t)
 
     next : (e .kind ≡ 0 → ⊥) → At (suc i) z
     unfolding undone kept

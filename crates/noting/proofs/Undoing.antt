@@ -15,6 +15,7 @@ use Rattle.undo_log.specs.declared.Cursor.{Cursor}
 use Rattle.undo_log.specs.Log.{pushWords, movedTo}
 use Rattle.undo_log.proofs.Words.{InRange}
 use Rattle.plan.specs.Words.{variablesOf, variableAt, startAt, occurrenceAt}
+use Rattle.plan.specs.Check.{usedSlot}
 use Rattle.plan.specs.Proper.{ProperWords}
 use Rattle.noting.specs.Words.{edgeStateOf}
 use Rattle.noting.specs.Note.{Noting, noting, pushedTo, noteSlot, boundary, oneMore, levelPushed, placeIn, known, noteAt, note, isOf}
@@ -35,7 +36,7 @@ pub record Ready (ws : List ℕ) (l : ℕ) (x : Noting) : Type 0 where
   pub lit : l < 65536
   pub plan : WordsFit ws
   pub words : WordsFit (x .noted)
-  pub lits : LitsFit (x .noted)
+  pub lits : LitsFit ws (x .noted)
   pub room : x .cursor .used + 1 + occurrences ws (l / 2) ≤ length (x .log)
   pub counted : x .cursor .standing ≤ x .cursor .used
   pub undecided : (s : ℕ) → isOf ws (l / 2) s ≡ true → 2048 ≤ s → edgeStateOf (x .noted) (s - 2048) ≡ 0
@@ -70,7 +71,11 @@ module _ (ws : List ℕ) (l : ℕ) (x : Noting) (r : Ready ws l x) where
   level-noted = refl
 
   module _ (at : ℕ → ℕ) (n : ℕ) (rising : (i j : ℕ) → i < j → j < n → at i < at j) (own : (i : ℕ) → i < n → isOf ws (l / 2) (at i) ≡ true) (h : x .cursor .used + 1 + n ≤ length (x .log)) where
-    start : At ws l at n (r .lit) (r .plan) rising (x .noted) (x .cursor .used) (x .cursor .standing + 1) 0 y
+    in-use : (i : ℕ) → i < n → usedSlot ws (at i) ≡ true
+    unfolding isOf
+    in-use i b = and-left _ _ (own i b)
+
+    start : At ws l at n (r .lit) (r .plan) rising in-use (x .noted) (x .cursor .used) (x .cursor .standing + 1) 0 y
     unfolding undone kept pick levelPushed
     start = record {
       words = r .words;
@@ -85,7 +90,7 @@ module _ (ws : List ℕ) (l : ℕ) (x : Noting) (r : Ready ws l x) where
     gives-back : undo (iter (λ i z. noteSlot ws l (at i) z) n y) ≡ noting (x .noted) (iter (λ i z. noteSlot ws l (at i) z) n y .log) (x .cursor)
     unfolding undo
     gives-back =
-        let e = all ws l at n (r .lit) (r .plan) rising (x .noted) (x .cursor .used) (x .cursor .standing + 1) y start in
+        let e = all ws l at n (r .lit) (r .plan) rising in-use (x .noted) (x .cursor .used) (x .cursor .standing + 1) y start in
         let z = iter (λ i z. noteSlot ws l (at i) z) n y in
         let s : z .cursor .standing - 1 ≡ x .cursor .standing = omega (arith, e .stands) in
         ap (λ (m : List ℕ). noting m (z .log) (cursorAt (kept (recordsOf (z .log) (z .cursor .used))) (z .cursor .standing - 1))) (e .same)

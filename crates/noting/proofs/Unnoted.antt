@@ -150,28 +150,12 @@ module _ (ws noted : List ℕ) where
       upperLit = λ v h. ap litsOf (bound-is v h 320 65535 ∙ high-lit-word v h);
     }
 
-    -- the literals' words past the plan's vertices stay
-    lit-out : (v : ℕ) → nv ≤ v → v < 64 → (getD (fresh ws noted) (256 + v) 0 ≡ getD noted (256 + v) 0) × (getD (fresh ws noted) (320 + v) 0 ≡ getD noted (320 + v) 0)
-    unfolding fresh
-    lit-out v a b = (
-      filled-out 256 (λ v. 65535) m4 nv (256 + v) (inr (omega arith)) ∙ filled-out 320 (λ v. 65535) m3 nv (256 + v) (inl (omega arith))
-          ∙ filled-out 192 (lastSize ws) m2 nv (256 + v) (inr (omega (arith, nv64))) ∙ filled-out 128 (firstSize ws) m1 nv (256 + v) (inr (omega (arith, nv64))) ∙ filled-out 0 (λ g. 0) noted ne (256 + v) (inr (omega (arith, ne128))),
-      filled-out 256 (λ v. 65535) m4 nv (320 + v) (inr (omega (arith, nv64))) ∙ filled-out 320 (λ v. 65535) m3 nv (320 + v) (inr (omega arith))
-          ∙ filled-out 192 (lastSize ws) m2 nv (320 + v) (inr (omega (arith, nv64))) ∙ filled-out 128 (firstSize ws) m1 nv (320 + v) (inr (omega (arith, nv64))) ∙ filled-out 0 (λ g. 0) noted ne (320 + v) (inr (omega (arith, ne128))),
-    )
-
     at-64 : (from v : ℕ) (m : List ℕ) → v < 64 → boundAt from 65535 m v ≡ getD m (from + v) 0
     unfolding boundAt
     at-64 from v m h = pick-yes _ _ (lt-ltb v 64 h)
 
-    pub fresh-lits : LitsFit noted → LitsFit (fresh ws noted)
-    fresh-lits f = record {
-      low = λ v h. ⊎-elim
-          (λ (a : nv ≤ v). omega (arith, at-64 256 v (fresh ws noted) h, lit-out v a h .0, at-64 256 v noted h, f .low v h))
-          (λ (a : v < nv). omega (arith, at-64 256 v (fresh ws noted) h, low-lit-word v (omega (arith, nv-is))))
-          (le-or-lt nv v);
-      high = λ v h. ⊎-elim
-          (λ (a : nv ≤ v). omega (arith, at-64 320 v (fresh ws noted) h, lit-out v a h .1, at-64 320 v noted h, f .high v h))
-          (λ (a : v < nv). omega (arith, at-64 320 v (fresh ws noted) h, high-lit-word v (omega (arith, nv-is))))
-          (le-or-lt nv v);
+    pub fresh-lits : LitsFit ws (fresh ws noted)
+    fresh-lits = record {
+      low = λ v a h. omega (arith, at-64 256 v (fresh ws noted) h, low-lit-word v a);
+      high = λ v a h. omega (arith, at-64 320 v (fresh ws noted) h, high-lit-word v a);
     }
