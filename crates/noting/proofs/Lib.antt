@@ -24,3 +24,4 @@ pub mod Replaying
 pub mod Room
 pub mod Passing
 pub mod Alike
+pub mod Readying

@@ -42,7 +42,7 @@ module _ (ws : List ℕ) (ends : List (List ℕ)) (p : ProperWords ws ends) (fw 
     unfolding usedSlot
     edge-used = pick-no _ _ (le-ltb (2048 + g) 2048 (omega arith)) ∙ ap (λ (n : ℕ). ltb n (edgesOf ws)) back ∙ lt-ltb g (edgesOf ws) hg
 
-    edge-lit : litOf ws (2048 + g) ≡ edgeLitOf ws g
+    pub edge-lit : litOf ws (2048 + g) ≡ edgeLitOf ws g
     unfolding entry
     edge-lit =
         let e : 2184 + (2048 + g) ≡ 4232 + g = omega arith in
