@@ -25,3 +25,4 @@ pub mod Room
 pub mod Passing
 pub mod Alike
 pub mod Readying
+pub mod Keeping
