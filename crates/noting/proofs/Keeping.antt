@@ -109,7 +109,7 @@ module _ (ws : List ℕ) (ends : List (List ℕ)) (p : ProperWords ws ends) (fw 
     pub same : z .log ≡ log
     pub fits : z .cursor .used ≤ length log
 
-  shrunk : (log : List ℕ) {l : ℕ} {ls : List ℕ} {to : ℕ} {after : List ℕ} → logShort ws (length log) ≡ false → to ≤ length log → Logged ws log (l ∷ ls) to after → Shrunk log ls (undo (noting after log (cursorAt to (length ls + 1))))
+  pub shrunk : (log : List ℕ) {l : ℕ} {ls : List ℕ} {to : ℕ} {after : List ℕ} → logShort ws (length log) ≡ false → to ≤ length log → Logged ws log (l ∷ ls) to after → Shrunk log ls (undo (noting after log (cursorAt to (length ls + 1))))
   shrunk log long fits (Logged.one {ls = ls} {at = at} {noted = noted} {l = l} {to = to} {after = after} x k h b f) =
       let (a, _) = one-on ws log l at to noted after f in
       let o = note-over log l at to (length ls) noted after k (logged-length ws log x) fits b f in

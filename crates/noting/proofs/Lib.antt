@@ -26,3 +26,4 @@ pub mod Passing
 pub mod Alike
 pub mod Readying
 pub mod Keeping
+pub mod Preserved
