@@ -1,36 +1,35 @@
 -- Noted words that agree on the plan's edges and vertices: noting and undoing keep them so, with the same log and cursor.
 use mathlib.Core.Path.{_≡_, refl, sym, ap, ap₂, subst, _∙_}
 use mathlib.Core.Logic.{_⊎_, inl, inr, ⊎-elim}
-use mathlib.Core.Bool.{Bool, true, false, not, _&&_, _||_}
+use mathlib.Core.Bool.{Bool, true, false, not}
 use mathlib.Core.List.{List, [], _∷_}
-use Prim.Native.Nat.{ℕ, zero, suc, _+_, _-_, _*_, _/_, _%_, _≤_, _<_}
+use Prim.Native.Nat.{ℕ, zero, suc, _+_, _-_, _/_, _%_, _≤_, _<_}
 use native.Mathlib.Omega.{arith}
 use lib.Dec.{eqb, ltb}
 use lib.ListN.{length, getD, set, length-set}
 use lib.Seq.{getD-set-same, getD-set-other, set-out}
-use borrow.Author.Tests.{lt-ltb, ltb-true, eq-eqb, eqb-true}
+use borrow.Author.Tests.{lt-ltb, ltb-true, eq-eqb}
 use Rattle.base.specs.Iter.{iter, pick}
 use Rattle.base.specs.Lists.{some}
-use Rattle.base.proofs.Loop.{pick-ind, pick-yes, pick-no, eq-or-not, tested}
-use Rattle.base.proofs.Tests.{le-or-lt, and-left, and-right, or-none, or-both}
+use Rattle.base.proofs.Loop.{pick-yes, pick-no, eq-or-not, tested}
+use Rattle.base.proofs.Tests.{le-or-lt, and-left, or-none, or-both}
 use Rattle.base.proofs.Some.{some-none, some-all}
 use Rattle.undo_log.specs.declared.Record.{Record}
 use Rattle.undo_log.specs.declared.Cursor.{Cursor}
 use Rattle.undo_log.specs.Log.{pushWords}
-use Rattle.plan.specs.Words.{word, verticesOf, edgesOf, domainOf, domainLenOf, litOf, startAt, occurrenceAt, variablesOf, variableAt}
+use Rattle.plan.specs.Words.{word, verticesOf, edgesOf, domainOf, litOf, startAt, occurrenceAt}
 use Rattle.plan.specs.Check.{usedSlot}
 use Rattle.plan.specs.Proper.{ProperWords}
 use Rattle.noting.specs.declared.note.Effect.{Effect}
-use Rattle.noting.specs.Words.{edgeStateOf, boundAt, lowerOf, upperOf, lowerLitOf, upperLitOf, fresh}
-use Rattle.noting.specs.Note.{Noting, noting, effect, nothing, sizeEffect, edgeEffect, effectOf, undoRecord, boundSet, edgeSet, applied, pushedTo, noteSlot, levelPushed, placeIn, known, noteAt, note, isOf}
+use Rattle.noting.specs.Words.{edgeStateOf, boundAt, fresh}
+use Rattle.noting.specs.Note.{Noting, noting, effect, nothing, sizeEffect, effectOf, undoRecord, boundSet, edgeSet, applied, pushedTo, noteSlot, levelPushed, placeIn, known, noteAt, note, isOf}
 use Rattle.noting.specs.Undo.{recordsOf, restored, undone, kept, undo}
 use Rattle.noting.specs.Replay.{edgeDiffers, vertexDiffers, notedDiffers}
 use Rattle.noting.proofs.Effects.{Effective, idle, edge, low, high, effective, slot-vertex}
-use Rattle.noting.proofs.Agrees.{applied-length}
 use Rattle.noting.proofs.Indexed.{at-of}
 use Rattle.noting.proofs.Unnoted.{fresh-length, edge-word, low-word, high-word, low-lit-word, high-lit-word}
 use Rattle.noting.proofs.Logged.{known-place}
-use Rattle.noting.proofs.Replaying.{same-edge, same-vertex}
+use Rattle.noting.proofs.Differs.{same-edge, same-vertex}
 
 -- the places of the plan's edges, and of its vertices' bounds and their literals
 abbrev pub Held : List ℕ → ℕ → Type 0

@@ -1,24 +1,24 @@
 -- Noting and following: noting over a log that holds the records already leaves it as it is, and a log to which noting
 -- has added its records is followed to its end.
 use mathlib.Core.Path.{_≡_, refl, sym, ap, ap₂, subst, _∙_}
-use mathlib.Core.Bool.{Bool, true, false, _&&_, true≢false, false≢true}
+use mathlib.Core.Bool.{true, _&&_, true≢false, false≢true}
 use mathlib.Core.List.{List}
-use Prim.Native.Nat.{ℕ, zero, suc, _+_, _-_, _/_, _≤_, _<_}
+use Prim.Native.Nat.{ℕ, zero, suc, _+_, _-_, _≤_, _<_}
 use native.Mathlib.Omega.{arith}
 use lib.Dec.{eqb, ltb}
 use lib.ListN.{length, getD, set}
 use lib.Seq.{getD-set-same, getD-set-other, set-getD}
 use borrow.Author.Tests.{lt-ltb, ltb-true, eq-eqb, eqb-true}
-use Rattle.base.specs.Iter.{iter, pick}
+use Rattle.base.specs.Iter.{iter}
 use Rattle.base.proofs.Loop.{pick-ind, pick-yes, pick-no}
 use Rattle.base.proofs.Tests.{and-left, and-right, and-next}
 use Rattle.undo_log.specs.declared.Record.{Record}
 use Rattle.undo_log.specs.declared.Cursor.{Cursor}
-use Rattle.undo_log.specs.Log.{wordOf, pushWords, movedTo}
+use Rattle.undo_log.specs.Log.{wordOf, pushWords}
 use Rattle.noting.specs.declared.note.Effect.{Effect}
 use Rattle.noting.specs.Note.{Noting, noting, effectOf, undoRecord, applied, pushedTo, noteSlot}
 use Rattle.noting.specs.Replay.{Followed, followed, place, holdsAt, followSlot}
-use Rattle.noting.proofs.Pushing.{push-length, slot-length}
+use Rattle.noting.proofs.Pushing.{push-length}
 use Rattle.noting.proofs.UndoNote.{push-set, push-moves}
 use Rattle.noting.proofs.Prefix.{slot-was, Covers, loop-other}
 

@@ -1,23 +1,21 @@
 -- Following the log for one literal: where it agrees, the words are those of noting the literal, and the records passed
 -- start no notification.
-use mathlib.Core.Path.{_≡_, refl, sym, ap, ap₂, subst, _∙_}
-use mathlib.Core.Logic.{_⊎_, inl, inr, ⊎-elim}
-use mathlib.Core.Bool.{Bool, true, false, _&&_, true≢false, false≢true}
-use mathlib.Core.List.{List, [], _∷_}
-use Prim.Native.Nat.{ℕ, zero, suc, _+_, _-_, _*_, _/_, _≤_, _<_}
+use mathlib.Core.Path.{_≡_, refl, sym, ap, _∙_}
+use mathlib.Core.Bool.{true, true≢false, false≢true}
+use mathlib.Core.List.{List, _∷_}
+use Prim.Native.Nat.{ℕ, zero, suc, _+_, _-_, _≤_, _<_}
 use native.Mathlib.Omega.{arith}
 use native.Mathlib.Numerals.{add-one}
 use lib.Dec.{eqb, ltb}
 use lib.ListN.{length, getD}
-use borrow.Author.Tests.{lt-ltb, ltb-true, eqb-true, eqb-false, ne-eqb, eq-eqb}
+use borrow.Author.Tests.{ltb-true, eqb-true, eqb-false, ne-eqb}
 use Rattle.base.specs.Iter.{iter, pick}
-use Rattle.base.proofs.Loop.{pick-ind, pick-yes, pick-no, iter-ind}
+use Rattle.base.proofs.Loop.{pick-ind, pick-no}
 use Rattle.base.proofs.Tests.{and-left, and-right}
 use Rattle.undo_log.specs.declared.Record.{Record}
 use Rattle.undo_log.specs.Log.{recordOf, wordOf}
 use Rattle.undo_log.proofs.Words.{InRange, word-back}
 use Rattle.noting.specs.declared.note.Effect.{Effect}
-use Rattle.noting.specs.declared.replay.Place.{Place}
 use Rattle.noting.specs.Note.{Noting, effectOf, undoRecord, applied, noteSlot}
 use Rattle.noting.specs.Undo.{recordsOf}
 use Rattle.noting.specs.Standing.{standing}

@@ -1,36 +1,31 @@
 -- Building, noting and undoing give what passes refusal 7, and what stands changes by the one literal.
-use mathlib.Core.Path.{_≡_, refl, sym, ap, ap₂, subst, _∙_}
-use mathlib.Core.Bool.{Bool, true, false, true≢false, false≢true}
-use mathlib.Core.List.{List, [], _∷_}
-use Prim.Native.Nat.{ℕ, zero, suc, _+_, _-_, _*_, _/_, _≤_, _<_}
+use mathlib.Core.Path.{_≡_, refl, sym, ap, subst, _∙_}
+use mathlib.Core.Bool.{true, false}
+use mathlib.Core.List.{List, _∷_}
+use Prim.Native.Nat.{ℕ, _+_, _-_, _/_, _≤_, _<_}
 use native.Mathlib.Omega.{arith}
-use lib.Dec.{eqb, ltb}
-use lib.ListN.{length, getD, set}
+use lib.ListN.{length, getD}
 use lib.Seq.{getD-set-same, getD-set-other}
 use borrow.Author.Tests.{lt-ltb}
-use Rattle.base.specs.Iter.{iter, pick}
-use Rattle.base.proofs.Loop.{pick-yes, tested}
-use Rattle.undo_log.specs.declared.Record.{Record}
+use Rattle.base.proofs.Loop.{pick-yes}
 use Rattle.undo_log.specs.declared.Cursor.{Cursor}
 use Rattle.undo_log.specs.Log.{wordOf, pushWords}
 use Rattle.plan.specs.Words.{startAt, occurrenceAt}
 use Rattle.plan.specs.Proper.{ProperWords}
 use Rattle.noting.specs.Words.{fresh}
 use Rattle.noting.specs.Note.{Noting, noting, boundary, oneMore, levelPushed, placeIn, known, noteAt, note}
-use Rattle.noting.specs.Undo.{recordsOf, undo}
+use Rattle.noting.specs.Undo.{undo}
 use Rattle.noting.specs.Standing.{standing, hasVariable}
-use Rattle.noting.specs.Replay.{Followed, followed, place, followAt, notedDiffers, afresh, logBad}
+use Rattle.noting.specs.Replay.{Followed, followed, place, followAt, logBad}
 use Rattle.noting.specs.Buffers.{logShort}
 use Rattle.noting.proofs.After.{WordsFit}
 use Rattle.noting.proofs.Pushing.{push-length}
-use Rattle.noting.proofs.UndoNote.{records-same, push-set, push-moves}
+use Rattle.noting.proofs.UndoNote.{push-set, push-moves}
 use Rattle.noting.proofs.Undoing.{occurrences, undo-note}
 use Rattle.noting.proofs.Logged.{Logged, one-on, logged-other, logged-length, logged-good, zeros-length}
 use Rattle.noting.proofs.Appending.{cursorAt, push-held, loop-over, loop-adds}
-use Rattle.noting.proofs.Replaying.{parts, counts, log-fits, passed-logged}
-use Rattle.noting.proofs.Room.{logged-room, room}
 use Rattle.noting.proofs.Passing.{logged-passes}
-use Rattle.noting.proofs.Alike.{Alike, alike-trans, Twins, undo-twins, same-alike, fresh-alike, alike-same, note-twins}
+use Rattle.noting.proofs.Alike.{Alike, fresh-alike, alike-same}
 use Rattle.noting.proofs.Readying.{ready}
 
 -- a notification's first record, with room

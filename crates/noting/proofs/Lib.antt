@@ -20,6 +20,8 @@ pub mod Prefix
 pub mod Following
 pub mod Logged
 pub mod Appending
+pub mod Differs
+pub mod Distinct
 pub mod Replaying
 pub mod Room
 pub mod Passing

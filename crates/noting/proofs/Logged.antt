@@ -1,30 +1,28 @@
 -- The logs that noting gives: notifications of known literals one after another, no two of one variable.
-use mathlib.Core.Path.{_≡_, refl, sym, ap, ap₂, subst, _∙_}
+use mathlib.Core.Path.{_≡_, refl, sym, ap, subst, _∙_}
 use mathlib.Core.Logic.{⊎-elim}
-use mathlib.Core.Bool.{Bool, true, false}
+use mathlib.Core.Bool.{true, false}
 use mathlib.Core.List.{List, [], _∷_}
-use Prim.Native.Nat.{ℕ, zero, suc, _+_, _-_, _*_, _/_, _≤_, _<_}
+use Prim.Native.Nat.{ℕ, _+_, _-_, _/_, _≤_, _<_}
 use native.Mathlib.Omega.{arith}
 use native.Mathlib.Numerals.{add-one}
-use lib.Dec.{eqb, ltb}
+use lib.Dec.{ltb}
 use lib.ListN.{length, getD, replicate, length-replicate, getD-replicate, List·getD-eq-default}
 use borrow.Author.Tests.{ltb-true, eqb-true}
-use Rattle.base.specs.Iter.{iter, pick}
-use Rattle.base.proofs.Loop.{pick-ind, pick-yes}
+use Rattle.base.specs.Iter.{pick}
 use Rattle.base.proofs.Tests.{and-left, and-right, le-or-lt}
-use Rattle.undo_log.specs.declared.Record.{Record}
 use Rattle.undo_log.specs.Log.{wordOf}
 use Rattle.plan.specs.Words.{variablesOf, variableAt, startAt, occurrenceAt}
 use Rattle.plan.specs.Proper.{ProperWords}
 use Rattle.noting.specs.Words.{fresh}
-use Rattle.noting.specs.Note.{Noting, noting, boundary, placeIn, known}
+use Rattle.noting.specs.Note.{noting, boundary, placeIn, known}
 use Rattle.noting.specs.Undo.{recordsOf}
 use Rattle.noting.specs.Standing.{standing, hasVariable}
 use Rattle.noting.specs.Replay.{Followed, followed, place, followAt}
 use Rattle.noting.proofs.After.{WordsFit}
 use Rattle.noting.proofs.Unnoted.{fresh-length, fresh-fits, fresh-lits}
 use Rattle.noting.proofs.Prefix.{Covers, loop-on, loop-other}
-use Rattle.noting.proofs.Following.{Good, standing-next, Goes, loop-goes}
+use Rattle.noting.proofs.Following.{Good, standing-next, loop-goes}
 
 -- Noting the literals afresh, the newest first in the list, gives the log's first words, as many as the number says, and
 -- the noted words.

@@ -1,31 +1,30 @@
 -- Every log that noting gives passes the last part of refusal 7.
-use mathlib.Core.Path.{_≡_, refl, sym, ap, ap₂, subst, _∙_}
-use mathlib.Core.Bool.{Bool, true, false, not, _&&_, _||_}
+use mathlib.Core.Path.{_≡_, refl, sym, ap, _∙_}
+use mathlib.Core.Bool.{true, false, not}
 use mathlib.Core.List.{List, [], _∷_}
-use Prim.Native.Nat.{ℕ, zero, suc, _+_, _-_, _*_, _/_, _≤_, _<_}
+use Prim.Native.Nat.{ℕ, zero, suc, _+_, _-_, _/_, _≤_, _<_}
 use native.Mathlib.Omega.{arith}
 use lib.Dec.{eqb, ltb}
-use lib.ListN.{length, getD, set, replicate, length-set, getD-replicate}
+use lib.ListN.{length, getD, replicate, length-set, getD-replicate}
 use lib.Seq.{getD-set-other}
 use borrow.Author.Tests.{lt-ltb, le-ltb, eq-eqb, eqb-false}
-use Rattle.base.specs.Iter.{iter, pick}
-use Rattle.base.proofs.Loop.{pick-ind, pick-yes}
+use Rattle.base.specs.Iter.{iter}
+use Rattle.base.proofs.Loop.{pick-ind}
 use Rattle.base.proofs.Tests.{and-next, or-none, or-both}
 use Rattle.undo_log.specs.declared.Record.{Record}
 use Rattle.undo_log.specs.declared.Cursor.{Cursor}
 use Rattle.undo_log.specs.Log.{recordOf, wordOf}
 use Rattle.undo_log.proofs.Words.{word-back}
-use Rattle.plan.specs.Words.{variablesOf, variableAt}
+use Rattle.plan.specs.Words.{variableAt}
 use Rattle.plan.specs.Proper.{ProperWords}
 use Rattle.noting.specs.Words.{fresh}
 use Rattle.noting.specs.Note.{boundary, placeIn, known}
-use Rattle.noting.specs.Undo.{recordsOf}
 use Rattle.noting.specs.Standing.{standing, hasVariable}
-use Rattle.noting.specs.Replay.{Replayed, replayed, place, marked, setMark, litAt, opens, replayLevel, replay, notedDiffers, afresh, logBad}
+use Rattle.noting.specs.Replay.{Replayed, replayed, place, marked, setMark, litAt, replayLevel, replay, notedDiffers, afresh, logBad}
 use Rattle.noting.proofs.After.{WordsFit}
 use Rattle.noting.proofs.Follow.{opens-known, level-past, level-yes}
 use Rattle.noting.proofs.Logged.{Logged, one-on, one-other, logged-length, logged-good, known-place, known-small, zeros-length}
-use Rattle.noting.proofs.Replaying.{AllKnown}
+use Rattle.noting.proofs.Distinct.{AllKnown}
 use Rattle.noting.proofs.Room.{logged-known}
 
 -- the marks that replaying the literals leaves

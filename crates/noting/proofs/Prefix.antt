@@ -1,20 +1,18 @@
 -- Following reads the log only up to where it gets: another log with the same words there is followed alike.
-use mathlib.Core.Path.{_≡_, refl, sym, ap, ap₂, subst, _∙_}
-use mathlib.Core.Bool.{Bool, true, false, _&&_, true≢false, false≢true}
+use mathlib.Core.Path.{_≡_, refl, sym, ap, _∙_}
+use mathlib.Core.Bool.{true, false≢true}
 use mathlib.Core.List.{List}
 use Prim.Native.Nat.{ℕ, zero, suc, _+_, _-_, _≤_, _<_}
 use native.Mathlib.Omega.{arith}
 use lib.Dec.{eqb, ltb}
 use lib.ListN.{getD}
 use borrow.Author.Tests.{lt-ltb, eq-eqb, eqb-true}
-use Rattle.base.specs.Iter.{iter, pick}
+use Rattle.base.specs.Iter.{iter}
 use Rattle.base.proofs.Loop.{pick-ind, pick-yes, pick-no, tested}
 use Rattle.base.proofs.Tests.{and-right, and-next}
 use Rattle.undo_log.specs.declared.Record.{Record}
-use Rattle.undo_log.specs.Log.{wordOf}
-use Rattle.noting.specs.declared.note.Effect.{Effect}
 use Rattle.noting.specs.Note.{effectOf, undoRecord}
-use Rattle.noting.specs.Replay.{Followed, followed, place, holdsAt, followSlot}
+use Rattle.noting.specs.Replay.{Followed, place, holdsAt, followSlot}
 
 module _ (ws log : List ℕ) (used l : ℕ) where
   -- what does not agree stays so

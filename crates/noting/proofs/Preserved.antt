@@ -1,32 +1,29 @@
 -- Refusal 7 stays away: what passes its last part passes it again after a literal is noted or the newest undone, and what
 -- stands is then one literal more or less. For a caller that has tested refusals 7, 9, 10 and 11.
-use mathlib.Core.Path.{_≡_, refl, sym, ap, ap₂, subst, _∙_}
-use mathlib.Core.Bool.{Bool, true, false, not, true≢false}
+use mathlib.Core.Path.{_≡_, refl, sym, ap, subst, _∙_}
+use mathlib.Core.Bool.{true, false, true≢false}
 use mathlib.Core.List.{List, [], _∷_}
-use Prim.Native.Nat.{ℕ, zero, suc, _+_, _-_, _*_, _/_, _≤_, _<_}
+use Prim.Native.Nat.{ℕ, _+_, _-_, _/_, _≤_, _<_}
 use native.Mathlib.Omega.{arith}
-use lib.Dec.{eqb, ltb}
 use lib.ListN.{length, getD}
 use borrow.Author.Tests.{eqb-true}
 use Rattle.base.proofs.Loop.{tested}
 use Rattle.base.proofs.Tests.{not-false}
-use Rattle.undo_log.specs.declared.Record.{Record}
 use Rattle.undo_log.specs.declared.Cursor.{Cursor}
 use Rattle.plan.specs.Proper.{ProperWords}
 use Rattle.noting.specs.Note.{Noting, noting, known, note}
 use Rattle.noting.specs.Undo.{recordsOf, undo}
 use Rattle.noting.specs.Standing.{standing, hasVariable, newest, notNewest}
-use Rattle.noting.specs.Replay.{notedDiffers, afresh, logBad}
+use Rattle.noting.specs.Replay.{afresh, logBad}
 use Rattle.noting.specs.Buffers.{logShort}
 use Rattle.noting.proofs.After.{WordsFit}
 use Rattle.noting.proofs.UndoNote.{records-same}
-use Rattle.noting.proofs.Following.{Good}
 use Rattle.noting.proofs.Logged.{Logged, known-small, logged-other, logged-length, logged-good}
 use Rattle.noting.proofs.Appending.{cursorAt}
 use Rattle.noting.proofs.Replaying.{parts, counts, log-fits, passed-logged}
 use Rattle.noting.proofs.Room.{room}
 use Rattle.noting.proofs.Passing.{logged-passes}
-use Rattle.noting.proofs.Alike.{Alike, alike-trans, Twins, undo-twins, same-alike, alike-same, note-twins}
+use Rattle.noting.proofs.Alike.{Alike, Twins, undo-twins, same-alike, alike-same, note-twins}
 use Rattle.noting.proofs.Keeping.{Grown, grown, Shrunk, shrunk}
 
 -- what lies past the records in the log does not change what stands

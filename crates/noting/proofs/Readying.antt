@@ -1,16 +1,14 @@
 -- What a call has tested before it notes a literal is what noting wants: refusals 7, 9 and 10.
-use mathlib.Core.Path.{_≡_, refl, sym, ap, ap₂, subst, _∙_}
-use mathlib.Core.Logic.{_⊎_, inl, inr, ⊎-elim}
-use mathlib.Core.Bool.{Bool, true, false}
-use mathlib.Core.List.{List, [], _∷_}
-use Prim.Native.Nat.{ℕ, zero, suc, _+_, _-_, _*_, _/_, _≤_, _<_}
+use mathlib.Core.Path.{_≡_, refl, sym, ap, subst, _∙_}
+use mathlib.Core.Logic.{_⊎_, ⊎-elim}
+use mathlib.Core.Bool.{true, false}
+use mathlib.Core.List.{List}
+use Prim.Native.Nat.{ℕ, _+_, _-_, _/_, _≤_, _<_}
 use native.Mathlib.Omega.{arith}
-use lib.Dec.{eqb, ltb}
 use lib.ListN.{length, getD}
-use borrow.Author.Tests.{lt-ltb, le-ltb, ltb-true, eqb-true}
-use Rattle.base.specs.Iter.{pick}
+use borrow.Author.Tests.{le-ltb, ltb-true, eqb-true}
 use Rattle.base.specs.Lists.{some}
-use Rattle.base.proofs.Loop.{pick-yes, pick-no, eq-or-not}
+use Rattle.base.proofs.Loop.{pick-no, eq-or-not}
 use Rattle.base.proofs.Tests.{and-left, and-right, or-none}
 use Rattle.base.proofs.Some.{some-none}
 use Rattle.sat.specs.Literal.{negate}
@@ -19,11 +17,10 @@ use Rattle.plan.specs.Words.{verticesOf, edgesOf, edgeLitOf, litOf}
 use Rattle.plan.specs.Plan.{planOf}
 use Rattle.plan.specs.Check.{usedSlot}
 use Rattle.plan.specs.Proper.{ProperWords}
-use Rattle.division.specs.State.{State}
 use Rattle.division.specs.Noting.{noteAll, In}
 use Rattle.division.proofs.Noted.{Noted}
-use Rattle.noting.specs.Words.{edgeStateOf, lowerLitOf, upperLitOf, stateOf}
-use Rattle.noting.specs.Note.{Noting, noting, known, isOf}
+use Rattle.noting.specs.Words.{edgeStateOf}
+use Rattle.noting.specs.Note.{noting, known, isOf}
 use Rattle.noting.specs.Undo.{recordsOf}
 use Rattle.noting.specs.Standing.{standing, hasVariable}
 use Rattle.noting.specs.Replay.{edgeDiffers, vertexDiffers, notedDiffers, afresh, logBad}
@@ -34,7 +31,9 @@ use Rattle.noting.proofs.Vertex.{negate-other}
 use Rattle.noting.proofs.Noted.{edge-lit}
 use Rattle.noting.proofs.Undoing.{Ready}
 use Rattle.noting.proofs.Logged.{known-small, logged-good, logged-length}
-use Rattle.noting.proofs.Replaying.{member-variable, state-word, same-vertex, parts, counts, passed-logged, state-stands, standing-noted}
+use Rattle.noting.proofs.Differs.{state-word, same-vertex}
+use Rattle.noting.proofs.Distinct.{member-variable}
+use Rattle.noting.proofs.Replaying.{parts, counts, passed-logged, state-stands, standing-noted}
 use Rattle.noting.proofs.Room.{room}
 
 module _ (ws : List ℕ) (ends : List (List ℕ)) (p : ProperWords ws ends) (fw : WordsFit ws) (noted log : List ℕ) (c : Cursor) (e : logBad ws noted log c ≡ false) where

@@ -2,43 +2,40 @@
 -- literals are what they give.
 use mathlib.Core.Path.{_≡_, refl, sym, ap, ap₂, subst, _∙_}
 use mathlib.Core.Logic.{_⊎_, inl, inr, ⊎-elim}
-use mathlib.Core.Bool.{Bool, true, false, not, _&&_, _||_, true≢false, false≢true}
-use mathlib.Core.List.{List, [], _∷_, List·Memᴰ, List·Memᴰ·cases-cons, List·Memᴰ·not-nil}
-use Prim.Native.Nat.{ℕ, zero, suc, _+_, _-_, _*_, _/_, _%_, _≤_, _<_}
+use mathlib.Core.Bool.{Bool, true, false, not, _&&_, _||_, false≢true}
+use mathlib.Core.List.{List, [], _∷_}
+use Prim.Native.Nat.{ℕ, suc, _+_, _-_, _/_, _≤_, _<_}
 use native.Mathlib.Omega.{arith}
 use native.Mathlib.Numerals.{add-one}
 use lib.Dec.{eqb, ltb}
 use lib.ListN.{length, getD, set, replicate, length-set}
 use lib.Seq.{getD-set-same, getD-set-other}
-use borrow.Author.Tests.{lt-ltb, ltb-true, ltb-false, eqb-true, eqb-false, ne-eqb, eq-eqb, not-true}
+use borrow.Author.Tests.{lt-ltb, ltb-true, ltb-false, eqb-true, ne-eqb, eq-eqb, not-true}
 use Rattle.base.specs.Iter.{iter, pick}
 use Rattle.base.specs.Lists.{some}
-use Rattle.base.proofs.Loop.{pick-ind, pick-yes, pick-no, tested, iter-ind, eq-or-not}
+use Rattle.base.proofs.Loop.{pick-ind, pick-yes, iter-ind}
 use Rattle.base.proofs.Tests.{and-left, and-right, or-none, not-false}
 use Rattle.base.proofs.Some.{some-none}
-use Rattle.sat.specs.Literal.{negate}
-use Rattle.undo_log.specs.declared.Record.{Record}
 use Rattle.undo_log.specs.declared.Cursor.{Cursor}
-use Rattle.undo_log.specs.Log.{recordOf, wordOf}
-use Rattle.undo_log.proofs.Words.{record-in-range}
+use Rattle.undo_log.specs.Log.{wordOf}
 use Rattle.plan.specs.Words.{verticesOf, edgesOf, variablesOf, variableAt, startAt, occurrenceAt}
 use Rattle.plan.specs.Plan.{planOf}
 use Rattle.plan.specs.Proper.{ProperWords}
 use Rattle.division.specs.Plan.{Plan}
 use Rattle.division.specs.State.{State}
-use Rattle.division.specs.Noting.{noteOne, noteAll, unnoted, In, Consistent}
+use Rattle.division.specs.Noting.{noteOne, noteAll, In}
 use Rattle.division.proofs.Agree.{SameState}
 use Rattle.division.proofs.Alike.{note-same}
 use Rattle.division.proofs.Noted.{Noted}
 use Rattle.division.proofs.Noting.{noted-all}
-use Rattle.noting.specs.declared.replay.Place.{Place}
-use Rattle.noting.specs.Words.{edgeStateOf, boundAt, lowerOf, upperOf, lowerLitOf, upperLitOf, litsOf, stateOf, fresh}
+use Rattle.noting.specs.Words.{litsOf, stateOf, fresh}
 use Rattle.noting.specs.Note.{Noting, noting, boundary, levelPushed, placeIn, known, noteAt, note}
 use Rattle.noting.specs.Undo.{recordsOf}
 use Rattle.noting.specs.Standing.{standing, hasVariable}
 use Rattle.noting.specs.Replay.{Followed, followed, place, Replayed, replayed, marked, setMark, litAt, opens, followAt, replayLevel, replay, edgeDiffers, vertexDiffers, notedDiffers, afresh, logBad}
 use Rattle.noting.proofs.After.{WordsFit}
-use Rattle.noting.proofs.Vertex.{negate-other}
+use Rattle.noting.proofs.Differs.{state-word, same-edge, same-vertex}
+use Rattle.noting.proofs.Distinct.{Distinct, none, one, AllKnown, never-both}
 use Rattle.noting.proofs.Indexed.{one-place}
 use Rattle.noting.proofs.Noted.{note-agrees}
 use Rattle.noting.proofs.Unnoted.{fresh-agrees}
@@ -53,50 +50,6 @@ same-trans d s t u a b = record {
   lowerLit = λ v h. a .lowerLit v h ∙ b .lowerLit v h;
   upperLit = λ v h. a .upperLit v h ∙ b .upperLit v h;
 }
-
-pub state-word : (m : List ℕ) (g : ℕ) → g < 128 → getD m g 0 ≡ edgeStateOf m g
-unfolding edgeStateOf
-state-word m g h = sym (pick-yes _ _ (lt-ltb g 128 h))
-
-pub same-edge : (a b : List ℕ) (g : ℕ) → edgeDiffers a b g ≡ false → edgeStateOf a g ≡ edgeStateOf b g
-unfolding edgeDiffers
-same-edge a b g e = eqb-true (edgeStateOf a g) (edgeStateOf b g) (not-false _ e)
-
-pub same-vertex : (a b : List ℕ) (v : ℕ) → vertexDiffers a b v ≡ false → (lowerOf a v ≡ lowerOf b v) × (upperOf a v ≡ upperOf b v) × (lowerLitOf a v ≡ lowerLitOf b v) × (upperLitOf a v ≡ upperLitOf b v)
-unfolding vertexDiffers
-same-vertex a b v e =
-    let (c, e₁) = or-none (not (eqb (lowerOf a v) (lowerOf b v))) _ e in
-    let (d, e₂) = or-none (not (eqb (upperOf a v) (upperOf b v))) _ e₁ in
-    let (f, g) = or-none (not (eqb (lowerLitOf a v) (lowerLitOf b v))) _ e₂ in
-    (eqb-true _ _ (not-false _ c), eqb-true _ _ (not-false _ d), eqb-true _ _ (not-false _ f), eqb-true _ _ (not-false _ g))
-
--- no two literals of one variable
-pub data Distinct : List ℕ → Type 0 where
-  none : Distinct []
-  one : {l : ℕ} {ls : List ℕ} → hasVariable (l / 2) ls ≡ false → Distinct ls → Distinct (l ∷ ls)
-
--- and each is the plan's
-pub data AllKnown (ws : List ℕ) : List ℕ → Type 0 where
-  none : AllKnown ws []
-  one : {l : ℕ} {ls : List ℕ} → known ws (l / 2) ≡ true → AllKnown ws ls → AllKnown ws (l ∷ ls)
-
-pub member-variable : (x a : ℕ) (ls : List ℕ) → In ls a → a / 2 ≡ x → hasVariable x ls ≡ false → ⊥
-unfolding hasVariable
-member-variable x a [] m e h = absurd (List·Memᴰ·not-nil m)
-member-variable x a (l ∷ ls) m e h =
-    let (p, q) = or-none (eqb (l / 2) x) _ h in
-    ⊎-elim (λ (z : a ≡ l). eqb-false (l / 2) x p (ap (λ (n : ℕ). n / 2) (sym z) ∙ e)) (λ z. member-variable x a ls z e q) (List·Memᴰ·cases-cons m)
-
-distinct-same : (ls : List ℕ) → Distinct ls → (a b : ℕ) → In ls a → In ls b → a / 2 ≡ b / 2 → a ≡ b
-distinct-same [] d a b m n e = absurd (List·Memᴰ·not-nil m)
-distinct-same (l ∷ ls) (one h d) a b m n e = ⊎-elim
-    (λ (p : a ≡ l). ⊎-elim (λ (q : b ≡ l). p ∙ sym q) (λ q. absurd (member-variable (l / 2) b ls q (sym e ∙ ap (λ (k : ℕ). k / 2) p) h)) (List·Memᴰ·cases-cons n))
-    (λ p. ⊎-elim (λ (q : b ≡ l). absurd (member-variable (l / 2) a ls p (e ∙ ap (λ (k : ℕ). k / 2) q) h)) (λ q. distinct-same ls d a b p q e) (List·Memᴰ·cases-cons n))
-    (List·Memᴰ·cases-cons m)
-
--- never both signs
-pub never-both : (ls : List ℕ) → Distinct ls → Consistent ls
-never-both ls d l m n = let (a, b) = negate-other l (negate l) refl in a (distinct-same ls d l (negate l) m n b)
 
 module _ (ws : List ℕ) (ends : List (List ℕ)) (p : ProperWords ws ends) (fw : WordsFit ws) (log : List ℕ) (used : ℕ) where
   abbrev ls : ℕ → List ℕ

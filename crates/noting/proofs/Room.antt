@@ -1,6 +1,6 @@
 -- There is always room: the records of literals of different variables fit a log of 2 × (edges + size literals) words.
 use mathlib.Core.Path.{_≡_, refl, sym, ap, ap₂, subst, _∙_}
-use mathlib.Core.Logic.{_⊎_, inl, inr, ⊎-elim}
+use mathlib.Core.Logic.{_⊎_, ⊎-elim}
 use mathlib.Core.Bool.{Bool, true, false}
 use mathlib.Core.List.{List, [], _∷_}
 use Prim.Native.Nat.{ℕ, zero, suc, _+_, _-_, _*_, _/_, _≤_, _<_}
@@ -23,7 +23,8 @@ use Rattle.noting.specs.Buffers.{logShort}
 use Rattle.noting.proofs.After.{WordsFit}
 use Rattle.noting.proofs.Undoing.{occurrences}
 use Rattle.noting.proofs.Logged.{Logged, one-on, known-place}
-use Rattle.noting.proofs.Replaying.{Distinct, AllKnown, passed-logged}
+use Rattle.noting.proofs.Distinct.{Distinct, AllKnown}
+use Rattle.noting.proofs.Replaying.{passed-logged}
 
 -- the occurrences of all the literals' variables, and of those whose place is below n
 unfoldable whole : List ℕ → List ℕ → ℕ

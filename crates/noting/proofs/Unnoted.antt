@@ -1,25 +1,23 @@
 -- Nothing noted: the fresh words stand for the abstract state with nothing noted.
-use mathlib.Core.Path.{_≡_, refl, sym, ap, ap₂, subst, _∙_}
-use mathlib.Core.Logic.{_⊎_, inl, inr, ⊎-elim}
-use mathlib.Core.Bool.{Bool, true, false}
-use mathlib.Core.List.{List, [], _∷_}
-use Prim.Native.Nat.{ℕ, zero, suc, pred, _+_, _-_, _*_, _/_, _≤_, _<_}
+use mathlib.Core.Path.{_≡_, refl, sym, ap, _∙_}
+use mathlib.Core.Logic.{inl, inr}
+use mathlib.Core.List.{List}
+use Prim.Native.Nat.{ℕ, zero, suc, pred, _+_, _-_, _≤_, _<_}
 use native.Mathlib.Omega.{arith}
-use lib.Dec.{eqb, ltb}
-use lib.ListN.{length, getD, set}
-use borrow.Author.Tests.{lt-ltb, ltb-true, ltb-false}
-use Rattle.base.specs.Iter.{iter, pick}
+use lib.Dec.{ltb}
+use lib.ListN.{length, getD}
+use borrow.Author.Tests.{lt-ltb, ltb-false}
+use Rattle.base.specs.Iter.{pick}
 use Rattle.base.specs.Lists.{filled}
-use Rattle.base.proofs.Loop.{pick-ind, pick-yes, pick-no, iter-ind}
+use Rattle.base.proofs.Loop.{pick-ind, pick-yes, iter-ind}
 use Rattle.base.proofs.Lists.{tab-at}
-use Rattle.base.proofs.Tests.{le-or-lt}
 use Rattle.base.proofs.Filled.{filled-length, filled-in, filled-out}
-use Rattle.plan.specs.Words.{word, cell, verticesOf, edgesOf, domainLenOf, domainOf}
+use Rattle.plan.specs.Words.{verticesOf, edgesOf, domainLenOf, domainOf}
 use Rattle.plan.specs.Plan.{planOf}
 use Rattle.plan.specs.Proper.{ProperWords}
 use Rattle.division.specs.Noting.{unnoted}
 use Rattle.division.proofs.Agree.{SameState}
-use Rattle.noting.specs.Words.{edgeStateOf, boundAt, lowerOf, upperOf, lowerLitOf, upperLitOf, litsOf, stateOf, capped, firstSize, lastSize, fresh}
+use Rattle.noting.specs.Words.{boundAt, litsOf, stateOf, capped, firstSize, lastSize, fresh}
 use Rattle.noting.proofs.Effects.{LitsFit}
 use Rattle.noting.proofs.After.{WordsFit, set-holds, domain-fits}
 
