@@ -18,7 +18,6 @@ use Rattle.noting.specs.Undo.{undo}
 use Rattle.noting.specs.Standing.{standing, hasVariable}
 use Rattle.noting.specs.Replay.{Followed, followed, place, followAt, logBad}
 use Rattle.noting.specs.Buffers.{logShort}
-use Rattle.noting.proofs.After.{WordsFit}
 use Rattle.noting.proofs.Pushing.{push-length}
 use Rattle.noting.proofs.UndoNote.{push-set, push-moves}
 use Rattle.noting.proofs.Undoing.{occurrences, undo-note}
@@ -35,13 +34,13 @@ level-is l noted log c h n =
     ap (λ (d : Cursor). noting noted (pushWords log c (boundary l)) (oneMore log d)) (push-moves log c (boundary l) h)
     ∙ ap (λ (m : ℕ). noting noted (pushWords log c (boundary l)) (cursorAt (c .used + 1) m)) (pick-yes (c .standing + 1) (c .standing) (lt-ltb (c .standing) (length log) (omega arith)))
 
-module _ (ws : List ℕ) (ends : List (List ℕ)) (p : ProperWords ws ends) (fw : WordsFit ws) where
+module _ (ws : List ℕ) (ends : List (List ℕ)) (p : ProperWords ws ends) where
   alike-refl : (a : List ℕ) → Alike ws a a
   alike-refl a = record { long = refl; same = λ i h. refl }
 
   -- (what is built) the fresh words, an empty log and a cursor of zeros pass
   pub fresh-passes : (noted log : List ℕ) → length noted ≡ 384 → logBad ws (fresh ws noted) log (cursorAt 0 0) ≡ false
-  fresh-passes noted log len = logged-passes ws ends p fw log (fresh ws noted) (cursorAt 0 0) Logged.none (omega arith) refl (alike-same ws ends p _ _ (fresh-alike ws ends p _ noted (zeros-length 384) len))
+  fresh-passes noted log len = logged-passes ws ends p log (fresh ws noted) (cursorAt 0 0) Logged.none (omega arith) refl (alike-same ws ends p _ _ (fresh-alike ws ends p _ noted (zeros-length 384) len))
 
   -- a literal is noted after others
   module _ (log : List ℕ) (c : Cursor) {ls noted : List ℕ} (x : Logged ws log ls (c .used) noted) (count : c .standing ≤ c .used) (l : ℕ) (k : known ws (l / 2) ≡ true) (n : hasVariable (l / 2) ls ≡ false) (free : c .used + 1 + occurrences ws (l / 2) ≤ length log) where
@@ -108,9 +107,9 @@ module _ (ws : List ℕ) (ends : List (List ℕ)) (p : ProperWords ws ends) (fw 
   shrunk log long fits (Logged.one {ls = ls} {at = at} {noted = noted} {l = l} {to = to} {after = after} x k h b f) =
       let (a, _) = one-on ws log l at to noted after f in
       let o = note-over log l at to (length ls) noted after k (logged-length ws log x) fits b f in
-      let (g, s) = logged-good ws ends p fw log x in
-      let e = logged-passes ws ends p fw log noted (cursorAt at (length ls)) x (omega arith) refl (alike-same ws ends p noted noted (alike-refl noted)) in
-      let r = ready ws ends p fw noted log (cursorAt at (length ls)) e (g .words) long l k (ap (hasVariable (l / 2)) s ∙ h) in
+      let s = logged-good ws ends p log x .1 in
+      let e = logged-passes ws ends p log noted (cursorAt at (length ls)) x (omega arith) refl (alike-same ws ends p noted noted (alike-refl noted)) in
+      let r = ready ws ends p noted log (cursorAt at (length ls)) e long l k (ap (hasVariable (l / 2)) s ∙ h) in
       let u : undo (noting after log (cursorAt to (length ls + 1))) ≡ noting noted log (cursorAt at (length ls)) =
       ap undo (sym o) ∙ undo-note ws l (noting noted log (cursorAt at (length ls))) r ends p ∙ ap (λ (z : Noting). noting noted (z .log) (cursorAt at (length ls))) o in
       subst (Shrunk log ls) (sym u) (record { logged = x; stands = refl; same = refl; fits = omega arith })

@@ -1,26 +1,27 @@
 -- The logs that noting gives: notifications of known literals one after another, no two of one variable.
 use mathlib.Core.Path.{_≡_, refl, sym, ap, subst, _∙_}
-use mathlib.Core.Logic.{⊎-elim}
 use mathlib.Core.Bool.{true, false}
 use mathlib.Core.List.{List, [], _∷_}
 use Prim.Native.Nat.{ℕ, _+_, _-_, _/_, _≤_, _<_}
 use native.Mathlib.Omega.{arith}
 use native.Mathlib.Numerals.{add-one}
 use lib.Dec.{ltb}
-use lib.ListN.{length, getD, replicate, length-replicate, getD-replicate, List·getD-eq-default}
+use lib.ListN.{length, getD, replicate, length-replicate}
 use borrow.Author.Tests.{ltb-true, eqb-true}
 use Rattle.base.specs.Iter.{pick}
-use Rattle.base.proofs.Tests.{and-left, and-right, le-or-lt}
+use Rattle.base.proofs.Tests.{and-left, and-right}
 use Rattle.undo_log.specs.Log.{wordOf}
 use Rattle.plan.specs.Words.{variablesOf, variableAt, startAt, occurrenceAt}
+use Rattle.plan.specs.Check.{usedSlot}
 use Rattle.plan.specs.Proper.{ProperWords}
 use Rattle.noting.specs.Words.{fresh}
-use Rattle.noting.specs.Note.{noting, boundary, placeIn, known}
+use Rattle.noting.specs.Note.{noting, boundary, placeIn, known, isOf}
 use Rattle.noting.specs.Undo.{recordsOf}
 use Rattle.noting.specs.Standing.{standing, hasVariable}
 use Rattle.noting.specs.Replay.{Followed, followed, place, followAt}
-use Rattle.noting.proofs.After.{WordsFit}
-use Rattle.noting.proofs.Unnoted.{fresh-length, fresh-fits, fresh-lits}
+use Rattle.noting.proofs.After.{sizes-fit}
+use Rattle.noting.proofs.Unnoted.{fresh-length, fresh-bounds}
+use Rattle.noting.proofs.Indexed.{at-of}
 use Rattle.noting.proofs.Prefix.{Covers, loop-on, loop-other}
 use Rattle.noting.proofs.Following.{Good, standing-next, loop-goes}
 
@@ -71,11 +72,6 @@ logged-length ws log (Logged.one {at = at} {noted = noted} {l = l} {to = to} {af
 pub zeros-length : (n : ℕ) → length (replicate {A = ℕ} n 0) ≡ n
 zeros-length n = length-replicate n 0
 
-zeros-fit : (n : ℕ) → WordsFit (replicate n 0)
-zeros-fit n i = ⊎-elim
-    (λ (h : n ≤ i). let e : getD (replicate n 0) i 0 ≡ 0 = List·getD-eq-default (replicate n 0) 0 (subst (λ (k : ℕ). k ≤ i) (sym (zeros-length n)) h) in subst (λ (k : ℕ). k < 4294967296) (sym e) (omega arith))
-    (λ (h : i < n). let e : getD (replicate n 0) i 0 ≡ 0 = getD-replicate n i 0 0 h in subst (λ (k : ℕ). k < 4294967296) (sym e) (omega arith)) (le-or-lt n i)
-
 module _ (ws : List ℕ) (ends : List (List ℕ)) (p : ProperWords ws ends) where
   -- a known variable has its place among the distinct ones
   pub known-place : (x : ℕ) → known ws x ≡ true → (placeIn ws x < variablesOf ws) × (variableAt ws (placeIn ws x) ≡ x)
@@ -89,27 +85,30 @@ module _ (ws : List ℕ) (ends : List (List ℕ)) (p : ProperWords ws ends) wher
       let v = p .listed (placeIn ws (l / 2)) a .range in
       omega arith
 
-  module _ (fw : WordsFit ws) where
-    pub zeros-good : Good ws (fresh ws (replicate 384 0))
-    zeros-good = record {
-      len = fresh-length ws (replicate 384 0) (zeros-length 384) ends p;
-      words = fresh-fits ws (replicate 384 0) fw (zeros-fit 384);
-      lits = fresh-lits ws (replicate 384 0) (zeros-length 384) ends p;
-    }
+  -- the occurrences are slots in use
+  pub occurrences-used : (k : ℕ) → k < variablesOf ws → (i : ℕ) → i < startAt ws (k + 1) - startAt ws k → usedSlot ws (occurrenceAt ws (startAt ws k + i)) ≡ true
+  unfolding isOf
+  occurrences-used k h i b = and-left _ _ (at-of ws ends p k h i b)
 
-    -- the noted words are words that code can hold, and the literals are those that stand
-    pub logged-good : (log : List ℕ) {ls : List ℕ} {at : ℕ} {noted : List ℕ} → Logged ws log ls at noted → Good ws noted × (standing (recordsOf log at) ≡ ls)
-    unfolding followAt recordsOf standing pick
-    logged-good log Logged.none = (zeros-good, refl)
-    logged-good log (Logged.one {ls = ls} {at = at} {noted = noted} {l = l} {to = to} {after = after} x k h b f) =
-        let small = known-small l k in
-        let (g, e) = logged-good log x in
-        let (a, _) = one-on ws log l at to noted after f in
-        let y = followed noted (place true (at + 1)) in
-        let q = placeIn ws (l / 2) in
-        let t = loop-goes ws log to l (omega arith) fw (λ i. occurrenceAt ws (startAt ws q + i)) (startAt ws (q + 1) - startAt ws q) y (noting noted [] (record { used = 0; standing = 0 })) refl g a (ap (λ (z : Followed). z .place .ok) f) in (
-          subst (Good ws) (ap (λ (z : Followed). z .noted) f) (t .good),
-          ap (λ (n : ℕ). standing (recordsOf log n)) (sym (ap (λ (z : Followed). z .place .at) f)) ∙ t .stands ∙ ap (λ (n : ℕ). standing (recordsOf log n)) (add-one at)
-              ∙ standing-next log at (boundary l) (record { kind = omega arith; index = omega arith; bound = omega arith; lit = omega arith }) b
-              ∙ ap (λ (m : List ℕ). l ∷ m) e,
-        )
+  pub zeros-good : Good ws (fresh ws (replicate 384 0))
+  zeros-good = record {
+    len = fresh-length ws (replicate 384 0) (zeros-length 384) ends p;
+    bounds = fresh-bounds ws (replicate 384 0) (zeros-length 384) ends p;
+  }
+
+  -- the noted words are words that code can hold, and the literals are those that stand
+  pub logged-good : (log : List ℕ) {ls : List ℕ} {at : ℕ} {noted : List ℕ} → Logged ws log ls at noted → Good ws noted × (standing (recordsOf log at) ≡ ls)
+  unfolding followAt recordsOf standing pick
+  logged-good log Logged.none = (zeros-good, refl)
+  logged-good log (Logged.one {ls = ls} {at = at} {noted = noted} {l = l} {to = to} {after = after} x k h b f) =
+      let small = known-small l k in
+      let (g, e) = logged-good log x in
+      let (a, _) = one-on ws log l at to noted after f in
+      let y = followed noted (place true (at + 1)) in
+      let q = placeIn ws (l / 2) in
+      let t = loop-goes ws log to l (omega arith) (sizes-fit ws ends p) (λ i. occurrenceAt ws (startAt ws q + i)) (startAt ws (q + 1) - startAt ws q) (occurrences-used q (known-place (l / 2) k .0)) y (noting noted [] (record { used = 0; standing = 0 })) refl g a (ap (λ (z : Followed). z .place .ok) f) in (
+        subst (Good ws) (ap (λ (z : Followed). z .noted) f) (t .good),
+        ap (λ (n : ℕ). standing (recordsOf log n)) (sym (ap (λ (z : Followed). z .place .at) f)) ∙ t .stands ∙ ap (λ (n : ℕ). standing (recordsOf log n)) (add-one at)
+            ∙ standing-next log at (boundary l) (record { kind = omega arith; index = omega arith; bound = omega arith; lit = omega arith }) b
+            ∙ ap (λ (m : List ℕ). l ∷ m) e,
+      )

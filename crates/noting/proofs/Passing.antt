@@ -21,7 +21,6 @@ use Rattle.noting.specs.Words.{fresh}
 use Rattle.noting.specs.Note.{boundary, placeIn, known}
 use Rattle.noting.specs.Standing.{standing, hasVariable}
 use Rattle.noting.specs.Replay.{Replayed, replayed, place, marked, setMark, litAt, replayLevel, replay, notedDiffers, afresh, logBad}
-use Rattle.noting.proofs.After.{WordsFit}
 use Rattle.noting.proofs.Follow.{opens-known, level-past, level-yes}
 use Rattle.noting.proofs.Logged.{Logged, one-on, one-other, logged-length, logged-good, known-place, known-small, zeros-length}
 use Rattle.noting.proofs.Distinct.{AllKnown}
@@ -68,7 +67,7 @@ module _ (ws : List ℕ) (ends : List (List ℕ)) (p : ProperWords ws ends) wher
     unfolding marked
     unmarked ls a h = ap not (sym (and-next _ _ (lt-ltb (placeIn ws x) 2176 within) (sym (eq-eqb _ _ (mark-none ls a h)))))
 
-  module _ (fw : WordsFit ws) (log : List ℕ) where
+  module _ (log : List ℕ) where
     lit-there : (l at : ℕ) → known ws (l / 2) ≡ true → getD log at 0 ≡ wordOf (boundary l) → l ≡ litAt log at
     lit-there l at k b =
         let s = known-small ws ends p l k in
@@ -105,6 +104,6 @@ module _ (ws : List ℕ) (ends : List (List ℕ)) (p : ProperWords ws ends) wher
     logged-passes now c {ls} {noted} x fits count d =
         let a = afresh-logged x in
         or-both (le-ltb (length log) (c .used) fits)
-        (or-both (ap not (eq-eqb _ _ (ap length (logged-good ws ends p fw log x .1) ∙ count)))
+        (or-both (ap not (eq-eqb _ _ (ap length (logged-good ws ends p log x .1) ∙ count)))
         (or-both (ap (λ (y : Replayed). not (y .follow .place .ok)) a)
         (ap (λ (y : Replayed). notedDiffers ws (y .follow .noted) now) a ∙ d)))

@@ -16,7 +16,6 @@ use Rattle.noting.specs.Undo.{recordsOf, undo}
 use Rattle.noting.specs.Standing.{standing, hasVariable, newest, notNewest}
 use Rattle.noting.specs.Replay.{afresh, logBad}
 use Rattle.noting.specs.Buffers.{logShort}
-use Rattle.noting.proofs.After.{WordsFit}
 use Rattle.noting.proofs.UndoNote.{records-same}
 use Rattle.noting.proofs.Logged.{Logged, known-small, logged-other, logged-length, logged-good}
 use Rattle.noting.proofs.Appending.{cursorAt}
@@ -30,19 +29,19 @@ use Rattle.noting.proofs.Keeping.{Grown, grown, Shrunk, shrunk}
 pub standing-other : (log other : List ℕ) (n : ℕ) → ((i : ℕ) → i < n → getD other i 0 ≡ getD log i 0) → standing (recordsOf other n) ≡ standing (recordsOf log n)
 standing-other log other n same = ap standing (records-same other log n same)
 
-module _ (ws : List ℕ) (ends : List (List ℕ)) (p : ProperWords ws ends) (fw : WordsFit ws) where
+module _ (ws : List ℕ) (ends : List (List ℕ)) (p : ProperWords ws ends) where
   -- nor whether the log passes
   pub passes-other : (noted log other : List ℕ) (c : Cursor) → c .used ≤ length other → ((i : ℕ) → i < c .used → getD other i 0 ≡ getD log i 0) → logBad ws noted log c ≡ false → logBad ws noted other c ≡ false
   passes-other noted log other c fits same e =
-      logged-passes ws ends p fw other noted c (logged-other ws log other same (passed-logged ws ends p fw noted log c e)) fits (counts ws ends p fw noted log c e) (parts ws ends p fw noted log c e .3)
+      logged-passes ws ends p other noted c (logged-other ws log other same (passed-logged ws ends p noted log c e)) fits (counts ws ends p noted log c e) (parts ws ends p noted log c e .3)
 
   pub log-prefix : (noted log other : List ℕ) (c : Cursor) → length other ≡ length log → ((i : ℕ) → i < c .used → getD other i 0 ≡ getD log i 0) → logBad ws noted other c ≡ logBad ws noted log c
   log-prefix noted log other c long same = tested (logBad ws noted log c)
       (λ t. tested (logBad ws noted other c) (λ u. u ∙ sym t) (λ u. absurd (clash t u)))
-      (λ t. passes-other noted log other c (omega (arith, long, log-fits ws ends p fw noted log c t)) same t ∙ sym t)
+      (λ t. passes-other noted log other c (omega (arith, long, log-fits ws ends p noted log c t)) same t ∙ sym t)
     where
       clash : logBad ws noted log c ≡ true → logBad ws noted other c ≡ false → ⊥
-      clash t u = true≢false (sym t ∙ passes-other noted other log c (omega (arith, long, log-fits ws ends p fw noted other c u)) (λ i h. sym (same i h)) u)
+      clash t u = true≢false (sym t ∙ passes-other noted other log c (omega (arith, long, log-fits ws ends p noted other c u)) (λ i h. sym (same i h)) u)
 
   module _ (noted log : List ℕ) (c : Cursor) (e : logBad ws noted log c ≡ false) where
     abbrev now : List ℕ
@@ -53,10 +52,10 @@ module _ (ws : List ℕ) (ends : List (List ℕ)) (p : ProperWords ws ends) (fw 
     again = afresh ws log (c .used) .follow .noted
 
     logged : Logged ws log now (c .used) again
-    logged = passed-logged ws ends p fw noted log c e
+    logged = passed-logged ws ends p noted log c e
 
     counted : c .standing ≤ c .used
-    counted = omega (arith, counts ws ends p fw noted log c e, logged-length ws log logged)
+    counted = omega (arith, counts ws ends p noted log c e, logged-length ws log logged)
 
     -- the literal that refusals 9 and 11 leave is the newest that stands
     pub newest-stands : (l : ℕ) → known ws (l / 2) ≡ true → notNewest l now ≡ false → (ls : List ℕ) × (now ≡ l ∷ ls)
@@ -69,7 +68,7 @@ module _ (ws : List ℕ) (ends : List (List ℕ)) (p : ProperWords ws ends) (fw 
 
     module _ (len : length noted ≡ 384) (long : logShort ws (length log) ≡ false) where
       alike : Alike ws again noted
-      alike = same-alike ws ends p again noted (logged-good ws ends p fw log logged .0 .len ∙ sym len) (parts ws ends p fw noted log c e .3)
+      alike = same-alike ws ends p again noted (logged-good ws ends p log logged .0 .len ∙ sym len) (parts ws ends p noted log c e .3)
 
       twins : Twins ws (noting again log c) (noting noted log c)
       twins = record { noted = alike; log = refl; cursor = refl }
@@ -85,8 +84,8 @@ module _ (ws : List ℕ) (ends : List (List ℕ)) (p : ProperWords ws ends) (fw 
         both : Twins ws z′ z
         both = note-twins ws ends p l (noting again log c) (noting noted log c) twins
 
-        g : Grown ws ends p fw log c logged counted l k n (room ws ends p fw noted log c e long l k n) z′
-        g = grown ws ends p fw log c logged counted l k n (room ws ends p fw noted log c e long l k n)
+        g : Grown ws ends p log c logged counted l k n (room ws ends p noted log c e long l k n) z′
+        g = grown ws ends p log c logged counted l k n (room ws ends p noted log c e long l k n)
 
         pub note-logged : Logged ws (z .log) (l ∷ now) (z .cursor .used) (z′ .noted)
         note-logged = subst (λ (m : List ℕ). Logged ws m (l ∷ now) (z .cursor .used) (z′ .noted)) (both .log) (subst (λ (d : Cursor). Logged ws (z′ .log) (l ∷ now) (d .used) (z′ .noted)) (both .cursor) (g .logged))
@@ -95,15 +94,15 @@ module _ (ws : List ℕ) (ends : List (List ℕ)) (p : ProperWords ws ends) (fw 
         note-log-length = ap length (sym (both .log)) ∙ g .long
 
         pub note-noted-length : length (z .noted) ≡ 384
-        note-noted-length = sym (both .noted .long) ∙ logged-good ws ends p fw (z .log) note-logged .0 .len
+        note-noted-length = sym (both .noted .long) ∙ logged-good ws ends p (z .log) note-logged .0 .len
 
         pub note-standing : standing (recordsOf (z .log) (z .cursor .used)) ≡ l ∷ now
-        note-standing = logged-good ws ends p fw (z .log) note-logged .1
+        note-standing = logged-good ws ends p (z .log) note-logged .1
 
         pub note-passes : logBad ws (z .noted) (z .log) (z .cursor) ≡ false
-        note-passes = logged-passes ws ends p fw (z .log) (z .noted) (z .cursor) note-logged
+        note-passes = logged-passes ws ends p (z .log) (z .noted) (z .cursor) note-logged
             (omega (arith, g .fits, ap length (both .log), ap (λ (d : Cursor). d .used) (both .cursor)))
-            (let m : z .cursor .standing ≡ c .standing + 1 = sym (ap (λ (d : Cursor). d .standing) (both .cursor)) ∙ g .stands in omega (arith, counts ws ends p fw noted log c e))
+            (let m : z .cursor .standing ≡ c .standing + 1 = sym (ap (λ (d : Cursor). d .standing) (both .cursor)) ∙ g .stands in omega (arith, counts ws ends p noted log c e))
             (alike-same ws ends p (z′ .noted) (z .noted) (both .noted))
 
       -- the newest is undone
@@ -117,11 +116,11 @@ module _ (ws : List ℕ) (ends : List (List ℕ)) (p : ProperWords ws ends) (fw 
         pair : Twins ws u′ u
         pair = undo-twins ws (noting again log c) (noting noted log c) twins
 
-        less : Shrunk ws ends p fw log ls u′
+        less : Shrunk ws ends p log ls u′
         less =
-            let d : length ls + 1 ≡ c .standing = omega (arith, counts ws ends p fw noted log c e, ap length s) in
-            subst (λ (n : ℕ). Shrunk ws ends p fw log ls (undo (noting again log (cursorAt (c .used) n)))) d
-            (shrunk ws ends p fw log long (log-fits ws ends p fw noted log c e) (subst (λ (m : List ℕ). Logged ws log m (c .used) again) s logged))
+            let d : length ls + 1 ≡ c .standing = omega (arith, counts ws ends p noted log c e, ap length s) in
+            subst (λ (n : ℕ). Shrunk ws ends p log ls (undo (noting again log (cursorAt (c .used) n)))) d
+            (shrunk ws ends p log long (log-fits ws ends p noted log c e) (subst (λ (m : List ℕ). Logged ws log m (c .used) again) s logged))
 
         pub undo-log : u .log ≡ log
         undo-log = sym (pair .log) ∙ less .same
@@ -130,13 +129,13 @@ module _ (ws : List ℕ) (ends : List (List ℕ)) (p : ProperWords ws ends) (fw 
         undo-logged = subst (λ (d : Cursor). Logged ws log ls (d .used) (u′ .noted)) (pair .cursor) (less .logged)
 
         pub undo-noted-length : length (u .noted) ≡ 384
-        undo-noted-length = sym (pair .noted .long) ∙ logged-good ws ends p fw log undo-logged .0 .len
+        undo-noted-length = sym (pair .noted .long) ∙ logged-good ws ends p log undo-logged .0 .len
 
         pub undo-standing : standing (recordsOf log (u .cursor .used)) ≡ ls
-        undo-standing = logged-good ws ends p fw log undo-logged .1
+        undo-standing = logged-good ws ends p log undo-logged .1
 
         pub undo-passes : logBad ws (u .noted) log (u .cursor) ≡ false
-        undo-passes = logged-passes ws ends p fw log (u .noted) (u .cursor) undo-logged
+        undo-passes = logged-passes ws ends p log (u .noted) (u .cursor) undo-logged
             (omega (arith, less .fits, ap (λ (d : Cursor). d .used) (pair .cursor)))
             (sym (sym (ap (λ (d : Cursor). d .standing) (pair .cursor)) ∙ less .stands))
             (alike-same ws ends p (u′ .noted) (u .noted) (pair .noted))

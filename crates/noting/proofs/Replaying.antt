@@ -33,14 +33,14 @@ use Rattle.noting.specs.Note.{Noting, noting, boundary, levelPushed, pla
 use Rattle.noting.specs.Undo.{recordsOf}
 use Rattle.noting.specs.Standing.{standing, hasVariable}
 use Rattle.noting.specs.Replay.{Followed, followed, place, Replayed, replayed, marked, setMark, litAt, opens, followAt, replayLevel, replay, edgeDiffers, vertexDiffers, notedDiffers, afresh, logBad}
-use Rattle.noting.proofs.After.{WordsFit}
 use Rattle.noting.proofs.Differs.{state-word, same-edge, same-vertex}
 use Rattle.noting.proofs.Distinct.{Distinct, none, one, AllKnown, never-both}
+use Rattle.noting.proofs.After.{sizes-fit}
 use Rattle.noting.proofs.Indexed.{one-place}
 use Rattle.noting.proofs.Noted.{note-agrees}
 use Rattle.noting.proofs.Unnoted.{fresh-agrees}
 use Rattle.noting.proofs.Following.{Good, standing-next, Goes, loop-goes}
-use Rattle.noting.proofs.Logged.{Logged, follow-other, zeros-length, zeros-good}
+use Rattle.noting.proofs.Logged.{Logged, follow-other, zeros-length, zeros-good, occurrences-used}
 
 pub same-trans : (d : Plan) (s t u : State) → SameState d s t → SameState d t u → SameState d s u
 same-trans d s t u a b = record {
@@ -51,7 +51,7 @@ same-trans d s t u a b = record {
   upperLit = λ v h. a .upperLit v h ∙ b .upperLit v h;
 }
 
-module _ (ws : List ℕ) (ends : List (List ℕ)) (p : ProperWords ws ends) (fw : WordsFit ws) (log : List ℕ) (used : ℕ) where
+module _ (ws : List ℕ) (ends : List (List ℕ)) (p : ProperWords ws ends) (log : List ℕ) (used : ℕ) where
   abbrev ls : ℕ → List ℕ
   ls n = standing (recordsOf log n)
 
@@ -119,9 +119,9 @@ module _ (ws : List ℕ) (ends : List (List ℕ)) (p : ProperWords ws ends) (fw 
         abbrev n : Noting
         n = noting (x .follow .noted) [] (record { used = 0; standing = 0 })
 
-        goes : Goes ws log used l (omega (arith, l-small)) fw (noteAt ws l k (levelPushed l n) .noted) (at + 1) z
+        goes : Goes ws log used l (omega (arith, l-small)) (sizes-fit ws ends p) (noteAt ws l k (levelPushed l n) .noted) (at + 1) z
         unfolding followAt noteAt levelPushed
-        goes = loop-goes ws log used l (omega (arith, l-small)) fw (λ i. occurrenceAt ws (startAt ws k + i)) (startAt ws (k + 1) - startAt ws k) y (levelPushed l n) refl (st .good) (omega arith) q
+        goes = loop-goes ws log used l (omega (arith, l-small)) (sizes-fit ws ends p) (λ i. occurrenceAt ws (startAt ws k + i)) (startAt ws (k + 1) - startAt ws k) (occurrences-used ws ends p k k-below) y (levelPushed l n) refl (st .good) (omega arith) q
 
         note-at : note ws l n ≡ noteAt ws l k (levelPushed l n)
         unfolding note
@@ -133,7 +133,7 @@ module _ (ws : List ℕ) (ends : List (List ℕ)) (p : ProperWords ws ends) (fw 
         state-next : SameState (planOf ws ends) (stateOf (z .noted)) (noteAll (planOf ws ends) (l ∷ ls at))
         unfolding noteAll
         state-next =
-            same-trans (planOf ws ends) _ _ _ (subst (λ (m : List ℕ). SameState (planOf ws ends) (stateOf m) (noteOne (planOf ws ends) l (stateOf (x .follow .noted)))) (ap (λ (w : Noting). w .noted) note-at ∙ sym (goes .same)) (note-agrees ws ends p fw l l-small n (st .good .len)))
+            same-trans (planOf ws ends) _ _ _ (subst (λ (m : List ℕ). SameState (planOf ws ends) (stateOf m) (noteOne (planOf ws ends) l (stateOf (x .follow .noted)))) (ap (λ (w : Noting). w .noted) note-at ∙ sym (goes .same)) (note-agrees ws ends p l l-small n (st .good .len)))
             (note-same (planOf ws ends) l (stateOf (x .follow .noted)) (noteAll (planOf ws ends) (ls at)) (st .state))
 
         -- no word past the place that was reached is read
@@ -201,7 +201,7 @@ module _ (ws : List ℕ) (ends : List (List ℕ)) (p : ProperWords ws ends) (fw 
   start : Stand 0 (replayed (replicate 2176 0) (fresh ws (replicate 384 0)) (place true 0))
   unfolding recordsOf standing noteAll hasVariable
   start = record {
-    good = zeros-good ws ends p fw;
+    good = zeros-good ws ends p;
     logged = Logged.none;
     state = fresh-agrees ws (replicate 384 0) (zeros-length 384) ends p;
     down = omega arith;
@@ -246,7 +246,7 @@ module _ (ws : List ℕ) (ends : List (List ℕ)) (p : ProperWords ws ends) (fw 
 
 -- Refusal 7's last part leaves a log whose literals are the plan's, no two of one variable; edge states, bounds and their
 -- literals are what the standing literals give; and the cursor counts them.
-module _ (ws : List ℕ) (ends : List (List ℕ)) (p : ProperWords ws ends) (fw : WordsFit ws) (noted log : List ℕ) (c : Cursor) (e : logBad ws noted log c ≡ false) where
+module _ (ws : List ℕ) (ends : List (List ℕ)) (p : ProperWords ws ends) (noted log : List ℕ) (c : Cursor) (e : logBad ws noted log c ≡ false) where
   abbrev now : List ℕ
   now = standing (recordsOf log (c .used))
 
@@ -264,8 +264,8 @@ module _ (ws : List ℕ) (ends : List (List ℕ)) (p : ProperWords ws ends) (fw 
   pub counts : length now ≡ c .standing
   counts = parts .1
 
-  pub replayed-stands : Stands ws ends p fw log (c .used) (afresh ws log (c .used) .follow .noted)
-  replayed-stands = afresh-stands ws ends p fw log (c .used) (parts .2)
+  pub replayed-stands : Stands ws ends p log (c .used) (afresh ws log (c .used) .follow .noted)
+  replayed-stands = afresh-stands ws ends p log (c .used) (parts .2)
 
   -- the log is one that noting gives
   pub passed-logged : Logged ws log now (c .used) (afresh ws log (c .used) .follow .noted)
@@ -280,7 +280,7 @@ module _ (ws : List ℕ) (ends : List (List ℕ)) (p : ProperWords ws ends) (fw 
 
   -- each edge state, bound and bound literal is what the standing literals give
   pub state-stands : SameState (planOf ws ends) (stateOf noted) (noteAll (planOf ws ends) now)
-  state-stands = same-trans (planOf ws ends) _ _ _ (same-words ws ends p fw log (c .used) (afresh ws log (c .used) .follow .noted) noted (parts .3)) (replayed-stands .state)
+  state-stands = same-trans (planOf ws ends) _ _ _ (same-words ws ends p log (c .used) (afresh ws log (c .used) .follow .noted) noted (parts .3)) (replayed-stands .state)
 
   -- so the abstract state is the noted one
   pub standing-noted : Noted (planOf ws ends) (In now) (noteAll (planOf ws ends) now)

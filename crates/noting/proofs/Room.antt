@@ -20,7 +20,6 @@ use Rattle.noting.specs.Undo.{recordsOf}
 use Rattle.noting.specs.Standing.{standing, hasVariable}
 use Rattle.noting.specs.Replay.{logBad}
 use Rattle.noting.specs.Buffers.{logShort}
-use Rattle.noting.proofs.After.{WordsFit}
 use Rattle.noting.proofs.Undoing.{occurrences}
 use Rattle.noting.proofs.Logged.{Logged, one-on, known-place}
 use Rattle.noting.proofs.Distinct.{Distinct, AllKnown}
@@ -142,6 +141,6 @@ module _ (ws : List ℕ) (ends : List (List ℕ)) (p : ProperWords ws ends) wher
       omega (arith, logged-few log x, whole-few (l ∷ ls) (Distinct.one h d) (AllKnown.one k a), whole-many (l ∷ ls) (AllKnown.one k a))
 
 -- There is room in the log wherever refusals 7, 9 and 10 do not apply.
-pub room : (ws : List ℕ) (ends : List (List ℕ)) → ProperWords ws ends → WordsFit ws → (noted log : List ℕ) (c : Cursor) → logBad ws noted log c ≡ false → logShort ws (length log) ≡ false →
+pub room : (ws : List ℕ) (ends : List (List ℕ)) → ProperWords ws ends → (noted log : List ℕ) (c : Cursor) → logBad ws noted log c ≡ false → logShort ws (length log) ≡ false →
     (l : ℕ) → known ws (l / 2) ≡ true → hasVariable (l / 2) (standing (recordsOf log (c .used))) ≡ false → c .used + 1 + occurrences ws (l / 2) ≤ length log
-room ws ends p fw noted log c e long l k h = logged-room ws ends p log (passed-logged ws ends p fw noted log c e) long l k h
+room ws ends p noted log c e long l k h = logged-room ws ends p log (passed-logged ws ends p noted log c e) long l k h

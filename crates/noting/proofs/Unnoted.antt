@@ -6,10 +6,10 @@ use Prim.Native.Nat.{ℕ, zero, suc, pred, _+_, _-_, _≤_, _<_}
 use native.Mathlib.Omega.{arith}
 use lib.Dec.{ltb}
 use lib.ListN.{length, getD}
-use borrow.Author.Tests.{lt-ltb, ltb-false}
+use borrow.Author.Tests.{lt-ltb, ltb-true, ltb-false}
 use Rattle.base.specs.Iter.{pick}
 use Rattle.base.specs.Lists.{filled}
-use Rattle.base.proofs.Loop.{pick-ind, pick-yes, iter-ind}
+use Rattle.base.proofs.Loop.{pick-ind, pick-yes}
 use Rattle.base.proofs.Lists.{tab-at}
 use Rattle.base.proofs.Filled.{filled-length, filled-in, filled-out}
 use Rattle.plan.specs.Words.{verticesOf, edgesOf, domainLenOf, domainOf}
@@ -18,8 +18,7 @@ use Rattle.plan.specs.Proper.{ProperWords}
 use Rattle.division.specs.Noting.{unnoted}
 use Rattle.division.proofs.Agree.{SameState}
 use Rattle.noting.specs.Words.{boundAt, litsOf, stateOf, capped, firstSize, lastSize, fresh}
-use Rattle.noting.proofs.Effects.{LitsFit}
-use Rattle.noting.proofs.After.{WordsFit, set-holds, domain-fits}
+use Rattle.noting.proofs.Effects.{BoundsFit}
 
 capped-is : (n m : ℕ) → n ≤ m → capped n m ≡ n
 unfolding capped
@@ -29,28 +28,7 @@ pred-is : (n : ℕ) → n - 1 ≡ pred n
 pred-is zero = refl
 pred-is (suc n) = omega arith
 
-filled-fit : (P : ℕ → Type 0) (a n : ℕ) (f : ℕ → ℕ) (m : List ℕ) → ((i : ℕ) → P (f i)) → ((i : ℕ) → P (getD m i 0)) → (i : ℕ) → P (getD (filled a n f m) i 0)
-unfolding filled
-filled-fit P a n f m pf pm = iter-ind (λ _ (z : List ℕ). (i : ℕ) → P (getD z i 0)) _ m n pm (λ j z h q i. set-holds P z (a + j) i (f j) (pf j) (q i))
-
 module _ (ws noted : List ℕ) where
-  first-fits : WordsFit ws → (v : ℕ) → firstSize ws v < 4294967296
-  unfolding firstSize
-  first-fits f v = pick-ind (λ (n : ℕ). n < 4294967296) (ltb 0 (domainLenOf ws v)) _ _ (λ _. domain-fits ws f v 0) (λ _. omega arith)
-
-  last-fits : WordsFit ws → (v : ℕ) → lastSize ws v < 4294967296
-  unfolding lastSize
-  last-fits f v = pick-ind (λ (n : ℕ). n < 4294967296) (ltb 0 (domainLenOf ws v)) _ _ (λ _. domain-fits ws f v (domainLenOf ws v - 1)) (λ _. omega arith)
-
-  pub fresh-fits : WordsFit ws → WordsFit noted → WordsFit (fresh ws noted)
-  unfolding fresh
-  fresh-fits f g =
-      filled-fit (λ n. n < 4294967296) 256 _ (λ v. 65535) _ (λ _. omega arith)
-      (filled-fit (λ n. n < 4294967296) 320 _ (λ v. 65535) _ (λ _. omega arith)
-      (filled-fit (λ n. n < 4294967296) 192 _ (lastSize ws) _ (last-fits f)
-      (filled-fit (λ n. n < 4294967296) 128 _ (firstSize ws) _ (first-fits f)
-      (filled-fit (λ n. n < 4294967296) 0 _ (λ g. 0) noted (λ _. omega arith) g))))
-
   module _ (len : length noted ≡ 384) (ends : List (List ℕ)) (p : ProperWords ws ends) where
     abbrev nv : ℕ
     nv = capped (verticesOf ws) 64
@@ -148,12 +126,20 @@ module _ (ws noted : List ℕ) where
       upperLit = λ v h. ap litsOf (bound-is v h 320 65535 ∙ high-lit-word v h);
     }
 
-    at-64 : (from v : ℕ) (m : List ℕ) → v < 64 → boundAt from 65535 m v ≡ getD m (from + v) 0
-    unfolding boundAt
-    at-64 from v m h = pick-yes _ _ (lt-ltb v 64 h)
+    first-fits : (v : ℕ) → v < verticesOf ws → firstSize ws v < 4294967296
+    unfolding firstSize
+    first-fits v h = pick-ind (λ (n : ℕ). n < 4294967296) (ltb 0 (domainLenOf ws v)) _ _ (λ t. let a = p .entries v 0 h (ltb-true 0 (domainLenOf ws v) t) in omega arith) (λ _. omega arith)
 
-    pub fresh-lits : LitsFit ws (fresh ws noted)
-    fresh-lits = record {
-      low = λ v a h. omega (arith, at-64 256 v (fresh ws noted) h, low-lit-word v a);
-      high = λ v a h. omega (arith, at-64 320 v (fresh ws noted) h, high-lit-word v a);
+    last-fits : (v : ℕ) → v < verticesOf ws → lastSize ws v < 4294967296
+    unfolding lastSize
+    last-fits v h =
+        pick-ind (λ (n : ℕ). n < 4294967296) (ltb 0 (domainLenOf ws v)) _ _
+        (λ t. let k = ltb-true 0 (domainLenOf ws v) t in let a = p .entries v (domainLenOf ws v - 1) h (omega arith) in omega arith) (λ _. omega arith)
+
+    pub fresh-bounds : BoundsFit ws (fresh ws noted)
+    fresh-bounds = record {
+      lower = λ v a h. omega (arith, bound-is v a 128 0, low-word v a, first-fits v a);
+      upper = λ v a h. omega (arith, bound-is v a 192 0, high-word v a, last-fits v a);
+      lowerLit = λ v a h. omega (arith, bound-is v a 256 65535, low-lit-word v a);
+      upperLit = λ v a h. omega (arith, bound-is v a 320 65535, high-lit-word v a);
     }
