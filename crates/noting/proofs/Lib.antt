@@ -29,3 +29,4 @@ pub mod Alike
 pub mod Readying
 pub mod Keeping
 pub mod Preserved
+pub mod Valid
