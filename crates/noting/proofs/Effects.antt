@@ -1,17 +1,18 @@
 -- What an effect is, and that taking its record back gives the noted words as they were.
 use mathlib.Core.Path.{_≡_, refl, sym, ap, ap₂, subst, _∙_}
-use mathlib.Core.Bool.{Bool, true, false}
+use mathlib.Core.Bool.{true}
 use mathlib.Core.List.{List}
-use Prim.Native.Nat.{ℕ, suc, _+_, _-_, _*_, _/_, _%_, _≤_, _<_}
+use Prim.Native.Nat.{ℕ, _+_, _-_, _/_, _%_, _≤_, _<_}
 use native.Mathlib.Omega.{arith}
 use lib.Dec.{eqb, ltb}
-use lib.ListN.{length, getD, set}
+use lib.ListN.{getD, set}
 use lib.Seq.{set-set, set-comm, set-getD}
 use borrow.Author.Tests.{lt-ltb, ltb-true, ltb-false}
 use Rattle.base.specs.Iter.{pick}
 use Rattle.base.proofs.Loop.{pick-ind, pick-yes, pick-no}
-use Rattle.undo_log.specs.declared.Record.{Record}
-use Rattle.plan.specs.Words.{word, domainOf, litOf}
+use Rattle.base.proofs.Tests.{and-left}
+use Rattle.plan.specs.Words.{word, verticesOf, domainOf, litOf}
+use Rattle.plan.specs.Check.{usedSlot}
 use Rattle.noting.specs.declared.note.Effect.{Effect}
 use Rattle.noting.specs.Words.{edgeStateOf, boundAt, lowerOf, upperOf, lowerLitOf, upperLitOf}
 use Rattle.noting.specs.Note.{effect, nothing, sizeEffect, edgeEffect, effectOf, undoRecord, boundSet, edgeSet, applied}
@@ -66,15 +67,22 @@ module _ (noted : List ℕ) where
       (λ y e. pick-yes _ _ y ∙ ap (λ (z : List ℕ). set z g 0) (pick-yes _ _ y) ∙ ap (λ (n : ℕ). set (set noted g x) g n) (sym e) ∙ set-back g x)
       (λ n _. pick-no _ _ n ∙ pick-no _ _ n)
 
--- the literals that bounds are due to are literals, or none
-pub record LitsFit (noted : List ℕ) : Type 0 where
-  pub low : (v : ℕ) → v < 64 → lowerLitOf noted v < 65536
-  pub high : (v : ℕ) → v < 64 → upperLitOf noted v < 65536
+-- the vertices' bounds fit their words, and what they are due to are literals, or none
+pub record BoundsFit (ws noted : List ℕ) : Type 0 where
+  pub lower : (v : ℕ) → v < verticesOf ws → v < 64 → lowerOf noted v < 4294967296
+  pub upper : (v : ℕ) → v < verticesOf ws → v < 64 → upperOf noted v < 4294967296
+  pub lowerLit : (v : ℕ) → v < verticesOf ws → v < 64 → lowerLitOf noted v < 65536
+  pub upperLit : (v : ℕ) → v < verticesOf ws → v < 64 → upperLitOf noted v < 65536
+
+-- a size literal's slot is a vertex's
+pub slot-vertex : (ws : List ℕ) (s : ℕ) → usedSlot ws s ≡ true → s < 2048 → s / 32 < verticesOf ws
+unfolding usedSlot
+slot-vertex ws s u h = ltb-true _ _ (and-left _ _ (sym (pick-yes _ _ (lt-ltb s 2048 h)) ∙ u))
 
 -- taking an effect's record back undoes it; an edge was undecided
-pub restore-applied : (ws noted : List ℕ) (l s : ℕ) → LitsFit noted → (2048 ≤ s → s < 2176 → edgeStateOf noted (s - 2048) ≡ 0) → (e : Effect) → Effective ws noted l s e → restored (undoRecord noted e) (applied e l noted) ≡ noted
+pub restore-applied : (ws noted : List ℕ) (l s : ℕ) → BoundsFit ws noted → usedSlot ws s ≡ true → (2048 ≤ s → s < 2176 → edgeStateOf noted (s - 2048) ≡ 0) → (e : Effect) → Effective ws noted l s e → restored (undoRecord noted e) (applied e l noted) ≡ noted
 unfolding restored undoRecord applied pick
-restore-applied ws noted l s f d e idle = refl
-restore-applied ws noted l s f d e (edge a b) = edge-back noted (s - 2048) _ (d a b)
-restore-applied ws noted l s f d e (low a b) = bound-back noted 128 65535 (s / 32) _ l (omega arith) (f .low (s / 32) (omega arith))
-restore-applied ws noted l s f d e (high a b) = bound-back noted 192 65535 (s / 32) _ l (omega arith) (f .high (s / 32) (omega arith))
+restore-applied ws noted l s f u d e idle = refl
+restore-applied ws noted l s f u d e (edge a b) = edge-back noted (s - 2048) _ (d a b)
+restore-applied ws noted l s f u d e (low a b) = bound-back noted 128 65535 (s / 32) _ l (omega arith) (f .lowerLit (s / 32) (slot-vertex ws s u a) (omega arith))
+restore-applied ws noted l s f u d e (high a b) = bound-back noted 192 65535 (s / 32) _ l (omega arith) (f .upperLit (s / 32) (slot-vertex ws s u a) (omega arith))

@@ -16,5 +16,17 @@ pub mod Bounds
 pub mod Vertex
 pub mod Noted
 pub mod Unnoted
+pub mod Prefix
 pub mod Following
+pub mod Logged
+pub mod Appending
+pub mod Differs
+pub mod Distinct
 pub mod Replaying
+pub mod Room
+pub mod Passing
+pub mod Alike
+pub mod Readying
+pub mod Keeping
+pub mod Preserved
+pub mod Valid

@@ -1,20 +1,20 @@
 -- Noting a literal in the words is the abstract state's `noteOne`.
 use mathlib.Core.Path.{_≡_, refl, sym, ap, ap₂, subst, _∙_}
-use mathlib.Core.Logic.{_⊎_, inl, inr, ⊎-elim}
-use mathlib.Core.Bool.{Bool, true, false, not, _&&_, true≢false, false≢true}
-use mathlib.Core.List.{List, [], _∷_}
-use Prim.Native.Nat.{ℕ, zero, suc, pred, _+_, _-_, _*_, _/_, _%_, _≤_, _<_}
+use mathlib.Core.Logic.{_⊎_, ⊎-elim}
+use mathlib.Core.Bool.{Bool, true, false}
+use mathlib.Core.List.{List}
+use Prim.Native.Nat.{ℕ, _+_, _-_, _/_, _≤_, _<_}
 use native.Mathlib.Omega.{arith}
 use lib.Dec.{eqb, ltb}
 use lib.ListN.{length, getD, set}
 use lib.Seq.{getD-set-same}
-use borrow.Author.Tests.{lt-ltb, le-ltb, ltb-true, ltb-false, eq-eqb, ne-eqb, eqb-true, eqb-false}
+use borrow.Author.Tests.{lt-ltb, le-ltb, eq-eqb, ne-eqb, eqb-true, eqb-false}
 use Rattle.base.specs.Iter.{iter, pick}
 use Rattle.base.proofs.Loop.{pick-ind, pick-yes, pick-no, tested}
 use Rattle.base.proofs.Lists.{tab-at}
-use Rattle.base.proofs.Tests.{and-next, and-no}
+use Rattle.base.proofs.Tests.{and-next}
 use Rattle.sat.specs.Literal.{negate}
-use Rattle.plan.specs.Words.{word, entry, verticesOf, edgesOf, domainLenOf, domainOf, litOf, domLitOf, edgeLitOf}
+use Rattle.plan.specs.Words.{word, entry, edgesOf, litOf, edgeLitOf}
 use Rattle.plan.specs.Check.{usedSlot}
 use Rattle.plan.specs.Plan.{planOf}
 use Rattle.plan.specs.Proper.{ProperWords}
@@ -24,13 +24,13 @@ use Rattle.noting.specs.declared.note.Effect.{Effect}
 use Rattle.noting.specs.Words.{edgeStateOf, stateOf}
 use Rattle.noting.specs.Note.{Noting, effect, edgeEffect, edgeSet, effectOf, applied, isOf, levelPushed, note, noteLit}
 use Rattle.noting.proofs.Effects.{effective}
-use Rattle.noting.proofs.After.{WordsFit, applied-edge}
+use Rattle.noting.proofs.After.{applied-edge}
 use Rattle.noting.proofs.Block.{block}
 use Rattle.noting.proofs.Agrees.{slotNoted, slot-noted-length, words-after}
 use Rattle.noting.proofs.Vertex.{one-variable, negate-other, low-after, high-after}
 use Rattle.noting.proofs.Indexed.{note-is}
 
-module _ (ws : List ℕ) (ends : List (List ℕ)) (p : ProperWords ws ends) (fw : WordsFit ws) (l : ℕ) (small : l < 65535) where
+module _ (ws : List ℕ) (ends : List (List ℕ)) (p : ProperWords ws ends) (l : ℕ) (small : l < 65535) where
   module _ (g : ℕ) (hg : g < edgesOf ws) where
     g128 : g < 128
     g128 = omega (arith, p .fine .fits)
@@ -42,7 +42,7 @@ module _ (ws : List ℕ) (ends : List (List ℕ)) (p : ProperWords ws ends) (fw 
     unfolding usedSlot
     edge-used = pick-no _ _ (le-ltb (2048 + g) 2048 (omega arith)) ∙ ap (λ (n : ℕ). ltb n (edgesOf ws)) back ∙ lt-ltb g (edgesOf ws) hg
 
-    edge-lit : litOf ws (2048 + g) ≡ edgeLitOf ws g
+    pub edge-lit : litOf ws (2048 + g) ≡ edgeLitOf ws g
     unfolding entry
     edge-lit =
         let e : 2184 + (2048 + g) ≡ 4232 + g = omega arith in
@@ -96,7 +96,7 @@ module _ (ws : List ℕ) (ends : List (List ℕ)) (p : ProperWords ws ends) (fw 
     unfolding slotNoted
     edge-still s noted o =
         pick-ind (λ (m : List ℕ). edgeStateOf m g ≡ edgeStateOf noted g) (isOf ws (l / 2) s) _ _
-        (λ _. applied-edge ws noted l s (omega (arith, small)) fw g (λ (a : 2048 ≤ s) (e : g ≡ s - 2048). ⊎-elim (λ (b : s < 2048 + g). omega arith) (λ (b : 2048 + g + 1 ≤ s). omega arith) o) _ (effective ws noted l s)) (λ _. refl)
+        (λ _. applied-edge ws noted l s g (λ (a : 2048 ≤ s) (e : g ≡ s - 2048). ⊎-elim (λ (b : s < 2048 + g). omega arith) (λ (b : 2048 + g + 1 ≤ s). omega arith) o) _ (effective ws noted l s)) (λ _. refl)
 
     edge-after : (noted : List ℕ) → length noted ≡ 384 → edgeStateOf (iter (slotNoted ws l) 2176 noted) g ≡ turn (planOf ws ends) l g (edgeStateOf noted g)
     unfolding iter

@@ -2,48 +2,45 @@
 -- literals are what they give.
 use mathlib.Core.Path.{_≡_, refl, sym, ap, ap₂, subst, _∙_}
 use mathlib.Core.Logic.{_⊎_, inl, inr, ⊎-elim}
-use mathlib.Core.Bool.{Bool, true, false, not, _&&_, _||_, true≢false, false≢true}
-use mathlib.Core.List.{List, [], _∷_, List·Memᴰ, List·Memᴰ·cases-cons, List·Memᴰ·not-nil}
-use Prim.Native.Nat.{ℕ, zero, suc, _+_, _-_, _*_, _/_, _%_, _≤_, _<_}
+use mathlib.Core.Bool.{Bool, true, false, not, _&&_, _||_, false≢true}
+use mathlib.Core.List.{List, [], _∷_}
+use Prim.Native.Nat.{ℕ, suc, _+_, _-_, _/_, _≤_, _<_}
 use native.Mathlib.Omega.{arith}
 use native.Mathlib.Numerals.{add-one}
 use lib.Dec.{eqb, ltb}
-use lib.ListN.{length, getD, set, replicate, length-set, length-replicate, getD-replicate, List·getD-eq-default}
+use lib.ListN.{length, getD, set, replicate, length-set}
 use lib.Seq.{getD-set-same, getD-set-other}
-use borrow.Author.Tests.{lt-ltb, ltb-true, ltb-false, eqb-true, eqb-false, ne-eqb, eq-eqb, not-true}
+use borrow.Author.Tests.{lt-ltb, ltb-true, ltb-false, eqb-true, ne-eqb, eq-eqb, not-true}
 use Rattle.base.specs.Iter.{iter, pick}
 use Rattle.base.specs.Lists.{some}
-use Rattle.base.proofs.Loop.{pick-ind, pick-yes, pick-no, tested, iter-ind, eq-or-not}
-use Rattle.base.proofs.Tests.{and-left, and-right, or-none, not-false, le-or-lt}
+use Rattle.base.proofs.Loop.{pick-ind, pick-yes, iter-ind}
+use Rattle.base.proofs.Tests.{and-left, and-right, or-none, not-false}
 use Rattle.base.proofs.Some.{some-none}
-use Rattle.sat.specs.Literal.{negate}
-use Rattle.undo_log.specs.declared.Record.{Record}
 use Rattle.undo_log.specs.declared.Cursor.{Cursor}
-use Rattle.undo_log.specs.Log.{recordOf, wordOf}
-use Rattle.undo_log.proofs.Words.{record-in-range}
+use Rattle.undo_log.specs.Log.{wordOf}
 use Rattle.plan.specs.Words.{verticesOf, edgesOf, variablesOf, variableAt, startAt, occurrenceAt}
 use Rattle.plan.specs.Plan.{planOf}
 use Rattle.plan.specs.Proper.{ProperWords}
 use Rattle.division.specs.Plan.{Plan}
 use Rattle.division.specs.State.{State}
-use Rattle.division.specs.Noting.{noteOne, noteAll, unnoted, In, Consistent}
+use Rattle.division.specs.Noting.{noteOne, noteAll, In}
 use Rattle.division.proofs.Agree.{SameState}
 use Rattle.division.proofs.Alike.{note-same}
 use Rattle.division.proofs.Noted.{Noted}
 use Rattle.division.proofs.Noting.{noted-all}
-use Rattle.noting.specs.declared.replay.Place.{Place}
-use Rattle.noting.specs.Words.{edgeStateOf, boundAt, lowerOf, upperOf, lowerLitOf, upperLitOf, litsOf, stateOf, fresh}
+use Rattle.noting.specs.Words.{litsOf, stateOf, fresh}
 use Rattle.noting.specs.Note.{Noting, noting, boundary, levelPushed, placeIn, known, noteAt, note}
 use Rattle.noting.specs.Undo.{recordsOf}
 use Rattle.noting.specs.Standing.{standing, hasVariable}
 use Rattle.noting.specs.Replay.{Followed, followed, place, Replayed, replayed, marked, setMark, litAt, opens, followAt, replayLevel, replay, edgeDiffers, vertexDiffers, notedDiffers, afresh, logBad}
-use Rattle.noting.proofs.Effects.{LitsFit}
-use Rattle.noting.proofs.After.{WordsFit}
-use Rattle.noting.proofs.Vertex.{negate-other}
+use Rattle.noting.proofs.Differs.{state-word, same-edge, same-vertex}
+use Rattle.noting.proofs.Distinct.{Distinct, none, one, AllKnown, never-both}
+use Rattle.noting.proofs.After.{sizes-fit}
 use Rattle.noting.proofs.Indexed.{one-place}
 use Rattle.noting.proofs.Noted.{note-agrees}
-use Rattle.noting.proofs.Unnoted.{fresh-length, fresh-fits, fresh-lits, fresh-agrees}
+use Rattle.noting.proofs.Unnoted.{fresh-agrees}
 use Rattle.noting.proofs.Following.{Good, standing-next, Goes, loop-goes}
+use Rattle.noting.proofs.Logged.{Logged, follow-other, zeros-length, zeros-good, occurrences-used}
 
 pub same-trans : (d : Plan) (s t u : State) → SameState d s t → SameState d t u → SameState d s u
 same-trans d s t u a b = record {
@@ -54,57 +51,14 @@ same-trans d s t u a b = record {
   upperLit = λ v h. a .upperLit v h ∙ b .upperLit v h;
 }
 
-state-word : (m : List ℕ) (g : ℕ) → g < 128 → getD m g 0 ≡ edgeStateOf m g
-unfolding edgeStateOf
-state-word m g h = sym (pick-yes _ _ (lt-ltb g 128 h))
-
-same-edge : (a b : List ℕ) (g : ℕ) → edgeDiffers a b g ≡ false → edgeStateOf a g ≡ edgeStateOf b g
-unfolding edgeDiffers
-same-edge a b g e = eqb-true (edgeStateOf a g) (edgeStateOf b g) (not-false _ e)
-
-same-vertex : (a b : List ℕ) (v : ℕ) → vertexDiffers a b v ≡ false → (lowerOf a v ≡ lowerOf b v) × (upperOf a v ≡ upperOf b v) × (lowerLitOf a v ≡ lowerLitOf b v) × (upperLitOf a v ≡ upperLitOf b v)
-unfolding vertexDiffers
-same-vertex a b v e =
-    let (c, e₁) = or-none (not (eqb (lowerOf a v) (lowerOf b v))) _ e in
-    let (d, e₂) = or-none (not (eqb (upperOf a v) (upperOf b v))) _ e₁ in
-    let (f, g) = or-none (not (eqb (lowerLitOf a v) (lowerLitOf b v))) _ e₂ in
-    (eqb-true _ _ (not-false _ c), eqb-true _ _ (not-false _ d), eqb-true _ _ (not-false _ f), eqb-true _ _ (not-false _ g))
-
--- no two literals of one variable
-pub data Distinct : List ℕ → Type 0 where
-  none : Distinct []
-  one : {l : ℕ} {ls : List ℕ} → hasVariable (l / 2) ls ≡ false → Distinct ls → Distinct (l ∷ ls)
-
--- and each is the plan's
-pub data AllKnown (ws : List ℕ) : List ℕ → Type 0 where
-  none : AllKnown ws []
-  one : {l : ℕ} {ls : List ℕ} → known ws (l / 2) ≡ true → AllKnown ws ls → AllKnown ws (l ∷ ls)
-
-member-variable : (x a : ℕ) (ls : List ℕ) → In ls a → a / 2 ≡ x → hasVariable x ls ≡ false → ⊥
-unfolding hasVariable
-member-variable x a [] m e h = absurd (List·Memᴰ·not-nil m)
-member-variable x a (l ∷ ls) m e h =
-    let (p, q) = or-none (eqb (l / 2) x) _ h in
-    ⊎-elim (λ (z : a ≡ l). eqb-false (l / 2) x p (ap (λ (n : ℕ). n / 2) (sym z) ∙ e)) (λ z. member-variable x a ls z e q) (List·Memᴰ·cases-cons m)
-
-distinct-same : (ls : List ℕ) → Distinct ls → (a b : ℕ) → In ls a → In ls b → a / 2 ≡ b / 2 → a ≡ b
-distinct-same [] d a b m n e = absurd (List·Memᴰ·not-nil m)
-distinct-same (l ∷ ls) (one h d) a b m n e = ⊎-elim
-    (λ (p : a ≡ l). ⊎-elim (λ (q : b ≡ l). p ∙ sym q) (λ q. absurd (member-variable (l / 2) b ls q (sym e ∙ ap (λ (k : ℕ). k / 2) p) h)) (List·Memᴰ·cases-cons n))
-    (λ p. ⊎-elim (λ (q : b ≡ l). absurd (member-variable (l / 2) a ls p (e ∙ ap (λ (k : ℕ). k / 2) q) h)) (λ q. distinct-same ls d a b p q e) (List·Memᴰ·cases-cons n))
-    (List·Memᴰ·cases-cons m)
-
--- never both signs
-pub never-both : (ls : List ℕ) → Distinct ls → Consistent ls
-never-both ls d l m n = let (a, b) = negate-other l (negate l) refl in a (distinct-same ls d l (negate l) m n b)
-
-module _ (ws : List ℕ) (ends : List (List ℕ)) (p : ProperWords ws ends) (fw : WordsFit ws) (log : List ℕ) (used : ℕ) where
+module _ (ws : List ℕ) (ends : List (List ℕ)) (p : ProperWords ws ends) (log : List ℕ) (used : ℕ) where
   abbrev ls : ℕ → List ℕ
   ls n = standing (recordsOf log n)
 
   -- after a part of the log that agrees
   record Stand (i : ℕ) (x : Replayed) : Type 0 where
-    good : Good (x .follow .noted)
+    good : Good ws (x .follow .noted)
+    logged : Logged ws log (ls (x .follow .place .at)) (x .follow .place .at) (x .follow .noted)
     state : SameState (planOf ws ends) (stateOf (x .follow .noted)) (noteAll (planOf ws ends) (ls (x .follow .place .at)))
     down : x .follow .place .at ≤ used
     far : (i ≤ x .follow .place .at) ⊎ (used ≤ x .follow .place .at)
@@ -165,9 +119,9 @@ module _ (ws : List ℕ) (ends : List (List ℕ)) (p : ProperWords ws ends) (fw 
         abbrev n : Noting
         n = noting (x .follow .noted) [] (record { used = 0; standing = 0 })
 
-        goes : Goes ws log used l (omega (arith, l-small)) fw (noteAt ws l k (levelPushed l n) .noted) (at + 1) z
+        goes : Goes ws log used l (omega (arith, l-small)) (sizes-fit ws ends p) (noteAt ws l k (levelPushed l n) .noted) (at + 1) z
         unfolding followAt noteAt levelPushed
-        goes = loop-goes ws log used l (omega (arith, l-small)) fw (λ i. occurrenceAt ws (startAt ws k + i)) (startAt ws (k + 1) - startAt ws k) y (levelPushed l n) refl (st .good) (omega arith) q
+        goes = loop-goes ws log used l (omega (arith, l-small)) (sizes-fit ws ends p) (λ i. occurrenceAt ws (startAt ws k + i)) (startAt ws (k + 1) - startAt ws k) (occurrences-used ws ends p k k-below) y (levelPushed l n) refl (st .good) (omega arith) q
 
         note-at : note ws l n ≡ noteAt ws l k (levelPushed l n)
         unfolding note
@@ -179,8 +133,14 @@ module _ (ws : List ℕ) (ends : List (List ℕ)) (p : ProperWords ws ends) (fw 
         state-next : SameState (planOf ws ends) (stateOf (z .noted)) (noteAll (planOf ws ends) (l ∷ ls at))
         unfolding noteAll
         state-next =
-            same-trans (planOf ws ends) _ _ _ (subst (λ (m : List ℕ). SameState (planOf ws ends) (stateOf m) (noteOne (planOf ws ends) l (stateOf (x .follow .noted)))) (ap (λ (w : Noting). w .noted) note-at ∙ sym (goes .same)) (note-agrees ws ends p fw l l-small n (st .good .len)))
+            same-trans (planOf ws ends) _ _ _ (subst (λ (m : List ℕ). SameState (planOf ws ends) (stateOf m) (noteOne (planOf ws ends) l (stateOf (x .follow .noted)))) (ap (λ (w : Noting). w .noted) note-at ∙ sym (goes .same)) (note-agrees ws ends p l l-small n (st .good .len)))
             (note-same (planOf ws ends) l (stateOf (x .follow .noted)) (noteAll (planOf ws ends) (ls at)) (st .state))
+
+        -- no word past the place that was reached is read
+        follow-next : followAt ws log (z .place .at) l k y ≡ followed (z .noted) (place true (z .place .at))
+        follow-next =
+            follow-other ws log used l k y log (z .place .at) (record { ok = q; same = λ i b. refl; within = omega arith })
+            ∙ ap (λ (b : Bool). followed (z .noted) (place b (z .place .at))) q
 
         free-next : (j : ℕ) → j < variablesOf ws → marked (setMark k (x .marks)) j ≡ false → hasVariable (variableAt ws j) (l ∷ ls at) ≡ false
         unfolding hasVariable marked setMark
@@ -199,6 +159,7 @@ module _ (ws : List ℕ) (ends : List (List ℕ)) (p : ProperWords ws ends) (fw 
         unfolding setMark
         next = record {
           good = goes .good;
+          logged = subst (λ (m : List ℕ). Logged ws log m (z .place .at) (z .noted)) (sym after) (Logged.one (st .logged) is-known fresh-variable boundary-there follow-next);
           state = subst (λ (m : List ℕ). SameState (planOf ws ends) (stateOf (z .noted)) (noteAll (planOf ws ends) m)) (sym after) state-next;
           down = goes .down;
           far = ⊎-elim (λ (a : i ≤ at). inl (omega (arith, goes .up))) (λ (a : used ≤ at). absurd (omega arith)) (st .far);
@@ -211,6 +172,7 @@ module _ (ws : List ℕ) (ends : List (List ℕ)) (p : ProperWords ws ends) (fw 
     past : used ≤ at → Stand (suc i) x
     past h = record {
       good = st .good;
+      logged = st .logged;
       state = st .state;
       down = st .down;
       far = inr h;
@@ -236,30 +198,11 @@ module _ (ws : List ℕ) (ends : List (List ℕ)) (p : ProperWords ws ends) (fw 
       rest true b e g = g
       rest false b e g = absurd (false≢true e)
 
-  -- zero words, as the code begins
-  zeros-length : (n : ℕ) → length (replicate {A = ℕ} n 0) ≡ n
-  zeros-length n = length-replicate n 0
-
-  zeros-fit : (n : ℕ) → WordsFit (replicate n 0)
-  zeros-fit n i = ⊎-elim
-      (λ (h : n ≤ i). let e : getD (replicate n 0) i 0 ≡ 0 = List·getD-eq-default (replicate n 0) 0 (subst (λ (k : ℕ). k ≤ i) (sym (zeros-length n)) h) in subst (λ (k : ℕ). k < 4294967296) (sym e) (omega arith))
-      (λ (h : i < n). let e : getD (replicate n 0) i 0 ≡ 0 = getD-replicate n i 0 0 h in subst (λ (k : ℕ). k < 4294967296) (sym e) (omega arith)) (le-or-lt n i)
-
-  zeros-lits : LitsFit (replicate 384 0)
-  unfolding boundAt
-  zeros-lits = record {
-    low = λ v h. pick-ind (λ (n : ℕ). n < 65536) (ltb v 64) _ _ (λ _. let e : getD (replicate 384 0) (256 + v) 0 ≡ 0 = getD-replicate 384 (256 + v) 0 0 (omega arith) in subst (λ (k : ℕ). k < 65536) (sym e) (omega arith)) (λ _. omega arith);
-    high = λ v h. pick-ind (λ (n : ℕ). n < 65536) (ltb v 64) _ _ (λ _. let e : getD (replicate 384 0) (320 + v) 0 ≡ 0 = getD-replicate 384 (320 + v) 0 0 (omega arith) in subst (λ (k : ℕ). k < 65536) (sym e) (omega arith)) (λ _. omega arith);
-  }
-
   start : Stand 0 (replayed (replicate 2176 0) (fresh ws (replicate 384 0)) (place true 0))
   unfolding recordsOf standing noteAll hasVariable
   start = record {
-    good = record {
-      len = fresh-length ws (replicate 384 0) (zeros-length 384) ends p;
-      words = fresh-fits ws (replicate 384 0) fw (zeros-fit 384);
-      lits = fresh-lits ws (replicate 384 0) (zeros-length 384) ends p zeros-lits;
-    };
+    good = zeros-good ws ends p;
+    logged = Logged.none;
     state = fresh-agrees ws (replicate 384 0) (zeros-length 384) ends p;
     down = omega arith;
     far = inl (omega arith);
@@ -273,6 +216,7 @@ module _ (ws : List ℕ) (ends : List (List ℕ)) (p : ProperWords ws ends) (fw 
     pub distinct : Distinct (ls used)
     pub known : AllKnown ws (ls used)
     pub state : SameState (planOf ws ends) (stateOf noted) (noteAll (planOf ws ends) (ls used))
+    pub logged : Logged ws log (ls used) used noted
 
   afresh-stands : afresh ws log used .follow .place .ok ≡ true → Stands (afresh ws log used .follow .noted)
   unfolding afresh replay
@@ -284,6 +228,7 @@ module _ (ws : List ℕ) (ends : List (List ℕ)) (p : ProperWords ws ends) (fw 
         distinct = subst (λ (n : ℕ). Distinct (ls n)) e (st .distinct);
         known = subst (λ (n : ℕ). AllKnown ws (ls n)) e (st .knows);
         state = subst (λ (n : ℕ). SameState (planOf ws ends) (stateOf (x .follow .noted)) (noteAll (planOf ws ends) (ls n))) e (st .state);
+        logged = subst (λ (n : ℕ). Logged ws log (ls n) n (x .follow .noted)) e (st .logged);
       }
 
   -- words that do not differ stand for one state
@@ -301,11 +246,11 @@ module _ (ws : List ℕ) (ends : List (List ℕ)) (p : ProperWords ws ends) (fw 
 
 -- Refusal 7's last part leaves a log whose literals are the plan's, no two of one variable; edge states, bounds and their
 -- literals are what the standing literals give; and the cursor counts them.
-module _ (ws : List ℕ) (ends : List (List ℕ)) (p : ProperWords ws ends) (fw : WordsFit ws) (noted log : List ℕ) (c : Cursor) (e : logBad ws noted log c ≡ false) where
+module _ (ws : List ℕ) (ends : List (List ℕ)) (p : ProperWords ws ends) (noted log : List ℕ) (c : Cursor) (e : logBad ws noted log c ≡ false) where
   abbrev now : List ℕ
   now = standing (recordsOf log (c .used))
 
-  parts : (c .used ≤ length log) × (length now ≡ c .standing) × (afresh ws log (c .used) .follow .place .ok ≡ true) × (notedDiffers ws (afresh ws log (c .used) .follow .noted) noted ≡ false)
+  pub parts : (c .used ≤ length log) × (length now ≡ c .standing) × (afresh ws log (c .used) .follow .place .ok ≡ true) × (notedDiffers ws (afresh ws log (c .used) .follow .noted) noted ≡ false)
   unfolding logBad
   parts =
       let (a, e₁) = or-none (ltb (length log) (c .used)) _ e in
@@ -319,8 +264,12 @@ module _ (ws : List ℕ) (ends : List (List ℕ)) (p : ProperWords ws ends) (fw 
   pub counts : length now ≡ c .standing
   counts = parts .1
 
-  replayed-stands : Stands ws ends p fw log (c .used) (afresh ws log (c .used) .follow .noted)
-  replayed-stands = afresh-stands ws ends p fw log (c .used) (parts .2)
+  pub replayed-stands : Stands ws ends p log (c .used) (afresh ws log (c .used) .follow .noted)
+  replayed-stands = afresh-stands ws ends p log (c .used) (parts .2)
+
+  -- the log is one that noting gives
+  pub passed-logged : Logged ws log now (c .used) (afresh ws log (c .used) .follow .noted)
+  passed-logged = replayed-stands .logged
 
   -- no two standing literals are of one variable, so never both signs
   pub standing-distinct : Distinct now
@@ -331,7 +280,7 @@ module _ (ws : List ℕ) (ends : List (List ℕ)) (p : ProperWords ws ends) (fw 
 
   -- each edge state, bound and bound literal is what the standing literals give
   pub state-stands : SameState (planOf ws ends) (stateOf noted) (noteAll (planOf ws ends) now)
-  state-stands = same-trans (planOf ws ends) _ _ _ (same-words ws ends p fw log (c .used) (afresh ws log (c .used) .follow .noted) noted (parts .3)) (replayed-stands .state)
+  state-stands = same-trans (planOf ws ends) _ _ _ (same-words ws ends p log (c .used) (afresh ws log (c .used) .follow .noted) noted (parts .3)) (replayed-stands .state)
 
   -- so the abstract state is the noted one
   pub standing-noted : Noted (planOf ws ends) (In now) (noteAll (planOf ws ends) now)

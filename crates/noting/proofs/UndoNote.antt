@@ -1,30 +1,29 @@
 -- Undoing what was noted gives everything back.
-use mathlib.Core.Path.{_≡_, refl, sym, ap, ap₂, subst, _∙_}
-use mathlib.Core.Logic.{⊎-elim}
-use mathlib.Core.Bool.{Bool, true, false}
-use mathlib.Core.List.{List, [], _∷_}
-use Prim.Native.Nat.{ℕ, zero, suc, _+_, _-_, _*_, _/_, _%_, _≤_, _<_}
+use mathlib.Core.Path.{_≡_, refl, sym, ap, ap₂, _∙_}
+use mathlib.Core.Bool.{true}
+use mathlib.Core.List.{List, _∷_}
+use Prim.Native.Nat.{ℕ, zero, suc, _+_, _-_, _≤_, _<_}
 use native.Mathlib.Omega.{arith}
 use native.Mathlib.Nat.{le-step, lt-suc-self}
 use native.Mathlib.Numerals.{add-one}
-use lib.Dec.{eqb, ltb}
-use lib.ListN.{length, getD, set, length-set}
+use lib.Dec.{eqb}
+use lib.ListN.{length, getD, set}
 use lib.Seq.{getD-set-same, getD-set-other}
-use borrow.Author.Tests.{lt-ltb, eqb-true, eqb-false, ne-eqb}
-use Rattle.base.specs.Iter.{iter, pick}
+use borrow.Author.Tests.{lt-ltb, eqb-false, ne-eqb}
+use Rattle.base.specs.Iter.{iter}
 use Rattle.base.proofs.Loop.{pick-ind, pick-yes, pick-no, iter-ind}
 use Rattle.undo_log.specs.declared.Record.{Record}
 use Rattle.undo_log.specs.declared.Cursor.{Cursor}
 use Rattle.undo_log.specs.Log.{recordOf, wordOf, pushWords, movedTo}
 use Rattle.undo_log.proofs.Words.{InRange, word-back}
+use Rattle.plan.specs.Check.{usedSlot}
 use Rattle.noting.specs.declared.note.Effect.{Effect}
 use Rattle.noting.specs.Words.{edgeStateOf}
-use Rattle.noting.specs.Note.{Noting, noting, effectOf, undoRecord, applied, pushedTo, noteSlot, boundary, oneMore, levelPushed}
-use Rattle.noting.specs.Undo.{recordsOf, restored, undone, kept, undo}
-use Rattle.noting.proofs.Effects.{Effective, effective, LitsFit, restore-applied}
-use Rattle.noting.proofs.After.{WordsFit, applied-words, applied-lits, applied-edge, record-fits}
+use Rattle.noting.specs.Note.{Noting, noting, effectOf, undoRecord, applied, pushedTo, noteSlot}
+use Rattle.noting.specs.Undo.{recordsOf, restored, undone, kept}
+use Rattle.noting.proofs.Effects.{Effective, effective, BoundsFit, restore-applied}
+use Rattle.noting.proofs.After.{SizesFit, applied-bounds, applied-edge, record-fits}
 use Rattle.noting.proofs.Pushing.{push-length}
-use Rattle.noting.proofs.Back.{records-length}
 
 -- what stands past the records does not matter
 pub records-same : (a b : List ℕ) (n : ℕ) → ((i : ℕ) → i < n → getD a i 0 ≡ getD b i 0) → recordsOf a n ≡ recordsOf b n
@@ -52,11 +51,10 @@ module _ (log : List ℕ) (c : Cursor) (r : Record) (room : c .used < length log
       (records-same (set log (c .used) (wordOf r)) log (c .used) (λ i h. getD-set-other log (c .used) i (wordOf r) 0 (λ (e : i ≡ c .used). omega arith)))
 
 -- slots at 0, at 1, up to at (n - 1), rising, are noted for literal l; the noted words were x, and n records are left to write
-module _ (ws : List ℕ) (l : ℕ) (at : ℕ → ℕ) (n : ℕ) (wl : l < 65536) (fw : WordsFit ws) (rising : (i j : ℕ) → i < j → j < n → at i < at j) (noted : List ℕ) (used standing : ℕ) where
+module _ (ws : List ℕ) (l : ℕ) (at : ℕ → ℕ) (n : ℕ) (wl : l < 65536) (fw : SizesFit ws) (rising : (i j : ℕ) → i < j → j < n → at i < at j) (inUse : (i : ℕ) → i < n → usedSlot ws (at i) ≡ true) (noted : List ℕ) (used standing : ℕ) where
   -- after i slots
   pub record At (i : ℕ) (y : Noting) : Type 0 where
-    pub words : WordsFit (y .noted)
-    pub lits : LitsFit (y .noted)
+    pub bounds : BoundsFit ws (y .noted)
     pub room : y .cursor .used + (n - i) ≤ length (y .log)
     pub undecided : (j : ℕ) → i ≤ j → j < n → 2048 ≤ at j → at j < 2176 → edgeStateOf (y .noted) (at j - 2048) ≡ 0
     pub same : undone (recordsOf (y .log) (y .cursor .used)) (y .noted) ≡ noted
@@ -82,8 +80,7 @@ module _ (ws : List ℕ) (l : ℕ) (at : ℕ → ℕ) (n : ℕ) (wl : l < 65536)
 
     rest : At (suc i) y
     rest = record {
-      words = p .words;
-      lits = p .lits;
+      bounds = p .bounds;
       room = omega (arith, p .room);
       undecided = λ j k m a b. p .undecided j (omega arith) m a b;
       same = p .same;
@@ -92,7 +89,7 @@ module _ (ws : List ℕ) (l : ℕ) (at : ℕ → ℕ) (n : ℕ) (wl : l < 65536)
     }
 
     back : restored r (applied e l (y .noted)) ≡ y .noted
-    back = restore-applied ws (y .noted) l (at i) (p .lits) (λ a b. p .undecided i (omega arith) h a b) e t
+    back = restore-applied ws (y .noted) l (at i) (p .bounds) (inUse i h) (λ a b. p .undecided i (omega arith) h a b) e t
 
     abbrev z : Noting
     z = noting (applied e l (y .noted)) (pushWords (y .log) (y .cursor) r) (pushedTo (y .log) (y .cursor))
@@ -102,15 +99,14 @@ module _ (ws : List ℕ) (l : ℕ) (at : ℕ → ℕ) (n : ℕ) (wl : l < 65536)
 
     records-next : recordsOf (z .log) (z .cursor .used) ≡ r ∷ recordsOf (y .log) (y .cursor .used)
     records-next =
-        ap (recordsOf (z .log)) used-next ∙ records-push (y .log) (y .cursor) r free (record-fits ws (y .noted) l (at i) wl fw (p .words) (p .lits) e t)
+        ap (recordsOf (z .log)) used-next ∙ records-push (y .log) (y .cursor) r free (record-fits ws (y .noted) l (at i) wl fw (inUse i h) (p .bounds) e t)
 
     next : (e .kind ≡ 0 → ⊥) → At (suc i) z
     unfolding undone kept
     next k = record {
-      words = applied-words ws (y .noted) l (at i) wl fw (p .words) e t;
-      lits = applied-lits ws (y .noted) l (at i) wl fw (p .lits) e t;
+      bounds = applied-bounds ws (y .noted) l (at i) wl fw (inUse i h) (p .bounds) e t;
       room = omega (arith, p .room, used-next, push-length (y .log) (y .cursor) r);
-      undecided = λ j a b c d. applied-edge ws (y .noted) l (at i) wl fw (at j - 2048) (λ f (q : at j - 2048 ≡ at i - 2048). omega (arith, rising i j (omega arith) b)) e t ∙ p .undecided j (omega arith) b c d;
+      undecided = λ j a b c d. applied-edge ws (y .noted) l (at i) (at j - 2048) (λ f (q : at j - 2048 ≡ at i - 2048). omega (arith, rising i j (omega arith) b)) e t ∙ p .undecided j (omega arith) b c d;
       same = ap (λ (rs : List Record). undone rs (z .noted)) records-next ∙ pick-no _ _ (ne-eqb (r .kind) 0 (λ (q : r .kind ≡ 0). k (sym kind-of ∙ q))) ∙ ap (undone (recordsOf (y .log) (y .cursor .used))) back ∙ p .same;
       left = ap kept records-next ∙ pick-no _ _ (ne-eqb (r .kind) 0 (λ (q : r .kind ≡ 0). k (sym kind-of ∙ q))) ∙ p .left;
       stands = ap (λ (c : Cursor). c .standing) (push-moves (y .log) (y .cursor) r free) ∙ p .stands;

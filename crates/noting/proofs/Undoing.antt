@@ -1,26 +1,26 @@
 -- Undo after note: edge states, bounds, their literals and the cursor are as they were.
 use mathlib.Core.Path.{_≡_, refl, sym, ap, ap₂, subst, _∙_}
-use mathlib.Core.Bool.{Bool, true, false, _&&_}
-use mathlib.Core.List.{List, [], _∷_}
-use Prim.Native.Nat.{ℕ, zero, suc, _+_, _-_, _/_, _≤_, _<_}
+use mathlib.Core.Bool.{true}
+use mathlib.Core.List.{List, _∷_}
+use Prim.Native.Nat.{ℕ, _+_, _-_, _/_, _≤_, _<_}
 use native.Mathlib.Omega.{arith}
-use lib.Dec.{eqb, ltb}
+use lib.Dec.{ltb}
 use lib.ListN.{length}
 use borrow.Author.Tests.{lt-ltb, ltb-true, eqb-true}
 use Rattle.base.specs.Iter.{iter, pick}
-use Rattle.base.proofs.Loop.{pick-ind, pick-yes, pick-no}
+use Rattle.base.proofs.Loop.{pick-ind, pick-yes}
 use Rattle.base.proofs.Tests.{and-left, and-right}
 use Rattle.undo_log.specs.declared.Record.{Record}
 use Rattle.undo_log.specs.declared.Cursor.{Cursor}
-use Rattle.undo_log.specs.Log.{pushWords, movedTo}
-use Rattle.undo_log.proofs.Words.{InRange}
+use Rattle.undo_log.specs.Log.{pushWords}
 use Rattle.plan.specs.Words.{variablesOf, variableAt, startAt, occurrenceAt}
+use Rattle.plan.specs.Check.{usedSlot}
 use Rattle.plan.specs.Proper.{ProperWords}
 use Rattle.noting.specs.Words.{edgeStateOf}
-use Rattle.noting.specs.Note.{Noting, noting, pushedTo, noteSlot, boundary, oneMore, levelPushed, placeIn, known, noteAt, note, isOf}
+use Rattle.noting.specs.Note.{Noting, noting, noteSlot, boundary, oneMore, levelPushed, placeIn, known, noteAt, note, isOf}
 use Rattle.noting.specs.Undo.{recordsOf, undone, kept, undo}
-use Rattle.noting.proofs.Effects.{LitsFit}
-use Rattle.noting.proofs.After.{WordsFit}
+use Rattle.noting.proofs.Effects.{BoundsFit}
+use Rattle.noting.proofs.After.{SizesFit}
 use Rattle.noting.proofs.Pushing.{push-length}
 use Rattle.noting.proofs.Back.{records-length}
 use Rattle.noting.proofs.UndoNote.{At, all, push-moves, records-push}
@@ -33,9 +33,8 @@ occurrences ws x = pick (known ws x) (startAt ws (placeIn ws x + 1) - startAt ws
 -- what a literal wants to be noted: room in the log, and that its edges are undecided
 pub record Ready (ws : List ℕ) (l : ℕ) (x : Noting) : Type 0 where
   pub lit : l < 65536
-  pub plan : WordsFit ws
-  pub words : WordsFit (x .noted)
-  pub lits : LitsFit (x .noted)
+  pub sizes : SizesFit ws
+  pub bounds : BoundsFit ws (x .noted)
   pub room : x .cursor .used + 1 + occurrences ws (l / 2) ≤ length (x .log)
   pub counted : x .cursor .standing ≤ x .cursor .used
   pub undecided : (s : ℕ) → isOf ws (l / 2) s ≡ true → 2048 ≤ s → edgeStateOf (x .noted) (s - 2048) ≡ 0
@@ -70,11 +69,14 @@ module _ (ws : List ℕ) (l : ℕ) (x : Noting) (r : Ready ws l x) where
   level-noted = refl
 
   module _ (at : ℕ → ℕ) (n : ℕ) (rising : (i j : ℕ) → i < j → j < n → at i < at j) (own : (i : ℕ) → i < n → isOf ws (l / 2) (at i) ≡ true) (h : x .cursor .used + 1 + n ≤ length (x .log)) where
-    start : At ws l at n (r .lit) (r .plan) rising (x .noted) (x .cursor .used) (x .cursor .standing + 1) 0 y
+    in-use : (i : ℕ) → i < n → usedSlot ws (at i) ≡ true
+    unfolding isOf
+    in-use i b = and-left _ _ (own i b)
+
+    start : At ws l at n (r .lit) (r .sizes) rising in-use (x .noted) (x .cursor .used) (x .cursor .standing + 1) 0 y
     unfolding undone kept pick levelPushed
     start = record {
-      words = r .words;
-      lits = r .lits;
+      bounds = r .bounds;
       room = omega (arith, ap (λ (c : Cursor). c .used) level-cursor, push-length (x .log) (x .cursor) (boundary l));
       undecided = λ j a b c d. r .undecided (at j) (own j b) c;
       same = ap (λ (rs : List Record). undone rs (x .noted)) level-records;
@@ -85,7 +87,7 @@ module _ (ws : List ℕ) (l : ℕ) (x : Noting) (r : Ready ws l x) where
     gives-back : undo (iter (λ i z. noteSlot ws l (at i) z) n y) ≡ noting (x .noted) (iter (λ i z. noteSlot ws l (at i) z) n y .log) (x .cursor)
     unfolding undo
     gives-back =
-        let e = all ws l at n (r .lit) (r .plan) rising (x .noted) (x .cursor .used) (x .cursor .standing + 1) y start in
+        let e = all ws l at n (r .lit) (r .sizes) rising in-use (x .noted) (x .cursor .used) (x .cursor .standing + 1) y start in
         let z = iter (λ i z. noteSlot ws l (at i) z) n y in
         let s : z .cursor .standing - 1 ≡ x .cursor .standing = omega (arith, e .stands) in
         ap (λ (m : List ℕ). noting m (z .log) (cursorAt (kept (recordsOf (z .log) (z .cursor .used))) (z .cursor .standing - 1))) (e .same)

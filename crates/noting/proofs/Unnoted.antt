@@ -1,27 +1,24 @@
 -- Nothing noted: the fresh words stand for the abstract state with nothing noted.
-use mathlib.Core.Path.{_≡_, refl, sym, ap, ap₂, subst, _∙_}
-use mathlib.Core.Logic.{_⊎_, inl, inr, ⊎-elim}
-use mathlib.Core.Bool.{Bool, true, false}
-use mathlib.Core.List.{List, [], _∷_}
-use Prim.Native.Nat.{ℕ, zero, suc, pred, _+_, _-_, _*_, _/_, _≤_, _<_}
+use mathlib.Core.Path.{_≡_, refl, sym, ap, _∙_}
+use mathlib.Core.Logic.{inl, inr}
+use mathlib.Core.List.{List}
+use Prim.Native.Nat.{ℕ, zero, suc, pred, _+_, _-_, _≤_, _<_}
 use native.Mathlib.Omega.{arith}
-use lib.Dec.{eqb, ltb}
-use lib.ListN.{length, getD, set}
+use lib.Dec.{ltb}
+use lib.ListN.{length, getD}
 use borrow.Author.Tests.{lt-ltb, ltb-true, ltb-false}
-use Rattle.base.specs.Iter.{iter, pick}
+use Rattle.base.specs.Iter.{pick}
 use Rattle.base.specs.Lists.{filled}
-use Rattle.base.proofs.Loop.{pick-ind, pick-yes, pick-no, iter-ind}
+use Rattle.base.proofs.Loop.{pick-ind, pick-yes}
 use Rattle.base.proofs.Lists.{tab-at}
-use Rattle.base.proofs.Tests.{le-or-lt}
 use Rattle.base.proofs.Filled.{filled-length, filled-in, filled-out}
-use Rattle.plan.specs.Words.{word, cell, verticesOf, edgesOf, domainLenOf, domainOf}
+use Rattle.plan.specs.Words.{verticesOf, edgesOf, domainLenOf, domainOf}
 use Rattle.plan.specs.Plan.{planOf}
 use Rattle.plan.specs.Proper.{ProperWords}
 use Rattle.division.specs.Noting.{unnoted}
 use Rattle.division.proofs.Agree.{SameState}
-use Rattle.noting.specs.Words.{edgeStateOf, boundAt, lowerOf, upperOf, lowerLitOf, upperLitOf, litsOf, stateOf, capped, firstSize, lastSize, fresh}
-use Rattle.noting.proofs.Effects.{LitsFit}
-use Rattle.noting.proofs.After.{WordsFit, set-holds, domain-fits}
+use Rattle.noting.specs.Words.{boundAt, litsOf, stateOf, capped, firstSize, lastSize, fresh}
+use Rattle.noting.proofs.Effects.{BoundsFit}
 
 capped-is : (n m : ℕ) → n ≤ m → capped n m ≡ n
 unfolding capped
@@ -31,28 +28,7 @@ pred-is : (n : ℕ) → n - 1 ≡ pred n
 pred-is zero = refl
 pred-is (suc n) = omega arith
 
-filled-fit : (P : ℕ → Type 0) (a n : ℕ) (f : ℕ → ℕ) (m : List ℕ) → ((i : ℕ) → P (f i)) → ((i : ℕ) → P (getD m i 0)) → (i : ℕ) → P (getD (filled a n f m) i 0)
-unfolding filled
-filled-fit P a n f m pf pm = iter-ind (λ _ (z : List ℕ). (i : ℕ) → P (getD z i 0)) _ m n pm (λ j z h q i. set-holds P z (a + j) i (f j) (pf j) (q i))
-
 module _ (ws noted : List ℕ) where
-  first-fits : WordsFit ws → (v : ℕ) → firstSize ws v < 4294967296
-  unfolding firstSize
-  first-fits f v = pick-ind (λ (n : ℕ). n < 4294967296) (ltb 0 (domainLenOf ws v)) _ _ (λ _. domain-fits ws f v 0) (λ _. omega arith)
-
-  last-fits : WordsFit ws → (v : ℕ) → lastSize ws v < 4294967296
-  unfolding lastSize
-  last-fits f v = pick-ind (λ (n : ℕ). n < 4294967296) (ltb 0 (domainLenOf ws v)) _ _ (λ _. domain-fits ws f v (domainLenOf ws v - 1)) (λ _. omega arith)
-
-  pub fresh-fits : WordsFit ws → WordsFit noted → WordsFit (fresh ws noted)
-  unfolding fresh
-  fresh-fits f g =
-      filled-fit (λ n. n < 4294967296) 256 _ (λ v. 65535) _ (λ _. omega arith)
-      (filled-fit (λ n. n < 4294967296) 320 _ (λ v. 65535) _ (λ _. omega arith)
-      (filled-fit (λ n. n < 4294967296) 192 _ (lastSize ws) _ (last-fits f)
-      (filled-fit (λ n. n < 4294967296) 128 _ (firstSize ws) _ (first-fits f)
-      (filled-fit (λ n. n < 4294967296) 0 _ (λ g. 0) noted (λ _. omega arith) g))))
-
   module _ (len : length noted ≡ 384) (ends : List (List ℕ)) (p : ProperWords ws ends) where
     abbrev nv : ℕ
     nv = capped (verticesOf ws) 64
@@ -100,7 +76,7 @@ module _ (ws noted : List ℕ) where
     unfolding fresh
     fresh-length = filled-length 256 (λ v. 65535) m4 nv ∙ l4
 
-    edge-word : (g : ℕ) → g < edgesOf ws → getD (fresh ws noted) g 0 ≡ 0
+    pub edge-word : (g : ℕ) → g < edgesOf ws → getD (fresh ws noted) g 0 ≡ 0
     unfolding fresh
     edge-word g h =
         let k : g < ne = omega (arith, ne-is) in
@@ -115,24 +91,24 @@ module _ (ws noted : List ℕ) where
       v64 : v < 64
       v64 = omega (arith, p .fine .vertices)
 
-      low-word : getD (fresh ws noted) (128 + v) 0 ≡ firstSize ws v
+      pub low-word : getD (fresh ws noted) (128 + v) 0 ≡ firstSize ws v
       unfolding fresh
       low-word =
           filled-out 256 (λ v. 65535) m4 nv (128 + v) (inl (omega (arith, v64))) ∙ filled-out 320 (λ v. 65535) m3 nv (128 + v) (inl (omega (arith, v64)))
           ∙ filled-out 192 (lastSize ws) m2 nv (128 + v) (inl (omega (arith, v64))) ∙ filled-in 128 (firstSize ws) m1 nv v k (omega (arith, nv64, l1))
 
-      high-word : getD (fresh ws noted) (192 + v) 0 ≡ lastSize ws v
+      pub high-word : getD (fresh ws noted) (192 + v) 0 ≡ lastSize ws v
       unfolding fresh
       high-word =
           filled-out 256 (λ v. 65535) m4 nv (192 + v) (inl (omega (arith, v64))) ∙ filled-out 320 (λ v. 65535) m3 nv (192 + v) (inl (omega (arith, v64)))
           ∙ filled-in 192 (lastSize ws) m2 nv v k (omega (arith, nv64, l2))
 
-      high-lit-word : getD (fresh ws noted) (320 + v) 0 ≡ 65535
+      pub high-lit-word : getD (fresh ws noted) (320 + v) 0 ≡ 65535
       unfolding fresh
       high-lit-word =
           filled-out 256 (λ v. 65535) m4 nv (320 + v) (inr (omega (arith, nv64))) ∙ filled-in 320 (λ v. 65535) m3 nv v k (omega (arith, nv64, l3))
 
-      low-lit-word : getD (fresh ws noted) (256 + v) 0 ≡ 65535
+      pub low-lit-word : getD (fresh ws noted) (256 + v) 0 ≡ 65535
       unfolding fresh
       low-lit-word = filled-in 256 (λ v. 65535) m4 nv v k (omega (arith, nv64, l4))
 
@@ -150,28 +126,20 @@ module _ (ws noted : List ℕ) where
       upperLit = λ v h. ap litsOf (bound-is v h 320 65535 ∙ high-lit-word v h);
     }
 
-    -- the literals' words past the plan's vertices stay
-    lit-out : (v : ℕ) → nv ≤ v → v < 64 → (getD (fresh ws noted) (256 + v) 0 ≡ getD noted (256 + v) 0) × (getD (fresh ws noted) (320 + v) 0 ≡ getD noted (320 + v) 0)
-    unfolding fresh
-    lit-out v a b = (
-      filled-out 256 (λ v. 65535) m4 nv (256 + v) (inr (omega arith)) ∙ filled-out 320 (λ v. 65535) m3 nv (256 + v) (inl (omega arith))
-          ∙ filled-out 192 (lastSize ws) m2 nv (256 + v) (inr (omega (arith, nv64))) ∙ filled-out 128 (firstSize ws) m1 nv (256 + v) (inr (omega (arith, nv64))) ∙ filled-out 0 (λ g. 0) noted ne (256 + v) (inr (omega (arith, ne128))),
-      filled-out 256 (λ v. 65535) m4 nv (320 + v) (inr (omega (arith, nv64))) ∙ filled-out 320 (λ v. 65535) m3 nv (320 + v) (inr (omega arith))
-          ∙ filled-out 192 (lastSize ws) m2 nv (320 + v) (inr (omega (arith, nv64))) ∙ filled-out 128 (firstSize ws) m1 nv (320 + v) (inr (omega (arith, nv64))) ∙ filled-out 0 (λ g. 0) noted ne (320 + v) (inr (omega (arith, ne128))),
-    )
+    first-fits : (v : ℕ) → v < verticesOf ws → firstSize ws v < 4294967296
+    unfolding firstSize
+    first-fits v h = pick-ind (λ (n : ℕ). n < 4294967296) (ltb 0 (domainLenOf ws v)) _ _ (λ t. let a = p .entries v 0 h (ltb-true 0 (domainLenOf ws v) t) in omega arith) (λ _. omega arith)
 
-    at-64 : (from v : ℕ) (m : List ℕ) → v < 64 → boundAt from 65535 m v ≡ getD m (from + v) 0
-    unfolding boundAt
-    at-64 from v m h = pick-yes _ _ (lt-ltb v 64 h)
+    last-fits : (v : ℕ) → v < verticesOf ws → lastSize ws v < 4294967296
+    unfolding lastSize
+    last-fits v h =
+        pick-ind (λ (n : ℕ). n < 4294967296) (ltb 0 (domainLenOf ws v)) _ _
+        (λ t. let k = ltb-true 0 (domainLenOf ws v) t in let a = p .entries v (domainLenOf ws v - 1) h (omega arith) in omega arith) (λ _. omega arith)
 
-    pub fresh-lits : LitsFit noted → LitsFit (fresh ws noted)
-    fresh-lits f = record {
-      low = λ v h. ⊎-elim
-          (λ (a : nv ≤ v). omega (arith, at-64 256 v (fresh ws noted) h, lit-out v a h .0, at-64 256 v noted h, f .low v h))
-          (λ (a : v < nv). omega (arith, at-64 256 v (fresh ws noted) h, low-lit-word v (omega (arith, nv-is))))
-          (le-or-lt nv v);
-      high = λ v h. ⊎-elim
-          (λ (a : nv ≤ v). omega (arith, at-64 320 v (fresh ws noted) h, lit-out v a h .1, at-64 320 v noted h, f .high v h))
-          (λ (a : v < nv). omega (arith, at-64 320 v (fresh ws noted) h, high-lit-word v (omega (arith, nv-is))))
-          (le-or-lt nv v);
+    pub fresh-bounds : BoundsFit ws (fresh ws noted)
+    fresh-bounds = record {
+      lower = λ v a h. omega (arith, bound-is v a 128 0, low-word v a, first-fits v a);
+      upper = λ v a h. omega (arith, bound-is v a 192 0, high-word v a, last-fits v a);
+      lowerLit = λ v a h. omega (arith, bound-is v a 256 65535, low-lit-word v a);
+      upperLit = λ v a h. omega (arith, bound-is v a 320 65535, high-lit-word v a);
     }
