@@ -15,10 +15,28 @@ use Rattle.noting.specs.Words.{litsOf}
 use Rattle.reasons.specs.declared.Verdict.the-variants.{Going, ZeroSize}
 use Rattle.reasons.specs.Words.{packed, packedLits, litWord, put, firstWord, secondWord, stored}
 use Rattle.reasons.specs.Verdicts.{verdictOf, begun, ran, ranOf}
-use Rattle.steps.specs.SameSize.{leadsToFixed}
+use Rattle.steps.specs.SameSize.{leadsToFixed, oneSize}
 use Rattle.steps.proofs.Pass.{Follows, follows, pass-regular}
 use Rattle.steps.proofs.Shapes.{ends-or-proposes-both}
 use Rattle.steps.proofs.Bounds.{lit-word}
+
+-- two regions' bounds, and what they weigh with a third
+module _ (la ua lb ub m : ℕ) where
+  pub one-not : (la ≡ ua → ⊥) → false ≡ oneSize la ua lb ub m
+  unfolding oneSize
+  one-not n = simp (ne-eqb la ua n)
+
+  pub one-not-2 : la ≡ ua → (lb ≡ ub → ⊥) → false ≡ oneSize la ua lb ub m
+  unfolding oneSize
+  one-not-2 e n = simp (eq-eqb la ua e, ne-eqb lb ub n)
+
+  pub one-not-3 : la ≡ ua → lb ≡ ub → (la ≡ lb → ⊥) → false ≡ oneSize la ua lb ub m
+  unfolding oneSize
+  one-not-3 e f n = simp (eq-eqb la ua e, eq-eqb lb ub f, ne-eqb la lb n)
+
+  pub one-is : la ≡ ua → lb ≡ ub → la ≡ lb → ltb la m ≡ oneSize la ua lb ub m
+  unfolding oneSize
+  one-is e f h = simp (eq-eqb la ua e, eq-eqb lb ub f, eq-eqb la lb h)
 
 module _ (d : Plan) (s : State) (w : View) (u g : ℕ) where
   pub leads-not : touches d u g ≡ false → false ≡ leadsToFixed d s w u g
@@ -61,8 +79,8 @@ module _ (d : Plan) (s : State) (w : View) (u g h : ℕ) where
 
   -- the code's regions x and y, the weight z of u's own, and its test
   pub same-are : (x y z : ℕ) (b : Bool) → forks d s w u g h ≡ true → x ≡ w .did (across d u g) → y ≡ w .did (across d u h) → z ≡ w .dw (w .did u) →
-      b ≡ (eqb (w .low x) (w .up x) && eqb (w .low y) (w .up y)) && (eqb (w .low x) (w .low y) && ltb (w .low x) (w .dw x + w .dw y + z)) → b ≡ sameSize d s w u g h
-  unfolding sameSize
+      b ≡ oneSize (w .low x) (w .up x) (w .low y) (w .up y) (w .dw x + w .dw y + z) → b ≡ sameSize d s w u g h
+  unfolding sameSize oneSize
   same-are x y z b e k l m t = simp (e, ← k, ← l, ← m) t
 
   module _ (a : List ℕ) where

@@ -19,10 +19,8 @@ use views::region_lower_bound_idx;
 use views::region_upper_bound;
 use views::region_upper_bound_idx;
 ghost use mathlib.Core.Path.{_≡_};
-ghost use mathlib.Core.Bool.{_&&_};
 ghost use mathlib.Core.List.{[]};
 ghost use Prim.Native.Nat.{_+_, _<_, _≤_};
-ghost use lib.Dec.{eqb, ltb};
 ghost use Rattle.base.specs.Iter.{iter};
 ghost use Rattle.plan.specs.Words.{verticesOf, edgesOf};
 ghost use Rattle.noting.specs.Words.{lowerLitOf, upperLitOf};
@@ -32,7 +30,7 @@ ghost use Rattle.division.specs.Analysis.{forks, sameSize, parted, partsAt, gua
 ghost use Rattle.reasons.specs.Words.{packedLits};
 ghost use Rattle.reasons.specs.Verdicts.{begun, ran, ranOf};
 ghost use Rattle.steps.specs.Placed.{placed, words, on};
-ghost use Rattle.steps.specs.SameSize.{leadsToFixed};
+ghost use Rattle.steps.specs.SameSize.{leadsToFixed, oneSize};
 
 // Whether edge g is at vertex u.
 fn touches(edges: &[[u8; 2]; 128], u: usize, g: usize) -> bool
@@ -109,7 +107,7 @@ fn forks(
 
 // Whether regions a and b have one and the same fixed size, less than they weigh together with `weight`.
 fn one_size(view: &[u32; 512], a: usize, b: usize, weight: u32) -> bool
-    ensures { λ r. ⌜ r ≡ ((eqb (lowerBoundOf (now (view .entry)) a) (upperBoundOf (now (view .entry)) a) && eqb (lowerBoundOf (now (view .entry)) b) (upperBoundOf (now (view .entry)) b)) && (eqb (lowerBoundOf (now (view .entry)) a) (lowerBoundOf (now (view .entry)) b) && ltb (lowerBoundOf (now (view .entry)) a) (decidedWeightOf (now (view .entry)) a + decidedWeightOf (now (view .entry)) b + weight))) ⌝ }
+    ensures { λ r. ⌜ r ≡ oneSize (lowerBoundOf (now (view .entry)) a) (upperBoundOf (now (view .entry)) a) (lowerBoundOf (now (view .entry)) b) (upperBoundOf (now (view .entry)) b) (decidedWeightOf (now (view .entry)) a + decidedWeightOf (now (view .entry)) b + weight) ⌝ }
 {
     let size = region_lower_bound(view, a);
     if size != region_upper_bound(view, a) {

@@ -1,8 +1,7 @@
 use mathlib.Core.Path.{_≡_, refl, sym, ap, ap₂, _∙_}
 use native.Mathlib.Omega.{arith}
-use borrow.Author.Tests.{lt-ltb, le-ltb, eq-eqb, ne-eqb}
-use Rattle.base.proofs.Tests.{and-next, and-no, or-yes, or-next}
-use Prim.Native.Nat.{_+_}
+use Rattle.steps.proofs.Forks.{one-not, one-not-2, one-not-3, one-is}
+use Prim.Native.Nat.{ℕ, _+_}
 use lib.Dec.{ltb}
 use borrow.Author.Needs.{needs}
 use Rattle.steps.proofs.step5.one_size.Statement.{statement}
@@ -15,7 +14,7 @@ region-upper-bound-requires : tie.Need-region-upper-bound-requires
 region-upper-bound-requires c κs = search needs
 
 returns : tie.Need-returns
-returns c = ?
+returns c = one-not _ _ _ _ _ (λ e. (c .if1 .taken) ((c .before .before .region-lower-bound .ensures) ∙ (e ∙ sym (c .before .region-upper-bound .ensures))))
 
 region-lower-bound-requires-2 : tie.Need-region-lower-bound-requires-2
 region-lower-bound-requires-2 c κs = search needs
@@ -24,13 +23,13 @@ region-upper-bound-requires-2 : tie.Need-region-upper-bound-requires-2
 region-upper-bound-requires-2 c κs = search needs
 
 returns-2 : tie.Need-returns-2
-returns-2 c = ?
+returns-2 c = one-not-2 _ _ _ _ _ (sym (c .before .before .before .before .before .region-lower-bound .ensures) ∙ ((c .before .before .before .if1 .left) ∙ (c .before .before .before .before .region-upper-bound .ensures))) (λ e. (c .if2 .taken) ((c .before .before .region-lower-bound2 .ensures) ∙ (e ∙ sym (c .before .region-upper-bound2 .ensures))))
 
 region-lower-bound-requires-3 : tie.Need-region-lower-bound-requires-3
 region-lower-bound-requires-3 c κs = search needs
 
 returns-3 : tie.Need-returns-3
-returns-3 c = ?
+returns-3 c = one-not-3 _ _ _ _ _ (sym (c .before .before .before .before .before .before .before .region-lower-bound .ensures) ∙ ((c .before .before .before .before .before .if1 .left) ∙ (c .before .before .before .before .before .before .region-upper-bound .ensures))) (sym (c .before .before .before .before .region-lower-bound2 .ensures) ∙ ((c .before .before .if2 .left) ∙ (c .before .before .before .region-upper-bound2 .ensures))) (λ e. (c .if3 .taken) ((c .before .before .before .before .before .before .before .region-lower-bound .ensures) ∙ (e ∙ sym (c .before .region-lower-bound3 .ensures))))
 
 decided-region-weight-requires : tie.Need-decided-region-weight-requires
 decided-region-weight-requires c κs = search needs
@@ -54,7 +53,9 @@ add-result : tie.Need-add-result
 add-result c = search needs
 
 returns-4 : tie.Need-returns-4
-returns-4 c = ?
+returns-4 c =
+    ap₂ ltb (c .before .before .before .before .before .before .before .before .before .region-lower-bound .ensures) (ap₂ (λ (i j : ℕ). i + j + (c .before .before .before .before .before .before .before .before .before .before .args .weight)) (c .before .decided-region-weight .ensures) (c .decided-region-weight2 .ensures))
+    ∙ one-is _ _ _ _ _ (sym (c .before .before .before .before .before .before .before .before .before .region-lower-bound .ensures) ∙ ((c .before .before .before .before .before .before .before .if1 .left) ∙ (c .before .before .before .before .before .before .before .before .region-upper-bound .ensures))) (sym (c .before .before .before .before .before .before .region-lower-bound2 .ensures) ∙ ((c .before .before .before .before .if2 .left) ∙ (c .before .before .before .before .before .region-upper-bound2 .ensures))) (sym (c .before .before .before .before .before .before .before .before .before .region-lower-bound .ensures) ∙ ((c .before .before .if3 .left) ∙ (c .before .before .before .region-lower-bound3 .ensures)))
 
 pub one-size-spec : {M : Type 1} → statement M
 one-size-spec =

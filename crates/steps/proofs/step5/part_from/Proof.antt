@@ -1,64 +1,61 @@
+use Prim.Native.Nat.{ℕ, _≤_, _-_}
+use native.Mathlib.Omega.{arith}
+use mathlib.Core.Path.{_≡_, sym, ap, _∙_}
+use borrow.Author.Needs.{needs}
+use Rattle.base.specs.Iter.{iter}
+use Rattle.reasons.specs.declared.Verdict.the-variants.{Going}
+use Rattle.reasons.specs.Verdicts.{begun, ran, ranOf}
+use Rattle.steps.specs.Placed.{words, on}
+use Rattle.steps.proofs.Pass.{ran-none, ran-more, ran-done, ran-length, ran-halt, goes-going}
+use Rattle.division.specs.Plan.{touches, across}
+use Rattle.division.specs.Analysis.{parted, guarded, loose}
+use Rattle.steps.specs.SameSize.{leadsToFixed}
+use Rattle.steps.proofs.Forks.{parted-none, parted-follows}
 use Rattle.steps.proofs.step5.part_from.Statement.{statement}
 use Rattle.steps.proofs.step5.part_from.Tie as tie
-use Rattle.steps.proofs.step5.part_from.Reads as reads
-use Rattle.steps.proofs.step5.part_from.Lts as lts
-use Rattle.reasons.proofs.goes_on.Reads as goes-on-reads
-use Rattle.steps.proofs.step5.leads_to_fixed.Reads as leads-to-fixed-reads
-use Rattle.steps.proofs.step5.parted.Reads as parted-reads
 
 abbrev Inv-loop : tie.InvT-loop
-Inv-loop plan edges noted view u g proposals₀ h₀ proposals h = ?
+Inv-loop plan edges noted view u g proposals₀ h₀ proposals h = (h ≤ g) × (ran Going proposals ≡ ranOf (iter (guarded (on parted (words plan edges noted view) u g)) h begun) proposals₀)
 
 abbrev μ-loop : tie.MeasureT-loop
-μ-loop plan edges noted view u g proposals₀ h₀ proposals h = ?
+μ-loop plan edges noted view u g proposals₀ h₀ proposals h = g - h
 
--- src/step5.rt:199:8
 leads-to-fixed-requires : tie.Need-leads-to-fixed-requires Inv-loop μ-loop
-leads-to-fixed-requires c κs = ?
+leads-to-fixed-requires c κs = search needs
 
--- src/step5.rt:200:9
 loop-holds : tie.Need-loop-holds Inv-loop μ-loop
-loop-holds c = ?
+loop-holds c = (omega arith, ran-none _ _)
 
--- src/step5.rt:201:17
 parted-requires : tie.Need-parted-requires Inv-loop μ-loop
-parted-requires c κs = ?
+parted-requires c κs = (omega arith, omega arith)
 
--- src/step5.rt:202:16
 goes-on-requires : tie.Need-goes-on-requires Inv-loop μ-loop
-goes-on-requires c κs = ?
+goes-on-requires c κs = search needs
 
--- src/step5.rt:203:17
 add-h : tie.Need-add-h Inv-loop μ-loop
-add-h c = ?
+add-h c = omega arith
 
--- src/step5.rt:200:9
 loop-less : tie.Need-loop-less Inv-loop μ-loop
-loop-less c = ?
+loop-less c = omega arith
 
--- src/step5.rt:200:9
 loop-again : tie.Need-loop-again Inv-loop μ-loop
-loop-again c = ?
+loop-again c = (omega arith, ran-more _ (parted-follows _ _ _ _ _) _ _ _ _ _ (c .before .before .before .before .before .before .before .loop .inv .1) (goes-going _ _ _ _ (sym (c .before .goes-on .ensures) ∙ (c .if2 .taken)) (c .before .before .before .before .parted .ensures)))
 
--- src/step5.rt:205:13
 same-length : tie.Need-same-length Inv-loop μ-loop
-same-length c = ?
+same-length c = ran-length _ _ _ _ (ran-more _ (parted-follows _ _ _ _ _) _ _ _ _ _ (c .before .before .before .before .before .before .before .loop .inv .1) (c .before .before .before .before .parted .ensures))
 
--- src/step5.rt:205:13
 returns : tie.Need-returns Inv-loop μ-loop
-returns c = ?
+returns c = ran-halt _ _ _ _ _ _ (sym (c .before .goes-on .ensures) ∙ (c .if2 .left)) (omega arith) (ran-more _ (parted-follows _ _ _ _ _) _ _ _ _ _ (c .before .before .before .before .before .before .before .loop .inv .1) (c .before .before .before .before .parted .ensures))
 
--- src/step5.rt:187:1
 same-length-2 : tie.Need-same-length-2 Inv-loop μ-loop
-same-length-2 c = ?
+same-length-2 c = ran-length _ _ _ _ (c .before .loop .inv .1)
 
--- src/step5.rt:187:1
 returns-2 : tie.Need-returns-2 Inv-loop μ-loop
-returns-2 c = ?
+returns-2 c = ran-done _ _ _ _ _ (c .before .loop .inv .1) (omega arith) (omega arith)
 
--- src/step5.rt:187:1
 returns-3 : tie.Need-returns-3 Inv-loop μ-loop
-returns-3 c = ?
+unfolding leadsToFixed touches across loose iter ranOf
+returns-3 c = ran-none (on parted (words (c .before .before .before .args .plan .now) (c .before .before .before .args .edges .now) (c .before .before .before .args .noted .now) (c .before .before .before .args .view .now)) (c .before .before .before .args .u) (c .before .before .before .args .g)) _ ∙ ap (λ q. ranOf q (c .before .before .before .args .proposals .now)) (sym (parted-none _ _ _ _ _ (c .before .before .before .args .g) (sym (c .before .leads-to-fixed .ensures) ∙ (c .if1 .left))))
 
 pub part-from-spec : {M : Type 1} → statement M
 part-from-spec =

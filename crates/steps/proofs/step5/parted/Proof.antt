@@ -1,80 +1,71 @@
+use Rattle.views.specs.Words.{lowerBoundOf}
+use mathlib.Core.Path.{_≡_, refl, sym, ap, ap₂, _∙_}
+use native.Mathlib.Omega.{arith}
+use Rattle.division.specs.Plan.{touches, across}
+use Rattle.division.specs.Analysis.{sameSize, forks, loose}
+use Rattle.reasons.specs.declared.Verdict.the-variants.{Going}
+use Rattle.reasons.specs.Verdicts.{ran}
+use Rattle.reasons.specs.Words.{put}
+use Rattle.steps.proofs.Forks.{parted-not, parted-zero, parted-some, same-first, same-second}
 use borrow.Author.Needs.{needs}
 use Rattle.steps.proofs.step5.parted.Statement.{statement}
 use Rattle.steps.proofs.step5.parted.Tie as tie
-use Rattle.steps.proofs.step5.parted.Reads as reads
-use Rattle.steps.proofs.step5.parted.Lts as lts
-use Rattle.reasons.proofs.packed.Reads as packed-reads
-use Rattle.reasons.proofs.put.Reads as put-reads
-use Rattle.steps.proofs.edge_place.Reads as edge-place-reads
-use Rattle.steps.proofs.step5.across.Reads as across-reads
-use Rattle.steps.proofs.step5.region_across.Reads as region-across-reads
-use Rattle.steps.proofs.step5.region_lits.Reads as region-lits-reads
-use Rattle.steps.proofs.step5.same_size.Reads as same-size-reads
-use Rattle.views.proofs.region_lower_bound.Reads as region-lower-bound-reads
 
--- src/step5.rt:173:8
 same-size-requires : tie.Need-same-size-requires
 same-size-requires c κs = search needs
 
--- src/step5.rt:174:13
 region-across-requires : tie.Need-region-across-requires
 region-across-requires c κs = search needs
 
--- src/step5.rt:175:12
 region-lower-bound-requires : tie.Need-region-lower-bound-requires
 region-lower-bound-requires c κs = search needs
 
--- src/step5.rt:176:13
 returns : tie.Need-returns
-returns c = ?
+unfolding across touches loose forks sameSize
+returns c = parted-zero _ _ _ _ _ _ _ (sym (c .before .before .before .before .same-size .ensures) ∙ (c .before .before .before .if1 .taken)) (sym (ap (lowerBoundOf (c .before .before .before .before .before .before .args .view .now)) (c .before .before .region-across .ensures)) ∙ (sym (c .before .region-lower-bound .ensures) ∙ (c .if2 .taken)))
 
--- src/step5.rt:178:31
 across-requires : tie.Need-across-requires
 across-requires c κs = search needs
 
--- src/step5.rt:178:52
 across-requires-2 : tie.Need-across-requires-2
 across-requires-2 c κs = search needs
 
--- src/step5.rt:178:13
 packed-requires : tie.Need-packed-requires
 packed-requires c κs = search needs
 
--- src/step5.rt:179:50
 region-across-requires-2 : tie.Need-region-across-requires-2
 region-across-requires-2 c κs = search needs
 
--- src/step5.rt:179:13
 region-lits-requires : tie.Need-region-lits-requires
 region-lits-requires c κs = search needs
 
--- src/step5.rt:180:24
 edge-place-requires : tie.Need-edge-place-requires
 edge-place-requires c κs = search needs
 
--- src/step5.rt:180:9
 put-requires : tie.Need-put-requires
 put-requires c κs = search needs
 
--- src/step5.rt:181:24
 edge-place-requires-2 : tie.Need-edge-place-requires-2
 edge-place-requires-2 c κs = search needs
 
--- src/step5.rt:181:9
 put-requires-2 : tie.Need-put-requires-2
 put-requires-2 c κs = search needs
 
--- src/step5.rt:160:1
 same-length : tie.Need-same-length
 same-length c = search needs
 
--- src/step5.rt:160:1
 returns-2 : tie.Need-returns-2
-returns-2 c = ?
+unfolding across touches loose forks sameSize
+returns-2 c =
+    ap (ran Going) ((c .before .before .put2 .ensures) ∙ ap (put (c .before .before .before .edge-place2 .result) (c .before .before .before .before .before .before .before .before .before .before .before .before .packed .result) (c .before .before .before .before .before .before .before .before .before .before .region-lits .result)) (c .before .before .before .before .before .before .before .put .ensures))
+    ∙ parted-some _ _ _ _ _ _ _ _ _ _ _ (sym (c .before .before .before .before .before .before .before .before .before .before .before .before .before .before .before .before .before .before .before .same-size .ensures) ∙ (c .before .before .before .before .before .before .before .before .before .before .before .before .before .before .before .before .before .before .if1 .taken))
+    (λ e. (c .before .before .before .before .before .before .before .before .before .before .before .before .before .before .before .if2 .left) ((c .before .before .before .before .before .before .before .before .before .before .before .before .before .before .before .before .region-lower-bound .ensures) ∙ (ap (lowerBoundOf (c .before .before .before .before .before .before .before .before .before .before .before .before .before .before .before .before .before .before .before .before .before .args .view .now)) (c .before .before .before .before .before .before .before .before .before .before .before .before .before .before .before .before .before .region-across .ensures) ∙ e))) (c .before .before .before .before .before .before .before .before .edge-place .ensures) (c .before .before .before .edge-place2 .ensures)
+    (same-first _ _ _ _ _ _ _ _ _ (c .before .before .before .before .before .before .before .before .before .before .before .before .before .before .across .ensures) (c .before .before .before .before .before .before .before .before .before .before .before .before .before .across2 .ensures) (c .before .before .before .before .before .before .before .before .before .before .before .before .packed .ensures))
+    (same-second _ _ _ _ _ _ _ _ _ _ _ _ _ (c .before .before .before .before .before .before .before .before .before .before .before .before .before .before .before .before .before .region-across .ensures) (c .before .before .before .before .before .before .before .before .before .before .before .region-across2 .ensures) refl refl refl refl (c .before .before .before .before .before .before .before .before .before .before .region-lits .ensures))
 
--- src/step5.rt:160:1
 returns-3 : tie.Need-returns-3
-returns-3 c = ?
+unfolding across touches loose forks sameSize
+returns-3 c = parted-not _ _ _ _ _ _ _ (sym (c .before .same-size .ensures) ∙ (c .if1 .left))
 
 pub parted-spec : {M : Type 1} → statement M
 parted-spec =
