@@ -8,18 +8,47 @@ pub mod step5;
 
 ghost use mathlib.Core.Path.{_≡_};
 ghost use mathlib.Core.List.{[]};
-ghost use Prim.Native.Nat.{ℕ, pred, suc, _+_, _*_, _<_, _≤_};
-ghost use lib.Dec.{ltb};
+ghost use Prim.Native.Nat.{ℕ, pred, suc, _+_, _*_, _/_, _<_, _≤_};
+ghost use mathlib.Core.Bool.{_&&_};
+ghost use lib.Dec.{eqb, ltb};
+ghost use Rattle.base.specs.Iter.{pick};
 ghost use lib.ListN.{getD};
 ghost use Rattle.sat.specs.Literal.{negate};
 ghost use Rattle.division.specs.Analysis.{place};
-ghost use Rattle.plan.specs.Words.{domainLenOf, domainOf};
+ghost use Rattle.plan.specs.Words.{domainLenOf, domainOf, placeOf, uniqueLitAt, variablesOf};
 ghost use Rattle.views.specs.Words.{decidedRegionOf, potentialRegionOf, decidedWeightOf, potentialWeightOf};
-ghost use Rattle.steps.specs.Placed.{edgePlaceOf, domPlaceOf};
+ghost use Rattle.steps.specs.Placed.{placeOfLit, placeFor, edgePlaceOf, domPlaceOf};
 
-// The place of edge g's literal.
-pub(crate) fn edge_place(plan: &[u32; 15241], g: usize) -> u32
-    ensures { λ r. ⌜ r ≡ edgePlaceOf (now (plan .entry)) g ⌝ }
+// The place of a literal among the distinct literals, found from its variable's.
+fn place_of_lit(plan: &[u32; 15241], lit: u32) -> u32
+    ensures { λ r. ⌜ r ≡ placeOfLit (now (plan .entry)) lit ⌝ }
+{
+    let k = noting::note::place_in(plan, lit / 2) % 2147483648;
+    2 * (k as u32) + lit % 2
+}
+
+fn is_place(plan: &[u32; 15241], p: u32, lit: u32) -> bool
+    ensures { λ r. ⌜ r ≡ (ltb (p / 2) (variablesOf (now (plan .entry))) && eqb (uniqueLitAt (now (plan .entry)) p) lit) ⌝ }
+{
+    if p / 2 < plan::num_variables(plan) {
+        return plan::unique_lit(plan, p as usize) == lit as u64;
+    }
+    false
+}
+
+// The same, where p may be it already: what the plan's index says is tested before it is used.
+fn place_for(plan: &[u32; 15241], p: u32, lit: u32) -> u32
+    ensures { λ r. ⌜ r ≡ placeFor (now (plan .entry)) p lit ⌝ }
+{
+    if is_place(plan, p, lit) {
+        return p;
+    }
+    place_of_lit(plan, lit)
+}
+
+// The slots' places in the plan's index.
+fn edge_index(plan: &[u32; 15241], g: usize) -> u32
+    ensures { λ r. ⌜ r ≡ pick (ltb g 128) (placeOf (now (plan .entry)) (2048 + g)) 0 ⌝ }
 {
     if g < 128 {
         return plan::place(plan, 2048 + g);
@@ -27,17 +56,29 @@ pub(crate) fn edge_place(plan: &[u32; 15241], g: usize) -> u32
     0
 }
 
-// The place of size literal j of vertex v.
-fn dom_place(plan: &[u32; 15241], v: usize, j: usize) -> u32
-    ensures { λ r. ⌜ r ≡ domPlaceOf (now (plan .entry)) v j ⌝ }
+fn dom_index(plan: &[u32; 15241], v: usize, j: usize) -> u32
+    ensures { λ r. ⌜ r ≡ pick (ltb v 64 && ltb j 32) (placeOf (now (plan .entry)) (32 * v + j)) 0 ⌝ }
 {
     if v < 64 {
         if j < 32 {
             return plan::place(plan, 32 * v + j);
         }
-        return 0;
     }
     0
+}
+
+// The place of edge g's literal.
+pub(crate) fn edge_place(plan: &[u32; 15241], g: usize) -> u32
+    ensures { λ r. ⌜ r ≡ edgePlaceOf (now (plan .entry)) g ⌝ }
+{
+    place_for(plan, edge_index(plan, g), plan::edge_lit(plan, g))
+}
+
+// The place of size literal j of vertex v.
+fn dom_place(plan: &[u32; 15241], v: usize, j: usize) -> u32
+    ensures { λ r. ⌜ r ≡ domPlaceOf (now (plan .entry)) v j ⌝ }
+{
+    place_for(plan, dom_index(plan, v, j), plan::dom_lit(plan, v, j))
 }
 
 // The place of the other literal of the same variable.
