@@ -5,3 +5,5 @@ pub mod Matching
 pub mod Bounds
 pub mod Spreading
 pub mod Forks
+pub mod Relabelled
+pub mod Places
