@@ -14,7 +14,7 @@ use Rattle.plan.specs.Words.{word, verticesOf, edgesOf, weightOf}
 use Rattle.views.specs.declared.compute.Regions.{Regions}
 use Rattle.views.specs.declared.compute.Bounds.{Bounds}
 
-abbrev zeros : List ℕ
+abbrev pub zeros : List ℕ
 zeros = replicate 64 0
 
 -- the weights of 64 vertices

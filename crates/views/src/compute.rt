@@ -37,7 +37,12 @@ fn weight_words(plan: &[u32; 15241]) -> [u32; 64]
     words
 }
 
-fn compute(plan: &[u32; 15241], edges: [[u8; 2]; 128], noted: &[u32; 384], potential: bool) -> Regions
+fn compute(
+    plan: &[u32; 15241],
+    edges: [[u8; 2]; 128],
+    noted: &[u32; 384],
+    potential: bool,
+) -> Regions
     ensures { λ r. ⌜ r ≡ regionsFrom (now (plan .entry)) edges (now (noted .entry)) potential ⌝ }
 {
     let vertices = plan::num_vertices(plan) as usize;
@@ -62,7 +67,13 @@ fn compute(plan: &[u32; 15241], edges: [[u8; 2]; 128], noted: &[u32; 384], poten
 }
 
 // The bounds stand from word `first` on.
-fn bound(labels: &[u8; 64], noted: &[u32; 384], first: usize, vertices: usize, upper: bool) -> Bounds
+fn bound(
+    labels: &[u8; 64],
+    noted: &[u32; 384],
+    first: usize,
+    vertices: usize,
+    upper: bool,
+) -> Bounds
     ensures { λ r. ⌜ r ≡ boundsFrom (now (labels .entry)) (now (noted .entry)) first vertices upper ⌝ }
 {
     let mut bounds = [0u32; 64];
@@ -131,7 +142,12 @@ fn store_bounds(b: Bounds, view: &mut [u32; 512], from: usize)
 
 // The regions of the noted words, their weights and bounds. The answer is false, and the view stays, where there are none: a count is
 // past its limit, an edge's end is no vertex, or a weight is over 1,000,000.
-pub fn compute_view(plan: &[u32; 15241], edges: [[u8; 2]; 128], noted: &[u32; 384], view: &mut [u32; 512]) -> bool
+pub fn compute_view(
+    plan: &[u32; 15241],
+    edges: [[u8; 2]; 128],
+    noted: &[u32; 384],
+    view: &mut [u32; 512],
+) -> bool
     ensures { λ r. ⌜ computedOf r (now (view .exit)) ≡ computeView (now (plan .entry)) edges (now (noted .entry)) (now (view .entry)) ⌝ }
 {
     let vertices = plan::num_vertices(plan) as usize;
