@@ -1,3 +1,6 @@
 pub mod Filling
 pub mod Computing
 pub mod Viewed
+pub mod Taken
+pub mod Inserting
+pub mod Order

@@ -1,2 +1,3 @@
 pub mod Words
 pub mod Compute
+pub mod Cells
