@@ -4,3 +4,4 @@ pub mod Viewed
 pub mod Taken
 pub mod Inserting
 pub mod Order
+pub mod Separated
