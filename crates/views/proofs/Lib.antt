@@ -5,3 +5,4 @@ pub mod Taken
 pub mod Inserting
 pub mod Order
 pub mod Separated
+pub mod Ties

@@ -2,6 +2,7 @@
 // which word is which; every function answers 0 past its limit.
 pub mod cells;
 pub mod compute;
+pub mod members;
 
 ghost use mathlib.Core.Path.{_≡_};
 ghost use Prim.Native.Nat.{_+_, _≤_};
