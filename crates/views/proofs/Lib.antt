@@ -6,3 +6,4 @@ pub mod Inserting
 pub mod Order
 pub mod Separated
 pub mod Ties
+pub mod Meets
