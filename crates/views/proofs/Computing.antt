@@ -1,6 +1,6 @@
 -- The returns of the functions that compute a view, over plain variables.
 use Prim.Native.Nat.{ℕ, _+_}
-use mathlib.Core.Path.{_≡_, refl, sym, ap, ap₂, _∙_}
+use mathlib.Core.Path.{_≡_, sym, ap, _∙_}
 use mathlib.Core.Bool.{Bool, true, false, _&&_}
 use mathlib.Core.List.{List}
 use Rattle.base.specs.Iter.{pick}
@@ -14,7 +14,7 @@ use Rattle.regions.specs.Buckets.{weighable, weighed}
 use Rattle.plan.specs.Words.{word, verticesOf, edgesOf}
 use Rattle.views.specs.declared.compute.Regions.{Regions}
 use Rattle.views.specs.declared.compute.Bounds.{Bounds}
-use Rattle.views.specs.Compute.{zeros, weightWords, regionsFrom, boundsFrom, withRegions, withBounds, Computed, computedOf, computeView}
+use Rattle.views.specs.Compute.{zeros, weightWords, regionsFrom, boundsFrom, withRegions, withBounds, computedOf, computeView}
 
 abbrev pub regionsIn : Bool → List ℕ → List ℕ → Regions
 regionsIn k l w = record { known = k; labels = l; weights = w }

@@ -1,7 +1,6 @@
 -- Words that a loop stores in a row.
 use Prim.Native.Nat.{ℕ, _+_, _≤_}
-use native.Mathlib.Omega.{arith}
-use mathlib.Core.Path.{_≡_, refl, sym, ap, ap₂, _∙_}
+use mathlib.Core.Path.{_≡_, ap₂}
 use mathlib.Core.List.{List}
 use lib.ListN.{set}
 use Rattle.base.specs.Lists.{filled}

@@ -1,14 +1,13 @@
 -- Step 4 may test a region's two bounds first and search only then: where the vertices that it would name do not meet, the bounds do not.
 use Prim.Native.Nat.{ℕ, _<_, _≤_}
 use native.Mathlib.Omega.{arith}
-use mathlib.Core.Path.{_≡_, refl, sym, ap, _∙_, subst}
-use mathlib.Core.Bool.{Bool, true, false}
+use mathlib.Core.Path.{_≡_, sym, _∙_, subst}
+use mathlib.Core.Bool.{true, false}
 use mathlib.Core.List.{List}
 use lib.Dec.{ltb}
 use lib.ListN.{length}
 use borrow.Author.Tests.{lt-ltb}
 use Rattle.base.specs.Lists.{Every}
-use Rattle.base.specs.Iter.{pick}
 use Rattle.base.proofs.Loop.{pick-yes}
 use Rattle.graph.proofs.Walkable.{fine-walkable}
 use Rattle.plan.specs.Words.{verticesOf, edgesOf}
@@ -68,8 +67,11 @@ module _ (ws : List ℕ) (ends : List (List ℕ)) (p : ProperWords ws ends) (not
     tight : s .upper (upperVertex r) < s .lower (lowerVertex r) → x .up r < x .low r
     unfolding viewOf
     tight l =
-        omega (arith, up-tight (upperVertex r) (best-has (λ q. (q < verticesOf ws) × (x .did q ≡ r)) (lesser s) r (x .members r) (h, own) inside),
-        low-tight (lowerVertex r) (best-has (λ q. (q < verticesOf ws) × (x .did q ≡ r)) (higher s) r (x .members r) (h, own) inside))
+        omega (
+          arith,
+          up-tight (upperVertex r) (best-has (λ q. (q < verticesOf ws) × (x .did q ≡ r)) (lesser s) r (x .members r) (h, own) inside),
+          low-tight (lowerVertex r) (best-has (λ q. (q < verticesOf ws) × (x .did q ≡ r)) (higher s) r (x .members r) (h, own) inside),
+        )
 
   -- for any words that show the state's view
   pub bounds-first : (w : List ℕ) → SameView d (shown d s w) x → (r : ℕ) → r < verticesOf ws → decidedRegionOf w r ≡ r →

@@ -5,18 +5,18 @@ use mathlib.Core.Path.{_≡_, refl, sym, ap, ap₂, _∙_, subst}
 use mathlib.Core.Bool.{Bool, true, false}
 use mathlib.Core.List.{List, [], _∷_, _++_, append-assoc, append-nil}
 use lib.Dec.{ltb}
-use lib.ListN.{length, getD, set, length-set, length-replicate}
+use lib.ListN.{length, set, length-set, length-replicate}
 use borrow.Author.Tests.{lt-ltb, le-ltb}
 use Rattle.base.specs.Iter.{pick}
 use Rattle.base.specs.Lists.{tab}
 use Rattle.base.proofs.Loop.{pick-yes, pick-no, tested}
-use Rattle.graph.specs.Search.{Graph, graph, searched, at}
-use Rattle.graph.specs.Bounds.{Fine, walkable}
+use Rattle.graph.specs.Search.{graph, searched, at}
+use Rattle.graph.specs.Bounds.{walkable}
 use Rattle.graph.proofs.Found.{found}
 use Rattle.walks.specs.declared.Listed.{Listed}
 use Rattle.walks.specs.declared.Listed.the-variants.{Past, Missing}
 use Rattle.walks.specs.declared.Shape.{Shape}
-use Rattle.walks.specs.Written.{Out, outOf, pushed, written}
+use Rattle.walks.specs.Written.{Out, outOf, written}
 use Rattle.walks.specs.Walk.{orderList, memberList}
 use Rattle.walks.specs.Answers.{Answer, answerOf, given, missing, startable, regionVertices}
 use Rattle.walks.proofs.Written.{pushed-room}

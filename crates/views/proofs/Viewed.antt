@@ -15,29 +15,28 @@ use Rattle.base.proofs.Loop.{pick-yes, pick-no}
 use Rattle.base.proofs.Filled.{filled-length, filled-in, filled-out}
 use Rattle.graph.specs.Search.{Graph, graph}
 use Rattle.graph.specs.Bounds.{walkable}
-use Rattle.graph.specs.Lists.{numberOf, every}
+use Rattle.graph.specs.Lists.{numberOf}
 use Rattle.graph.proofs.Lists.{every-all, and-both}
 use Rattle.graph.proofs.Walkable.{fine-walkable}
 use Rattle.regions.specs.Labels.{labelOf, labelled, regionsOf, Labelled}
-use Rattle.regions.specs.Buckets.{labelsBelow, weighable, weighed, Spot, spot, leastIn, mostIn, tightest, Marks, marks, claimed, boundsOf}
+use Rattle.regions.specs.Buckets.{labelsBelow, weighable, weighed, Spot, spot, leastIn, mostIn, tightest, Marks, marks, boundsOf}
 use Rattle.regions.proofs.Labels.{labelled-regions}
 use Rattle.regions.proofs.Buckets.{poured-weight}
 use Rattle.regions.proofs.Spots.{spotAt, claimed-spot, tightest-least, tightest-most}
 use Rattle.division.specs.Plan.{Plan, Proper}
 use Rattle.division.specs.Regions.{regionLabel}
 use Rattle.division.specs.State.{State, decided, potential}
-use Rattle.division.specs.Views.{weightOf, cellsOf, membersOf, sorted, viewOf}
-use Rattle.division.specs.Analysis.{View, analyzed}
+use Rattle.division.specs.Views.{weightOf, cellsOf, sorted, viewOf}
+use Rattle.division.specs.Analysis.{analyzed}
 use Rattle.division.proofs.Labels.{labels-agree}
 use Rattle.division.proofs.Agree.{SameView, pick-same, analyzed-same, view-in-range}
 use Rattle.division.proofs.Alike.{same-refl}
 use Rattle.plan.specs.Words.{word, entry, verticesOf, edgesOf, weightOf as weightAt, domainLenOf, domainOf, sameSizeOf, extraWallsOf}
-use Rattle.plan.specs.Plan.{planOf}
 use Rattle.plan.specs.Proper.{ProperWords}
 use Rattle.noting.specs.Words.{boundAt, lowerOf, upperOf, stateOf}
 use Rattle.views.specs.declared.compute.Regions.{Regions}
 use Rattle.views.specs.declared.compute.Bounds.{Bounds}
-use Rattle.views.specs.Words.{decidedRegionOf, potentialRegionOf, decidedWeightOf, potentialWeightOf, upperBoundOf, upperBoundAt, lowerBoundOf, lowerBoundAt, shown}
+use Rattle.views.specs.Words.{decidedRegionOf, potentialRegionOf, shown}
 use Rattle.views.specs.Compute.{zeros, weightWords, regionsFrom, boundsFrom, withRegions, withBounds, Computed, computedOf, computeView}
 
 -- the plan of the words with any literals in place of its own

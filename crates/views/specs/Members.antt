@@ -1,11 +1,10 @@
 -- Document 01, analysis, step 4: "Bounds inside one region must meet". The two vertices that a conflict names, as `meets` chooses them.
-use mathlib.Core.Bool.{Bool, true, false, _&&_}
+use mathlib.Core.Bool.{Bool, true, false}
 use mathlib.Core.List.{List}
 use Prim.Native.Nat.{ℕ}
 use lib.Dec.{ltb}
 use Rattle.base.specs.Iter.{pick}
 use Rattle.graph.specs.Bounds.{walkable}
-use Rattle.division.specs.Plan.{Plan}
 use Rattle.division.specs.State.{State, decided}
 use Rattle.division.specs.Views.{membersOf}
 use Rattle.division.specs.Analysis.{best}

@@ -5,7 +5,7 @@ use walks::Shape;
 use walks::region_vertices;
 ghost use mathlib.Core.Path.{_≡_};
 ghost use mathlib.Core.Bool.{true};
-ghost use Prim.Native.Nat.{ℕ, _≤_};
+ghost use Prim.Native.Nat.{_≤_};
 ghost use Rattle.division.specs.Analysis.{best};
 ghost use Rattle.noting.specs.Words.{stateOf};
 ghost use Rattle.views.specs.Cells.{takenOf};

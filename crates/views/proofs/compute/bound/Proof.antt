@@ -1,5 +1,4 @@
 use mathlib.Core.Path.{ap₂}
-use Prim.Native.Nat.{_-_}
 use borrow.Author.Needs.{needs}
 use mathlib.Core.Bool.{Bool}
 use Rattle.regions.specs.Buckets.{Marks}
@@ -12,7 +11,7 @@ region-bounds-requires c κs = search needs
 
 returns : tie.Need-returns
 unfolding boundsFrom
-returns c = ap₂ (λ (b : Bool) (x : Marks). record { known = b; bounds = x .bounds; holders = x .holders }) ((c .region-bounds .ensures .0)) ((c .region-bounds .ensures .1))
+returns c = ap₂ (λ (b : Bool) (x : Marks). record { known = b; bounds = x .bounds; holders = x .holders }) (c .region-bounds .ensures .0) (c .region-bounds .ensures .1)
 
 pub bound-spec : {M : Type 1} → statement M
 bound-spec = tie.close (tie.spec region-bounds-requires returns)

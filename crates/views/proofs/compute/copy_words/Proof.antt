@@ -38,10 +38,10 @@ loop-less : tie.Need-loop-less Inv-loop μ-loop
 loop-less c = omega arith
 
 loop-again : tie.Need-loop-again Inv-loop μ-loop
-loop-again c = (omega arith, filled-more _ _ _ _ _ _ _ ((c .before .before .loop .inv .1)) refl refl)
+loop-again c = (omega arith, filled-more _ _ _ _ _ _ _ (c .before .before .loop .inv .1) refl refl)
 
 returns : tie.Need-returns Inv-loop μ-loop
-returns c = filled-done _ _ _ _ _ _ ((c .before .loop .inv .1)) (omega arith) (omega arith)
+returns c = filled-done _ _ _ _ _ _ (c .before .loop .inv .1) (omega arith) (omega arith)
 
 pub copy-words-spec : {M : Type 1} → statement M
 copy-words-spec =

@@ -1,4 +1,3 @@
-use Prim.Native.Nat.{_-_}
 use borrow.Author.Needs.{needs}
 use Rattle.views.proofs.Computing.{with-bounds}
 use Rattle.views.proofs.compute.store_bounds.Statement.{statement}
@@ -14,7 +13,7 @@ copy-bytes-requires : tie.Need-copy-bytes-requires
 copy-bytes-requires c κs = search needs
 
 returns : tie.Need-returns
-returns c = with-bounds _ _ _ _ _ ((c .before .before .before .before .copy-words .ensures)) ((c .copy-bytes .ensures))
+returns c = with-bounds _ _ _ _ _ (c .before .before .before .before .copy-words .ensures) (c .copy-bytes .ensures)
 
 pub store-bounds-spec : {M : Type 1} → statement M
 store-bounds-spec =

@@ -1,4 +1,3 @@
-use Prim.Native.Nat.{_-_}
 use borrow.Author.Needs.{needs}
 use Rattle.views.proofs.Computing.{with-regions}
 use Rattle.views.proofs.compute.store_regions.Statement.{statement}
@@ -14,7 +13,7 @@ copy-words-requires : tie.Need-copy-words-requires
 copy-words-requires c κs = search needs
 
 returns : tie.Need-returns
-returns c = with-regions _ _ _ _ _ ((c .before .before .before .before .copy-bytes .ensures)) ((c .copy-words .ensures))
+returns c = with-regions _ _ _ _ _ (c .before .before .before .before .copy-bytes .ensures) (c .copy-words .ensures)
 
 pub store-regions-spec : {M : Type 1} → statement M
 store-regions-spec =

@@ -34,11 +34,11 @@ loop-less : tie.Need-loop-less Inv-loop μ-loop
 loop-less c = omega arith
 
 loop-again : tie.Need-loop-again Inv-loop μ-loop
-loop-again c = (omega arith, filled-more 0 _ _ _ _ _ _ ((c .before .before .loop .inv .1)) (omega arith) ((c .weight .ensures)))
+loop-again c = (omega arith, filled-more 0 _ _ _ _ _ _ (c .before .before .loop .inv .1) (omega arith) (c .weight .ensures))
 
 returns : tie.Need-returns Inv-loop μ-loop
 unfolding weightWords
-returns c = filled-done _ _ _ _ _ _ ((c .before .loop .inv .1)) (omega arith) (omega arith)
+returns c = filled-done _ _ _ _ _ _ (c .before .loop .inv .1) (omega arith) (omega arith)
 
 pub weight-words-spec : {M : Type 1} → statement M
 weight-words-spec =

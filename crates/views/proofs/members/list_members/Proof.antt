@@ -1,6 +1,5 @@
 use mathlib.Core.Bool.{false≢true}
 use mathlib.Core.Path.{_≡_}
-use Prim.Native.Nat.{_-_}
 use borrow.Author.Needs.{needs}
 use mathlib.Core.Bool.{true, false}
 use Rattle.views.proofs.Ties.{members-past, members-missing}
@@ -32,10 +31,10 @@ enum-told : tie.Need-enum-told
 enum-told c = search needs
 
 returns : tie.Need-returns
-returns c = members-past ((c .before .before .before .before .before .before .before .before .before .args .plan .now)) ((c .before .before .before .before .before .before .before .before .before .args .edges)) ((c .before .before .before .before .before .before .before .before .before .args .noted .now)) ((c .before .before .before .before .before .before .before .before .before .args .region)) _ ((c .before .before .before .before .before .before .before .before .num-vertices .ensures)) ((c .before .before .before .before .before .before .before .num-edges .ensures)) _ _ ((c .before .before .before .before .region-vertices .ensures)) _ ((c .before .listed .given .1))
+returns c = members-past (c .before .before .before .before .before .before .before .before .before .args .plan .now) (c .before .before .before .before .before .before .before .before .before .args .edges) (c .before .before .before .before .before .before .before .before .before .args .noted .now) (c .before .before .before .before .before .before .before .before .before .args .region) _ (c .before .before .before .before .before .before .before .before .num-vertices .ensures) (c .before .before .before .before .before .before .before .num-edges .ensures) _ _ (c .before .before .before .before .region-vertices .ensures) _ (c .before .listed .given .1)
 
 returns-2 : tie.Need-returns-2
-returns-2 c = (members-missing ((c .before .before .before .before .before .before .before .before .args .plan .now)) ((c .before .before .before .before .before .before .before .before .args .edges)) ((c .before .before .before .before .before .before .before .before .args .noted .now)) ((c .before .before .before .before .before .before .before .before .args .region)) _ ((c .before .before .before .before .before .before .before .num-vertices .ensures)) ((c .before .before .before .before .before .before .num-edges .ensures)) _ _ ((c .before .before .before .region-vertices .ensures)) ((c .enum-told .given .1)), λ (e : false ≡ true). absurd (false≢true e))
+returns-2 c = (members-missing (c .before .before .before .before .before .before .before .before .args .plan .now) (c .before .before .before .before .before .before .before .before .args .edges) (c .before .before .before .before .before .before .before .before .args .noted .now) (c .before .before .before .before .before .before .before .before .args .region) _ (c .before .before .before .before .before .before .before .num-vertices .ensures) (c .before .before .before .before .before .before .num-edges .ensures) _ _ (c .before .before .before .region-vertices .ensures) (c .enum-told .given .1), λ (e : false ≡ true). absurd (false≢true e))
 
 pub list-members-spec : {M : Type 1} → statement M
 list-members-spec =

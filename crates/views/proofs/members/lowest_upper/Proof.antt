@@ -39,11 +39,11 @@ loop-less : tie.Need-loop-less Inv-loop μ-loop
 loop-less c = omega arith
 
 loop-again : tie.Need-loop-again Inv-loop μ-loop
-loop-again c = choose-next _ _ _ _ _ _ _ _ ((c .before .before .before .before .before .before .loop .inv)) ((c .before .before .before .before .before .loop-test .taken)) ((c .before .before .before .vertex .ensures))
-    (⊎-elim (λ x. chosen-yes _ _ _ _ _ _ _ ((c .before .before .upper-bound .ensures)) ((c .before .upper-bound2 .ensures)) (x .0 .taken) (x .1)) (λ x. chosen-no _ _ _ _ _ _ _ ((c .before .before .upper-bound .ensures)) ((c .before .upper-bound2 .ensures)) (x .0 .left) (x .1)) ((c .if1 .came)))
+loop-again c = choose-next _ _ _ _ _ _ _ _ (c .before .before .before .before .before .before .loop .inv) (c .before .before .before .before .before .loop-test .taken) (c .before .before .before .vertex .ensures)
+    (⊎-elim (λ x. chosen-yes _ _ _ _ _ _ _ (c .before .before .upper-bound .ensures) (c .before .upper-bound2 .ensures) (x .0 .taken) (x .1)) (λ x. chosen-no _ _ _ _ _ _ _ (c .before .before .upper-bound .ensures) (c .before .upper-bound2 .ensures) (x .0 .left) (x .1)) (c .if1 .came))
 
 returns : tie.Need-returns Inv-loop μ-loop
-returns c = choose-ends _ _ _ _ _ _ ((c .before .loop .inv)) (omega arith)
+returns c = choose-ends _ _ _ _ _ _ (c .before .loop .inv) (omega arith)
 
 pub lowest-upper-spec : {M : Type 1} → statement M
 lowest-upper-spec =
