@@ -1,5 +1,6 @@
 pub mod Filling
 pub mod Computing
+pub mod Rows
 pub mod Viewed
 pub mod Taken
 pub mod Inserting

@@ -3,16 +3,15 @@ use Prim.Native.Nat.{ℕ, zero, suc, _+_, _<_, _≤_}
 use native.Mathlib.Omega.{arith}
 use native.Mathlib.Nat.{le-step, lt-suc-self}
 use mathlib.Core.Path.{_≡_, refl, sym, ap, ap₂, _∙_, subst}
-use mathlib.Core.Logic.{_⊎_, inl, inr}
 use mathlib.Core.Bool.{Bool, true, false, _&&_}
 use mathlib.Core.List.{List, [], _∷_, _++_}
 use lib.Dec.{eqb, ltb}
 use lib.ListN.{length, getD, length-replicate}
 use borrow.Author.Tests.{lt-ltb, le-ltb}
 use Rattle.base.specs.Iter.{iter, pick}
-use Rattle.base.specs.Lists.{total, collect, filled}
+use Rattle.base.specs.Lists.{Every, total, collect}
 use Rattle.base.proofs.Loop.{pick-yes, pick-no}
-use Rattle.base.proofs.Filled.{filled-length, filled-in, filled-out}
+use Rattle.base.proofs.Filled.{filled-length, filled-in}
 use Rattle.graph.specs.Search.{Graph, graph}
 use Rattle.graph.specs.Bounds.{walkable}
 use Rattle.graph.specs.Lists.{numberOf}
@@ -27,17 +26,18 @@ use Rattle.division.specs.Plan.{Plan, Proper}
 use Rattle.division.specs.Regions.{regionLabel}
 use Rattle.division.specs.State.{State, decided, potential}
 use Rattle.division.specs.Views.{weightOf, cellsOf, sorted, viewOf}
-use Rattle.division.specs.Analysis.{analyzed}
+use Rattle.division.specs.Analysis.{View, analyzed}
 use Rattle.division.proofs.Labels.{labels-agree}
-use Rattle.division.proofs.Agree.{SameView, pick-same, analyzed-same, view-in-range}
+use Rattle.division.proofs.Agree.{SameView, InRange, pick-same, analyzed-same, view-in-range}
 use Rattle.division.proofs.Alike.{same-refl}
-use Rattle.plan.specs.Words.{word, entry, verticesOf, edgesOf, weightOf as weightAt, domainLenOf, domainOf, sameSizeOf, extraWallsOf}
+use Rattle.plan.specs.Words.{entry, verticesOf, edgesOf, weightOf as weightAt, domainLenOf, domainOf, sameSizeOf, extraWallsOf}
 use Rattle.plan.specs.Proper.{ProperWords}
 use Rattle.noting.specs.Words.{boundAt, lowerOf, upperOf, stateOf}
 use Rattle.views.specs.declared.compute.Regions.{Regions}
 use Rattle.views.specs.declared.compute.Bounds.{Bounds}
 use Rattle.views.specs.Words.{decidedRegionOf, potentialRegionOf, shown}
-use Rattle.views.specs.Compute.{zeros, weightWords, regionsFrom, boundsFrom, withRegions, withBounds, Computed, computedOf, computeView}
+use Rattle.views.proofs.Rows.{rows, row-0, row-64, row-128, row-192, row-256, row-320, row-384, row-448}
+use Rattle.views.specs.Compute.{zeros, weightWords, regionsFrom, boundsFrom, Computed, computedOf, computeView}
 
 -- the plan of the words with any literals in place of its own
 abbrev pub planWith : List ℕ → List (List ℕ) → (ℕ → ℕ) → (ℕ → ℕ → ℕ) → Plan
@@ -86,6 +86,17 @@ pub cells-same : (d : Plan) (s : State) (id id′ : ℕ → ℕ) (r : ℕ) → (
 unfolding cellsOf
 cells-same d s id id′ r h =
     ap (sorted s) (collect-same _ _ (d .vertices) (λ p l. ap (λ z. pick (eqb z r && ltb 0 (d .domainLen p)) (p ∷ []) []) (h p l)))
+
+-- views that agree name the same vertices
+pub same-in-range : (d : Plan) (w x : View) → SameView d w x → InRange d x → InRange d w
+same-in-range d w x q r = record {
+  did = λ v h. subst (λ (i : ℕ). i < d .vertices) (sym (q .did v h)) (r .did v h);
+  pid = λ v h. subst (λ (i : ℕ). i < d .vertices) (sym (q .pid v h)) (r .pid v h);
+  upAt = λ v h. subst (λ (i : ℕ). i < d .vertices) (sym (q .upAt v h)) (r .upAt v h);
+  lowAt = λ v h. subst (λ (i : ℕ). i < d .vertices) (sym (q .lowAt v h)) (r .lowAt v h);
+  members = λ v h. subst (Every (λ i. i < d .vertices)) (sym (q .members v h)) (r .members v h);
+  cells = λ v h. subst (Every (λ i. i < d .vertices)) (sym (q .cells v h)) (r .cells v h);
+}
 
 below-true : (l words : List ℕ) (first n : ℕ) → n ≤ 64 → first + n ≤ length words → ((v : ℕ) → v < n → labelOf l v < n) → labelsBelow l words first n ≡ true
 unfolding labelsBelow
@@ -199,148 +210,26 @@ module _ (ws : List ℕ) (ends : List (List ℕ)) (p : ProperWords ws ends) (not
     abbrev pub viewWords : List ℕ
     viewWords = computeView ws ends noted view .words
 
-    dec : Regions
-    dec = regionsFrom ws ends noted false
+    abbrev decidedIn : Regions
+    decidedIn = regionsFrom ws ends noted false
 
-    pot : Regions
-    pot = regionsFrom ws ends noted true
+    abbrev potentialIn : Regions
+    potentialIn = regionsFrom ws ends noted true
 
-    upp : Bounds
-    upp = boundsFrom dl noted 192 n true
+    abbrev uppers : Bounds
+    uppers = boundsFrom dl noted 192 n true
 
-    lowe : Bounds
-    lowe = boundsFrom dl noted 128 n false
+    abbrev lowers : Bounds
+    lowers = boundsFrom dl noted 128 n false
 
-    abbrev rows : List ℕ
-    rows = withBounds 384 lowe (withBounds 256 upp (withRegions 64 pot (withRegions 0 dec view)))
-
-    is-computed : computeView ws ends noted view ≡ computedOf true rows
-    unfolding computeView dec pot upp lowe
+    is-computed : computeView ws ends noted view ≡ computedOf true (rows decidedIn potentialIn uppers lowers view room)
+    unfolding computeView
     is-computed =
         pick-yes _ _ (and-both _ _ (regions-known false) (and-both _ _ (regions-known true) (and-both _ _ (bounds-known 192 true (omega arith)) (bounds-known 128 false (omega arith)))))
 
-    -- each row stands in its place
-    v1 : List ℕ
-    v1 = filled 0 64 (word (dec .labels)) view
-
-    v2 : List ℕ
-    v2 = filled 128 64 (word (dec .weights)) v1
-
-    v3 : List ℕ
-    v3 = filled 64 64 (word (pot .labels)) v2
-
-    v4 : List ℕ
-    v4 = filled 192 64 (word (pot .weights)) v3
-
-    v5 : List ℕ
-    v5 = filled 256 64 (word (upp .bounds)) v4
-
-    v6 : List ℕ
-    v6 = filled 320 64 (word (upp .holders)) v5
-
-    v7 : List ℕ
-    v7 = filled 384 64 (word (lowe .bounds)) v6
-
-    v8 : List ℕ
-    v8 = filled 448 64 (word (lowe .holders)) v7
-
-    rows-are : rows ≡ v8
-    unfolding withBounds withRegions v1 v2 v3 v4 v5 v6 v7 v8
-    rows-are = refl
-
-    l1 : length v1 ≡ 512
-    unfolding v1
-    l1 = filled-length 0 _ view 64 ∙ room
-
-    l2 : length v2 ≡ 512
-    unfolding v2
-    l2 = filled-length 128 _ v1 64 ∙ l1
-
-    l3 : length v3 ≡ 512
-    unfolding v3
-    l3 = filled-length 64 _ v2 64 ∙ l2
-
-    l4 : length v4 ≡ 512
-    unfolding v4
-    l4 = filled-length 192 _ v3 64 ∙ l3
-
-    l5 : length v5 ≡ 512
-    unfolding v5
-    l5 = filled-length 256 _ v4 64 ∙ l4
-
-    l6 : length v6 ≡ 512
-    unfolding v6
-    l6 = filled-length 320 _ v5 64 ∙ l5
-
-    l7 : length v7 ≡ 512
-    unfolding v7
-    l7 = filled-length 384 _ v6 64 ∙ l6
-
-    -- the later rows leave the earlier ones
-    p8 : (k : ℕ) → k < 448 → getD v8 k 0 ≡ getD v7 k 0
-    unfolding v8
-    p8 k h = filled-out 448 _ v7 64 k (inl h)
-
-    p7 : (k : ℕ) → k < 384 → getD v8 k 0 ≡ getD v6 k 0
-    unfolding v7
-    p7 k h = p8 k (omega arith) ∙ filled-out 384 _ v6 64 k (inl h)
-
-    p6 : (k : ℕ) → k < 320 → getD v8 k 0 ≡ getD v5 k 0
-    unfolding v6
-    p6 k h = p7 k (omega arith) ∙ filled-out 320 _ v5 64 k (inl h)
-
-    p5 : (k : ℕ) → k < 256 → getD v8 k 0 ≡ getD v4 k 0
-    unfolding v5
-    p5 k h = p6 k (omega arith) ∙ filled-out 256 _ v4 64 k (inl h)
-
-    p4 : (k : ℕ) → k < 192 → getD v8 k 0 ≡ getD v3 k 0
-    unfolding v4
-    p4 k h = p5 k (omega arith) ∙ filled-out 192 _ v3 64 k (inl h)
-
-    p3 : (k : ℕ) → k < 192 → (k < 64) ⊎ (128 ≤ k) → getD v8 k 0 ≡ getD v2 k 0
-    unfolding v3
-    p3 k h i = p4 k h ∙ filled-out 64 _ v2 64 k i
-
-    p2 : (k : ℕ) → k < 64 → getD v8 k 0 ≡ getD v1 k 0
-    unfolding v2
-    p2 k h = p3 k (omega arith) (inl h) ∙ filled-out 128 _ v1 64 k (inl (omega arith))
-
-    module _ (i : ℕ) (h : i < 64) where
-      r1 : getD v8 (0 + i) 0 ≡ word (dec .labels) i
-      unfolding v1
-      r1 = p2 (0 + i) (omega arith) ∙ filled-in 0 (word (dec .labels)) view 64 i h (omega arith)
-
-      r2 : getD v8 (128 + i) 0 ≡ word (dec .weights) i
-      unfolding v2
-      r2 = p3 (128 + i) (omega arith) (inr (omega arith)) ∙ filled-in 128 (word (dec .weights)) v1 64 i h (omega (arith, l1))
-
-      r3 : getD v8 (64 + i) 0 ≡ word (pot .labels) i
-      unfolding v3
-      r3 = p4 (64 + i) (omega arith) ∙ filled-in 64 (word (pot .labels)) v2 64 i h (omega (arith, l2))
-
-      r4 : getD v8 (192 + i) 0 ≡ word (pot .weights) i
-      unfolding v4
-      r4 = p5 (192 + i) (omega arith) ∙ filled-in 192 (word (pot .weights)) v3 64 i h (omega (arith, l3))
-
-      r5 : getD v8 (256 + i) 0 ≡ word (upp .bounds) i
-      unfolding v5
-      r5 = p6 (256 + i) (omega arith) ∙ filled-in 256 (word (upp .bounds)) v4 64 i h (omega (arith, l4))
-
-      r6 : getD v8 (320 + i) 0 ≡ word (upp .holders) i
-      unfolding v6
-      r6 = p7 (320 + i) (omega arith) ∙ filled-in 320 (word (upp .holders)) v5 64 i h (omega (arith, l5))
-
-      r7 : getD v8 (384 + i) 0 ≡ word (lowe .bounds) i
-      unfolding v7
-      r7 = p8 (384 + i) (omega arith) ∙ filled-in 384 (word (lowe .bounds)) v6 64 i h (omega (arith, l6))
-
-      r8 : getD v8 (448 + i) 0 ≡ word (lowe .holders) i
-      unfolding v8
-      r8 = filled-in 448 (word (lowe .holders)) v7 64 i h (omega (arith, l7))
-
     -- what an accessor reads
-    reads : (from : ℕ) (i x : ℕ) → i < 64 → getD v8 (from + i) 0 ≡ x → entry from 64 viewWords i ≡ x
-    reads from i x h e = entry-at from viewWords i h ∙ ap (λ (z : List ℕ). getD z (from + i) 0) (ap (λ (y : Computed). y .words) is-computed ∙ rows-are) ∙ e
+    reads : (from : ℕ) (i x : ℕ) → i < 64 → getD (rows decidedIn potentialIn uppers lowers view room) (from + i) 0 ≡ x → entry from 64 viewWords i ≡ x
+    reads from i x h e = entry-at from viewWords i h ∙ ap (λ (y : Computed). getD (y .words) (from + i) 0) is-computed ∙ e
 
     low64 : (v : ℕ) → v < n → v < 64
     low64 v h = omega (arith, p .fine .vertices)
@@ -351,29 +240,33 @@ module _ (ws : List ℕ) (ends : List (List ℕ)) (p : ProperWords ws ends) (not
 
     -- the view that the words stand for is that of the state
     pub viewed-same : SameView d (shown d s viewWords) (viewOf d s)
-    unfolding viewOf dec pot upp lowe
+    unfolding viewOf
     viewed-same = record {
       did = λ v h. did-is v h;
       pid = λ v h. pid-is v h;
-      dw = λ r h. reads 128 r _ (low64 r h) (r2 r (low64 r h)) ∙ weight-is false r h;
-      pw = λ r h. reads 192 r _ (low64 r h) (r4 r (low64 r h)) ∙ weight-is true r h;
-      up = λ r h. reads 256 r _ (low64 r h) (r5 r (low64 r h)) ∙ ap (λ (a : Spot). a .bound) (upper-is r h);
-      upAt = λ r h. reads 320 r _ (low64 r h) (r6 r (low64 r h)) ∙ ap (λ (a : Spot). a .vertex) (upper-is r h);
-      low = λ r h. reads 384 r _ (low64 r h) (r7 r (low64 r h)) ∙ ap (λ (a : Spot). a .bound) (lower-is r h);
-      lowAt = λ r h. reads 448 r _ (low64 r h) (r8 r (low64 r h)) ∙ ap (λ (a : Spot). a .vertex) (lower-is r h);
+      dw = λ r h. reads 128 r _ (low64 r h) (row-128 decidedIn potentialIn uppers lowers view room r (low64 r h)) ∙ weight-is false r h;
+      pw = λ r h. reads 192 r _ (low64 r h) (row-192 decidedIn potentialIn uppers lowers view room r (low64 r h)) ∙ weight-is true r h;
+      up = λ r h. reads 256 r _ (low64 r h) (row-256 decidedIn potentialIn uppers lowers view room r (low64 r h)) ∙ ap (λ (a : Spot). a .bound) (upper-is r h);
+      upAt = λ r h. reads 320 r _ (low64 r h) (row-320 decidedIn potentialIn uppers lowers view room r (low64 r h)) ∙ ap (λ (a : Spot). a .vertex) (upper-is r h);
+      low = λ r h. reads 384 r _ (low64 r h) (row-384 decidedIn potentialIn uppers lowers view room r (low64 r h)) ∙ ap (λ (a : Spot). a .bound) (lower-is r h);
+      lowAt = λ r h. reads 448 r _ (low64 r h) (row-448 decidedIn potentialIn uppers lowers view room r (low64 r h)) ∙ ap (λ (a : Spot). a .vertex) (lower-is r h);
       members = λ r h. refl;
       cells = λ r h. cells-same d s _ _ r pid-is;
     }
       where
         did-is : (v : ℕ) → v < n → decidedRegionOf viewWords v ≡ regionLabel d (decided d s) v
-        did-is v h = reads 0 v _ (low64 v h) (r1 v (low64 v h)) ∙ label-is false v h
+        did-is v h = reads 0 v _ (low64 v h) (row-0 decidedIn potentialIn uppers lowers view room v (low64 v h)) ∙ label-is false v h
 
         pid-is : (v : ℕ) → v < n → potentialRegionOf viewWords v ≡ regionLabel d (potential d s) v
-        pid-is v h = reads 64 v _ (low64 v h) (r3 v (low64 v h)) ∙ label-is true v h
+        pid-is v h = reads 64 v _ (low64 v h) (row-64 decidedIn potentialIn uppers lowers view room v (low64 v h)) ∙ label-is true v h
 
     -- and so the analysis of it is that of the state's view
     pub viewed : (computeView ws ends noted view .done ≡ true) × (analyzed d s (shown d s viewWords) ≡ analyzed d s (viewOf d s))
     viewed = (viewed-done, analyzed-same d proper-with s s (shown d s viewWords) (viewOf d s) (same-refl d s) viewed-same (view-in-range d proper-with s))
+
+    -- every vertex and every label that the words name is a vertex of the plan
+    pub viewed-in-range : InRange d (shown d s viewWords)
+    viewed-in-range = same-in-range d _ _ viewed-same (view-in-range d proper-with s)
 
     -- the same of what `compute_view` answers and leaves
     pub viewed-after : (r : Bool) (w : List ℕ) → computedOf r w ≡ computeView ws ends noted view →
