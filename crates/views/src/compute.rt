@@ -9,17 +9,17 @@ ghost use Rattle.plan.specs.Words.{word};
 ghost use Rattle.views.specs.Compute.{weightWords, computedOf, regionsFrom, boundsFrom, withRegions, withBounds, computeView};
 
 // Each vertex's label, and each region's weight at its label. Not known where the graph cannot be walked or the weights cannot be added.
-pub struct Regions {
-    pub known: bool,
-    pub labels: [u8; 64],
-    pub weights: [u32; 64],
+struct Regions {
+    known: bool,
+    labels: [u8; 64],
+    weights: [u32; 64],
 }
 
 // Each region's tightest bound and the lowest vertex that has it, at its label. Not known where a label is no vertex.
-pub struct Bounds {
-    pub known: bool,
-    pub bounds: [u32; 64],
-    pub holders: [u8; 64],
+struct Bounds {
+    known: bool,
+    bounds: [u32; 64],
+    holders: [u8; 64],
 }
 
 // The weight of each vertex.

@@ -19,10 +19,10 @@ pub struct Extremes {
 }
 
 // A region's vertices: the first `count` entries.
-pub struct Members {
-    pub known: bool,
-    pub count: usize,
-    pub list: [u32; 64],
+struct Members {
+    known: bool,
+    count: usize,
+    list: [u32; 64],
 }
 
 fn list_members(
