@@ -1,0 +1,10 @@
+pub mod Filling
+pub mod Computing
+pub mod Rows
+pub mod Viewed
+pub mod Taken
+pub mod Inserting
+pub mod Order
+pub mod Separated
+pub mod Ties
+pub mod Meets

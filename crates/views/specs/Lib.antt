@@ -1,1 +1,4 @@
 pub mod Words
+pub mod Compute
+pub mod Cells
+pub mod Members

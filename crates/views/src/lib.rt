@@ -1,5 +1,9 @@
 // What an analysis computes first: the regions of a state, their weights and their bounds, as words. specs/Words.antt says
 // which word is which; every function answers 0 past its limit.
+pub mod cells;
+pub mod compute;
+pub mod members;
+
 ghost use mathlib.Core.Path.{_≡_};
 ghost use Prim.Native.Nat.{_+_, _≤_};
 ghost use Rattle.plan.specs.Words.{entry};

@@ -1,0 +1,171 @@
+// The view's words from the noted ones. Document 01's analysis begins with it: the regions, their weights and their bounds.
+use regions::compute_regions;
+use regions::limits::region_bounds;
+use regions::weights::region_weights;
+ghost use mathlib.Core.Path.{_≡_};
+ghost use Prim.Native.Nat.{_+_, _≤_};
+ghost use Rattle.base.specs.Lists.{filled};
+ghost use Rattle.plan.specs.Words.{word};
+ghost use Rattle.views.specs.Compute.{weightWords, computedOf, regionsFrom, boundsFrom, withRegions, withBounds, computeView};
+
+// Each vertex's label, and each region's weight at its label. Not known where the graph cannot be walked or the weights cannot be added.
+struct Regions {
+    known: bool,
+    labels: [u8; 64],
+    weights: [u32; 64],
+}
+
+// Each region's tightest bound and the lowest vertex that has it, at its label. Not known where a label is no vertex.
+struct Bounds {
+    known: bool,
+    bounds: [u32; 64],
+    holders: [u8; 64],
+}
+
+// The weight of each vertex.
+fn weight_words(plan: &[u32; 15241]) -> [u32; 64]
+    ensures { λ r. ⌜ r ≡ weightWords (now (plan .entry)) ⌝ }
+{
+    let mut words = [0u32; 64];
+    let mut v = 0;
+    while v < 64 {
+        let x = plan::weight(plan, v);
+        words[v] = x;
+        v += 1;
+    }
+    words
+}
+
+fn compute(
+    plan: &[u32; 15241],
+    edges: [[u8; 2]; 128],
+    noted: &[u32; 384],
+    potential: bool,
+) -> Regions
+    ensures { λ r. ⌜ r ≡ regionsFrom (now (plan .entry)) edges (now (noted .entry)) potential ⌝ }
+{
+    let vertices = plan::num_vertices(plan) as usize;
+    let num_edges = plan::num_edges(plan) as usize;
+    let words = weight_words(plan);
+    let mut labels = [0u8; 64];
+    let mut weights = [0u32; 64];
+    let walked = compute_regions(edges, noted, potential, num_edges, vertices, &mut labels);
+    let added = region_weights(&labels, &words, 0, vertices, &mut weights);
+    if walked {
+        return Regions {
+            known: added,
+            labels: labels,
+            weights: weights,
+        };
+    }
+    Regions {
+        known: false,
+        labels: labels,
+        weights: weights,
+    }
+}
+
+// The bounds stand from word `first` on.
+fn bound(
+    labels: &[u8; 64],
+    noted: &[u32; 384],
+    first: usize,
+    vertices: usize,
+    upper: bool,
+) -> Bounds
+    ensures { λ r. ⌜ r ≡ boundsFrom (now (labels .entry)) (now (noted .entry)) first vertices upper ⌝ }
+{
+    let mut bounds = [0u32; 64];
+    let mut holders = [0u8; 64];
+    let known = region_bounds(
+        labels,
+        noted,
+        first,
+        vertices,
+        upper,
+        &mut bounds,
+        &mut holders,
+    );
+    Bounds {
+        known: known,
+        bounds: bounds,
+        holders: holders,
+    }
+}
+
+fn word_of(x: u8) -> u32
+    ensures { λ r. ⌜ r ≡ x ⌝ }
+{
+    x as u32
+}
+
+fn copy_bytes(bytes: &[u8; 64], view: &mut [u32; 512], from: usize)
+    requires { ⌜ from + 64 ≤ 512 ⌝ }
+    ensures { λ r. ⌜ now (view .exit) ≡ filled from 64 (word (now (bytes .entry))) (now (view .entry)) ⌝ }
+{
+    let mut i = 0;
+    while i < 64 {
+        view[from + i] = word_of(bytes[i]);
+        i += 1;
+    }
+}
+
+fn copy_words(words: &[u32; 64], view: &mut [u32; 512], from: usize)
+    requires { ⌜ from + 64 ≤ 512 ⌝ }
+    ensures { λ r. ⌜ now (view .exit) ≡ filled from 64 (word (now (words .entry))) (now (view .entry)) ⌝ }
+{
+    let mut i = 0;
+    while i < 64 {
+        view[from + i] = words[i];
+        i += 1;
+    }
+}
+
+// Labels from word `from` on, weights from word `from + 128` on.
+fn store_regions(r: Regions, view: &mut [u32; 512], from: usize)
+    requires { ⌜ from + 192 ≤ 512 ⌝ }
+    ensures { λ z. ⌜ now (view .exit) ≡ withRegions from r (now (view .entry)) ⌝ }
+{
+    copy_bytes(&r.labels, view, from);
+    copy_words(&r.weights, view, from + 128);
+}
+
+// Bounds from word `from` on, the vertices that have them from word `from + 64` on.
+fn store_bounds(b: Bounds, view: &mut [u32; 512], from: usize)
+    requires { ⌜ from + 128 ≤ 512 ⌝ }
+    ensures { λ z. ⌜ now (view .exit) ≡ withBounds from b (now (view .entry)) ⌝ }
+{
+    copy_words(&b.bounds, view, from);
+    copy_bytes(&b.holders, view, from + 64);
+}
+
+// The regions of the noted words, their weights and bounds. The answer is false, and the view stays, where there are none: a count is
+// past its limit, an edge's end is no vertex, or a weight is over 1,000,000.
+pub fn compute_view(
+    plan: &[u32; 15241],
+    edges: [[u8; 2]; 128],
+    noted: &[u32; 384],
+    view: &mut [u32; 512],
+) -> bool
+    ensures { λ r. ⌜ computedOf r (now (view .exit)) ≡ computeView (now (plan .entry)) edges (now (noted .entry)) (now (view .entry)) ⌝ }
+{
+    let vertices = plan::num_vertices(plan) as usize;
+    let decided = compute(plan, edges, noted, false);
+    let potential = compute(plan, edges, noted, true);
+    let upper = bound(&decided.labels, noted, 192, vertices, true);
+    let lower = bound(&decided.labels, noted, 128, vertices, false);
+    if decided.known {
+        if potential.known {
+            if upper.known {
+                if lower.known {
+                    store_regions(decided, view, 0);
+                    store_regions(potential, view, 64);
+                    store_bounds(upper, view, 256);
+                    store_bounds(lower, view, 384);
+                    return true;
+                }
+            }
+        }
+    }
+    false
+}

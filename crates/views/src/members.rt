@@ -1,0 +1,121 @@
+// Step 4's ties: of the vertices of a decided region, in the order of the search from its label, the first with the greatest lower bound
+// and the first with the least upper bound.
+use walks::Listed;
+use walks::Shape;
+use walks::region_vertices;
+ghost use mathlib.Core.Path.{_≡_};
+ghost use mathlib.Core.Bool.{true};
+ghost use Prim.Native.Nat.{_≤_};
+ghost use Rattle.division.specs.Analysis.{best};
+ghost use Rattle.noting.specs.Words.{stateOf};
+ghost use Rattle.views.specs.Cells.{takenOf};
+ghost use Rattle.views.specs.Members.{reaches, membersFrom, higher, lesser, extremes};
+
+// The two vertices. Not found where the region cannot be walked.
+pub struct Extremes {
+    pub found: bool,
+    pub lower_bound_idx: usize,
+    pub upper_bound_idx: usize,
+}
+
+// A region's vertices: the first `count` entries.
+struct Members {
+    known: bool,
+    count: usize,
+    list: [u32; 64],
+}
+
+fn list_members(
+    plan: &[u32; 15241],
+    edges: [[u8; 2]; 128],
+    noted: &[u32; 384],
+    region: usize,
+) -> Members
+    ensures { λ r. ⌜ (r .known ≡ reaches (now (plan .entry)) edges (now (noted .entry)) region) × (r .known ≡ true → (r .count ≤ 64) × (takenOf (r .list) (r .count) ≡ membersFrom (now (plan .entry)) edges (now (noted .entry)) region)) ⌝ }
+{
+    let shape = Shape {
+        num_vertices: plan::num_vertices(plan) as usize,
+        num_edges: plan::num_edges(plan) as usize,
+        first_lit: 0,
+    };
+    let mut list = [0u32; 64];
+    let listed = region_vertices(edges, noted, false, shape, region, &mut list, 0);
+    match listed {
+        Listed::Past(count) => Members {
+            known: true,
+            count: count,
+            list: list,
+        },
+        Listed::Missing => Members {
+            known: false,
+            count: 0,
+            list: list,
+        },
+    }
+}
+
+fn vertex(x: u32) -> usize
+    ensures { λ r. ⌜ r ≡ x ⌝ }
+{
+    x as usize
+}
+
+// The first that has the greatest lower bound, or `region` where none has a greater one than it.
+fn highest_lower(noted: &[u32; 384], list: &[u32; 64], count: usize, region: usize) -> usize
+    requires { ⌜ count ≤ 64 ⌝ }
+    ensures { λ r. ⌜ r ≡ best (higher (stateOf (now (noted .entry)))) region (takenOf (now (list .entry)) count) ⌝ }
+{
+    let mut a = region;
+    let mut i = 0;
+    while i < count {
+        let c = vertex(list[i]);
+        if noting::lower_bound(noted, a) < noting::lower_bound(noted, c) {
+            a = c;
+        }
+        i += 1;
+    }
+    a
+}
+
+// The first that has the least upper bound.
+fn lowest_upper(noted: &[u32; 384], list: &[u32; 64], count: usize, region: usize) -> usize
+    requires { ⌜ count ≤ 64 ⌝ }
+    ensures { λ r. ⌜ r ≡ best (lesser (stateOf (now (noted .entry)))) region (takenOf (now (list .entry)) count) ⌝ }
+{
+    let mut a = region;
+    let mut i = 0;
+    while i < count {
+        let c = vertex(list[i]);
+        if noting::upper_bound(noted, c) < noting::upper_bound(noted, a) {
+            a = c;
+        }
+        i += 1;
+    }
+    a
+}
+
+// The vertices that step 4 names where the bounds of a region do not meet.
+pub fn extreme_vertices(
+    plan: &[u32; 15241],
+    edges: [[u8; 2]; 128],
+    noted: &[u32; 384],
+    region: usize,
+) -> Extremes
+    ensures { λ r. ⌜ r ≡ extremes (now (plan .entry)) edges (now (noted .entry)) region ⌝ }
+{
+    let m = list_members(plan, edges, noted, region);
+    if m.known {
+        let lower = highest_lower(noted, &m.list, m.count, region);
+        let upper = lowest_upper(noted, &m.list, m.count, region);
+        return Extremes {
+            found: true,
+            lower_bound_idx: lower,
+            upper_bound_idx: upper,
+        };
+    }
+    Extremes {
+        found: false,
+        lower_bound_idx: 0,
+        upper_bound_idx: 0,
+    }
+}
