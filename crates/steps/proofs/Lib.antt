@@ -7,3 +7,4 @@ pub mod Spreading
 pub mod Forks
 pub mod Relabelled
 pub mod Places
+pub mod Meeting

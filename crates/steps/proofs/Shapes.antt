@@ -21,6 +21,11 @@ unfolding pick ends
 may-end true x = record { says = λ o g. refl; onto = λ o g. refl }
 may-end false x = record { says = λ o g. g; onto = λ o g. refl }
 
+pub may-end-under : (b c : Bool) (x : Verdict) → Follows (λ o. pick b (pick c (ends x o) o) o)
+unfolding pick
+may-end-under true c x = may-end c x
+may-end-under false c x = record { says = λ o g. g; onto = λ o g. refl }
+
 -- it may end the analysis, or propose
 pub ends-or-proposes : (b c e : Bool) (x : Verdict) (l : ℕ) (r : Reason) → Follows (λ o. pick b (pick c (ends x o) (pick e (propose l r o) o)) o)
 unfolding pick propose ends

@@ -1,3 +1,4 @@
 pub mod Placed
 pub mod SameSize
 pub mod Relabel
+pub mod First

@@ -7,9 +7,12 @@ use crate::right_region;
 use crate::step1::loose;
 use noting::lower_bound;
 use noting::upper_bound;
+use reasons::Verdict;
+use reasons::goes_on;
 use reasons::packed;
 use reasons::put;
 use views::decided_region;
+use views::members::extreme_vertices;
 use views::region_lower_bound;
 use views::region_lower_bound_idx;
 use views::region_upper_bound;
@@ -21,12 +24,76 @@ ghost use lib.Dec.{eqb, ltb};
 ghost use Rattle.base.specs.Iter.{iter, pick};
 ghost use Rattle.plan.specs.Words.{verticesOf, edgesOf};
 ghost use Rattle.views.specs.Words.{upperBoundOf, upperBoundAt, lowerBoundOf, lowerBoundAt};
-ghost use Rattle.division.specs.Analysis.{parts, spreadsLow, spreadsHigh, spreads, guarded};
+ghost use Rattle.graph.specs.Bounds.{walkable};
+ghost use mathlib.Core.Bool.{true};
+ghost use Rattle.division.specs.Analysis.{meets, parts, spreadsLow, spreadsHigh, spreads, guarded};
 ghost use Rattle.reasons.specs.Words.{packed, put};
 ghost use Rattle.reasons.specs.declared.Verdict.the-variants.{Going};
 ghost use Rattle.reasons.specs.Verdicts.{begun, ran, ranOf};
-ghost use Rattle.steps.specs.Placed.{words, on};
+ghost use Rattle.steps.specs.Placed.{words, on, Finds};
+ghost use Rattle.steps.specs.First.{meetsFirst};
 ghost use Rattle.steps.specs.Placed.{edgePlaceOf};
+
+// The region with label r, whose bounds do not meet: the two vertices that a conflict names.
+fn meets(
+    plan: &[u32; 15241],
+    edges: [[u8; 2]; 128],
+    noted: &[u32; 384],
+    view: &[u32; 512],
+    r: usize,
+) -> Verdict
+    requires { ⌜ (r < verticesOf (now plan)) × (walkable edges (now noted) (edgesOf (now plan)) (verticesOf (now plan)) ≡ true) ⌝ }
+    ensures { λ x. ⌜ Finds x (on meets (words (now (plan .entry)) edges (now (noted .entry)) (now (view .entry))) r begun) ⌝ }
+{
+    if decided_region(view, r) as usize == r {
+        let found = extreme_vertices(plan, edges, noted, r);
+        if upper_bound(noted, found.upper_bound_idx) < lower_bound(noted, found.lower_bound_idx) {
+            return Verdict::Apart {
+                lower_bound_idx: found.lower_bound_idx,
+                upper_bound_idx: found.upper_bound_idx,
+            };
+        }
+    }
+    Verdict::Going
+}
+
+// The same of any region: its own two bounds are compared first.
+fn meets_first(
+    plan: &[u32; 15241],
+    edges: [[u8; 2]; 128],
+    noted: &[u32; 384],
+    view: &[u32; 512],
+    r: usize,
+) -> Verdict
+    requires { ⌜ (r < verticesOf (now plan)) × (walkable edges (now noted) (edgesOf (now plan)) (verticesOf (now plan)) ≡ true) ⌝ }
+    ensures { λ x. ⌜ Finds x (on meetsFirst (words (now (plan .entry)) edges (now (noted .entry)) (now (view .entry))) r begun) ⌝ }
+{
+    if region_upper_bound(view, r) < region_lower_bound(view, r) {
+        return meets(plan, edges, noted, view, r);
+    }
+    Verdict::Going
+}
+
+// Every region in order, up to a conflict.
+pub(crate) fn check_meets(
+    plan: &[u32; 15241],
+    edges: [[u8; 2]; 128],
+    noted: &[u32; 384],
+    view: &[u32; 512],
+) -> Verdict
+    requires { ⌜ walkable edges (now noted) (edgesOf (now plan)) (verticesOf (now plan)) ≡ true ⌝ }
+    ensures { λ r. ⌜ Finds r (iter (guarded (on meetsFirst (words (now (plan .entry)) edges (now (noted .entry)) (now (view .entry))))) (verticesOf (now (plan .entry))) begun) ⌝ }
+{
+    let n = plan::num_vertices(plan) as usize;
+    for r in 0..n {
+        let found = meets_first(plan, edges, noted, view, r);
+        if goes_on(found) {
+            continue;
+        }
+        return found;
+    }
+    Verdict::Going
+}
 
 // Edge g, where the greatest lower bound of region `low` is over the least upper bound of region `up`.
 fn part(

@@ -1,0 +1,18 @@
+-- The analysis as code makes it: a region's vertices are searched for two bounds that do not meet only where the region's own bounds do
+-- not, which compares two words. The search finds nothing elsewhere (proofs/Meeting.antt), so this is division's `analyzed`.
+use Prim.Native.Nat.{ℕ}
+use lib.Dec.{ltb}
+use Rattle.base.specs.Iter.{iter, pick}
+use Rattle.division.specs.Plan.{Plan}
+use Rattle.division.specs.State.{State}
+use Rattle.division.specs.Analysis.{View, Out, guarded, meets, parts, spreads, step1, step2, step3, step5}
+
+module _ (d : Plan) (s : State) (w : View) where
+  unfoldable pub meetsFirst : ℕ → Out → Out
+  meetsFirst r o = pick (ltb (w .up r) (w .low r)) (meets d s w r o) o
+
+  unfoldable pub step4First : Out → Out
+  step4First o = iter (guarded (spreads d s w)) (d .vertices) (iter (guarded (parts d s w)) (d .edges) (iter (guarded meetsFirst) (d .vertices) o))
+
+  unfoldable pub analyzedFirst : Out
+  analyzedFirst = step5 d s w (step4First (step3 d s w (step2 d s w (step1 d s w))))
