@@ -1,12 +1,13 @@
 -- The Rust's `Reason`, read from its two words, and what it stands for.
 use mathlib.Core.Bool.{Bool, not}
 use mathlib.Core.List.{List, [], _∷_}
-use Prim.Native.Nat.{ℕ, _/_, _%_}
+use mathlib.Core.Path.{_≡_}
+use Prim.Native.Nat.{ℕ, _/_, _%_, _<_, _≤_}
 use lib.Dec.{eqb}
 use Rattle.base.specs.Iter.{pick}
 use Rattle.division.specs.Reasons as abstract
 use Rattle.noting.specs.Words.{litsOf}
-use Rattle.reasons.specs.Words.{packed, packedLits, bit}
+use Rattle.reasons.specs.Words.{packed, packedLits, litWord, bit}
 use Rattle.reasons.specs.declared.reason.Reason.{Reason}
 use Rattle.reasons.specs.declared.reason.Reason.the-variants.{NotPropagated, EdgeInSameGroup, EdgeBetweenDifferentGroups, TooLargeIfRegionsAreMerged, RegionAlreadyLarge, RegionAlreadySmall, InconsistentBoundsIfRegionsAreMerged, BoundPropagationWithinRegion, AdjacentSameSizeRegions}
 
@@ -91,3 +92,43 @@ meaning (RegionAlreadySmall v) = abstract.regionAlreadySmall v ∷ []
 meaning (InconsistentBoundsIfRegionsAreMerged g a b flip) = abstract.inconsistentBoundsIfRegionsAreMerged g a b flip ∷ []
 meaning (BoundPropagationWithinRegion l k u) = abstract.boundPropagationWithinRegion k u (litsOf l) ∷ []
 meaning (AdjacentSameSizeRegions a la ua b lb ub u) = abstract.adjacentSameSizeRegions a (litsOf la) (litsOf ua) b (litsOf lb) (litsOf ub) u ∷ []
+
+-- each number fits its type, as it does in every reason that code holds
+abbrev pub InRange : Reason → Type 0
+InRange NotPropagated = Unit {0}
+InRange (EdgeInSameGroup g) = g < 256
+InRange (EdgeBetweenDifferentGroups h g flip) = (h < 256) × (g < 256)
+InRange (TooLargeIfRegionsAreMerged g l) = (g < 256) × (l < 65536)
+InRange (RegionAlreadyLarge v) = v < 256
+InRange (RegionAlreadySmall v) = v < 256
+InRange (InconsistentBoundsIfRegionsAreMerged g a b flip) = (g < 256) × (a < 256) × (b < 256)
+InRange (BoundPropagationWithinRegion l k u) = (l < 65536) × (k < 256) × (u < 256)
+InRange (AdjacentSameSizeRegions a la ua b lb ub u) = (a < 256) × (b < 256) × (u < 256) × (la < 65536) × (ua < 65536) × (lb < 65536) × (ub < 65536)
+
+-- a bound's literal as a number that two bytes hold
+pub record OneLit (ls : List ℕ) : Type 0 where
+  pub lit : ℕ
+  pub small : lit ≤ 65535
+  pub is : ls ≡ litsOf lit
+
+-- a reason whose numbers fit its words
+abbrev pub Fits : abstract.Reason → Type 0
+Fits (abstract.edgeInSameGroup g) = g < 256
+Fits (abstract.edgeBetweenDifferentGroups h g flip) = (h < 256) × (g < 256)
+Fits (abstract.tooLargeIfRegionsAreMerged g ls) = (g < 256) × OneLit ls
+Fits (abstract.regionAlreadyLarge v) = v < 256
+Fits (abstract.regionAlreadySmall v) = v < 256
+Fits (abstract.inconsistentBoundsIfRegionsAreMerged g a b flip) = (g < 256) × (a < 256) × (b < 256)
+Fits (abstract.boundPropagationWithinRegion k u ls) = (k < 256) × (u < 256) × OneLit ls
+Fits (abstract.adjacentSameSizeRegions a la ua b lb ub u) = (a < 256) × (b < 256) × (u < 256) × OneLit la × OneLit ua × OneLit lb × OneLit ub
+
+-- the code's reason for one that is meant
+unfoldable pub coded : abstract.Reason → Reason
+coded (abstract.edgeInSameGroup g) = EdgeInSameGroup g
+coded (abstract.edgeBetweenDifferentGroups h g flip) = EdgeBetweenDifferentGroups h g flip
+coded (abstract.tooLargeIfRegionsAreMerged g ls) = TooLargeIfRegionsAreMerged g (litWord ls)
+coded (abstract.regionAlreadyLarge v) = RegionAlreadyLarge v
+coded (abstract.regionAlreadySmall v) = RegionAlreadySmall v
+coded (abstract.inconsistentBoundsIfRegionsAreMerged g a b flip) = InconsistentBoundsIfRegionsAreMerged g a b flip
+coded (abstract.boundPropagationWithinRegion k u ls) = BoundPropagationWithinRegion (litWord ls) k u
+coded (abstract.adjacentSameSizeRegions a la ua b lb ub u) = AdjacentSameSizeRegions a (litWord la) (litWord ua) b (litWord lb) (litWord ub) u
