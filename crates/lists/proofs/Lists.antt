@@ -1,36 +1,26 @@
 -- What `reason_lits` writes: the list of the reason, where its paths are there, and none where one is gone.
-use Prim.Native.Nat.{ℕ, _+_, _<_, _≤_, zero-le}
-use native.Mathlib.Omega.{arith}
-use mathlib.Core.Path.{_≡_, refl, sym, _∙_, ap, ap₂, subst}
-use mathlib.Core.Logic.{⊎-elim}
-use mathlib.Core.Bool.{Bool, true, false, _||_, true≢false, false≢true}
+use Prim.Native.Nat.{ℕ, _+_, _<_}
+use mathlib.Core.Path.{_≡_, refl, _∙_, ap, ap₂, subst}
+use mathlib.Core.Bool.{Bool, true, false, _||_, false≢true}
 use mathlib.Core.List.{List, [], _∷_, _++_, append-assoc}
-use lib.Dec.{eqb}
-use lib.ListN.{length, length-append}
-use borrow.Author.Tests.{not-false}
 use Rattle.base.specs.Iter.{pick}
-use Rattle.base.proofs.Loop.{pick-ind, tested}
-use Rattle.base.proofs.Tests.{or-none, or-cases}
+use Rattle.base.proofs.Tests.{or-none}
 use Rattle.division.specs.Plan.{Plan, left, right}
 use Rattle.division.specs.Regions.{within}
 use Rattle.division.specs.State.{State}
 use Rattle.division.specs.Reasons as abstract
-use Rattle.division.proofs.Walk.{within-joined}
-use Rattle.division.proofs.Fits.{path-short, decided-short, decided-few, potential-short}
 use Rattle.calls.specs.Look.{unjoined, gone}
 use Rattle.plan.specs.Words.{verticesOf, edgesOf, edgeLitOf}
 use Rattle.plan.specs.Plan.{planOf}
-use Rattle.plan.proofs.Abstract.{proper-plan}
 use Rattle.noting.specs.Words.{stateOf, litsOf, lowerLitOf, upperLitOf}
 use Rattle.reasons.specs.Reason.{meaning}
 use Rattle.reasons.specs.declared.reason.Reason.{Reason}
 use Rattle.reasons.specs.declared.reason.Reason.the-variants.{NotPropagated, EdgeInSameGroup, EdgeBetweenDifferentGroups, TooLargeIfRegionsAreMerged, RegionAlreadyLarge, RegionAlreadySmall, InconsistentBoundsIfRegionsAreMerged, BoundPropagationWithinRegion, AdjacentSameSizeRegions}
-use Rattle.walks.specs.declared.Listed.{Listed}
-use Rattle.walks.specs.declared.Listed.the-variants.{Past, Missing}
+use Rattle.walks.specs.declared.Listed.the-variants.{Missing}
 use Rattle.walks.specs.Written.{Out, written}
 use Rattle.walks.specs.Answers.{Answer, given}
 use Rattle.lists.specs.declared.Ends.{Ends}
-use Rattle.lists.specs.Parts.{endsFrom, endsOf, then, path, decided, potential, inside, twoPaths, twoRegions, threeRegions, andWord, andLit}
+use Rattle.lists.specs.Parts.{endsFrom, then, path, inside, twoPaths, twoRegions, threeRegions, andWord, andLit}
 use Rattle.lists.specs.Lists.{between, tooLarge, mismatched, spread, sameSized, reasonLits}
 use Rattle.lists.specs.Within.{Held, Within}
 use Rattle.lists.proofs.Walks.{then-given, word-given, lit-given, then-lost, word-lost, lit-lost, next-lost, path-there, path-gone, decided-there, potential-there, near, far, ends-are, near-in, far-in}
