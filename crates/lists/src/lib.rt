@@ -1,5 +1,7 @@
 // The lists of literals: `get_reason_lits` and the list of a conflict, each written to a lent buffer from a place on. Both walk the
 // edges as noted.
+pub mod conflict;
+
 use reasons::reason::Reason;
 use walks::Listed;
 use walks::Shape;
