@@ -26,10 +26,10 @@ use Rattle.lists.specs.Within.{Held, Within}
 use Rattle.lists.proofs.Walks.{then-given, word-given, lit-given, then-lost, word-lost, lit-lost, next-lost, path-there, path-gone, decided-there, potential-there, near, far, ends-are, near-in, far-in}
 
 -- a literal after what was given
-word-after : (x : ℕ) (a : Answer) (l m : List ℕ) (o : Out) → a ≡ given l o → l ++ (x ∷ []) ≡ m → andWord x a ≡ given m o
+pub word-after : (x : ℕ) (a : Answer) (l m : List ℕ) (o : Out) → a ≡ given l o → l ++ (x ∷ []) ≡ m → andWord x a ≡ given m o
 word-after x a l m o e q = ap (andWord x) e ∙ word-given x l o ∙ ap (λ (n : List ℕ). given n o) q
 
-lit-after : (x : ℕ) (a : Answer) (l m : List ℕ) (o : Out) → a ≡ given l o → l ++ litsOf x ≡ m → andLit x a ≡ given m o
+pub lit-after : (x : ℕ) (a : Answer) (l m : List ℕ) (o : Out) → a ≡ given l o → l ++ litsOf x ≡ m → andLit x a ≡ given m o
 lit-after x a l m o e q = ap (andLit x) e ∙ lit-given x l o ∙ ap (λ (n : List ℕ). given n o) q
 
 then-after : (a : Answer) (f : Out → Answer) (l m : List ℕ) (o : Out) → a ≡ given l o → f (written l o) ≡ given m (written l o) → then a f ≡ given (l ++ m) o

@@ -1,5 +1,6 @@
 -- The list that a conflict leaves, part by part.
 use Prim.Native.Nat.{ℕ, _<_}
+use mathlib.Core.Path.{_≡_}
 use mathlib.Core.Bool.{Bool, false}
 use mathlib.Core.List.{List, [], _∷_}
 use lib.Dec.{ltb}
@@ -58,6 +59,14 @@ conflictsOf (Crowded r) ps = crowded r ps ∷ []
 conflictsOf (Apart a b) ps = apart a b ∷ []
 conflictsOf Crossed ps = []
 conflictsOf ZeroSize ps = []
+
+-- ps are the vertices of a conflict's separate ranges, if it has any
+abbrev pub Chosen : Conflict → List ℕ → Type 0
+Chosen (disconnectedInside g) ps = Unit {0}
+Chosen (over v) ps = Unit {0}
+Chosen (under v) ps = Unit {0}
+Chosen (crowded r qs) ps = ps ≡ qs
+Chosen (apart a b) ps = Unit {0}
 
 -- a conflict names edges and vertices of the plan
 abbrev pub ConflictWithin : Plan → Conflict → Type 0

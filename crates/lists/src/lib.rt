@@ -343,22 +343,12 @@ pub fn reason_lits(
             disconnected_edge_idx: g,
             upper_bound_lit: l,
         } => too_large(plan, edges, noted, g, l, out, at),
-        Reason::RegionAlreadyLarge { vertex_idx: v } => decided(
-            plan,
-            edges,
-            noted,
-            v as usize,
-            out,
-            at,
-        ),
-        Reason::RegionAlreadySmall { vertex_idx: v } => potential(
-            plan,
-            edges,
-            noted,
-            v as usize,
-            out,
-            at,
-        ),
+        Reason::RegionAlreadyLarge { vertex_idx: v } => {
+            decided(plan, edges, noted, v as usize, out, at)
+        }
+        Reason::RegionAlreadySmall { vertex_idx: v } => {
+            potential(plan, edges, noted, v as usize, out, at)
+        }
         Reason::InconsistentBoundsIfRegionsAreMerged { .. } => {
             mismatch(plan, edges, noted, reason, out, at)
         }
@@ -367,6 +357,6 @@ pub fn reason_lits(
             known_bound_idx: k,
             unknown_bound_idx: u,
         } => spread(plan, edges, noted, k, u, l, out, at),
-        Reason::AdjacentSameSizeRegions { .. } => { same_size(plan, edges, noted, reason, out, at) }
+        Reason::AdjacentSameSizeRegions { .. } => same_size(plan, edges, noted, reason, out, at),
     }
 }
