@@ -2,7 +2,7 @@
 use Prim.Native.Nat.{ℕ, _+_, _*_, _<_, _≤_, zero-le}
 use native.Mathlib.Omega.{arith}
 use mathlib.Core.Path.{_≡_, refl, ap, subst}
-use mathlib.Core.Bool.{Bool, false}
+use mathlib.Core.Bool.{false}
 use mathlib.Core.List.{List, [], _∷_}
 use lib.ListN.{length, length-append}
 use lib.Seq.{sets}
@@ -14,6 +14,7 @@ use Rattle.division.specs.State.{State}
 use Rattle.division.specs.Reasons as abstract
 use Rattle.division.proofs.Walk.{within-joined}
 use Rattle.division.proofs.Fits.{path-short, decided-short, decided-few, potential-short}
+use Rattle.division.proofs.Proposed.{Proposes, ruleInGroup, ruleBetween, ruleTooLarge, ruleLarge, ruleSmall, ruleMismatch, ruleSpreadLow, ruleSpreadHigh, ruleSameSize}
 use Rattle.division.proofs.Explained.{Explains, byInGroup, byBetween, byTooLarge, byLarge, bySmall, byMismatch, bySpreadLow, bySpreadHigh, bySameSize}
 use Rattle.calls.specs.Look.{unjoined, gone}
 use Rattle.plan.specs.Words.{verticesOf, edgesOf}
@@ -46,6 +47,18 @@ explained-within d s l r (byMismatch g p q f h e hp hq a b m) = (h, hp, hq)
 explained-within d s l r (bySpreadLow p u ls b j hp hu m e a w i) = (hp, hu)
 explained-within d s l r (bySpreadHigh p u ls b j hp hu m e a w i) = (hp, hu)
 explained-within d s l r (bySameSize p lp up q lq uq u g o h e hp hq hu xa ya xb yb) = (hp, hq, hu)
+
+-- the same of a proposal
+pub proposed-within : (d : Plan) (s : State) (l : ℕ) (r : abstract.Reason) → Proposes d s l r → Within d r
+proposed-within d s l r (ruleInGroup g h z j) = h
+proposed-within d s l r (ruleBetween h g flip hh hg y z i j) = (hh, hg)
+proposed-within d s l r (ruleTooLarge g w h hw z n i j) = h
+proposed-within d s l r (ruleLarge v j h a b c) = h
+proposed-within d s l r (ruleSmall v j h a b c) = h
+proposed-within d s l r (ruleMismatch g a b flip h ha hb z i j m) = (h, ha, hb)
+proposed-within d s l r (ruleSpreadLow p u j hp hu i a b c) = (hp, hu)
+proposed-within d s l r (ruleSpreadHigh p u j hp hu i a b c) = (hp, hu)
+proposed-within d s l r (ruleSameSize a la ua b lb ub u g x h z ha hla hua hb hlb hub hu) = (ha, hb, hu)
 
 pub one-lit : (x : ℕ) → length (litsOf x) ≤ 1
 unfolding litsOf
