@@ -1,9 +1,9 @@
 -- What `conflict_lits` writes: the list of the conflict, where its path is there.
-use Prim.Native.Nat.{ℕ, _<_}
+use Prim.Native.Nat.{ℕ}
 use mathlib.Core.Path.{_≡_, refl, sym, _∙_, ap, subst}
-use mathlib.Core.Bool.{Bool, true, false, not, false≢true}
+use mathlib.Core.Bool.{true, false, not, false≢true}
 use mathlib.Core.List.{List, [], _∷_, _++_, append-nil, append-assoc}
-use Rattle.division.specs.Plan.{Plan, Proper, left, right}
+use Rattle.division.specs.Plan.{Plan, Proper}
 use Rattle.division.specs.State.{State}
 use Rattle.division.specs.Reasons as abstract
 use Rattle.division.specs.Conflicts.{spans, Conflict, disconnectedInside, over, under, crowded, apart, conflictList}
@@ -11,7 +11,6 @@ use Rattle.division.specs.Analysis as analysis
 use Rattle.division.proofs.Walk.{joined-within}
 use Rattle.division.proofs.Proposed.{IsConflict, isDisconnected, isOver, isUnder, isCrowded, isApart}
 use Rattle.calls.specs.Look.{unjoined}
-use Rattle.plan.specs.Words.{verticesOf, edgesOf}
 use Rattle.plan.specs.Plan.{planOf}
 use Rattle.noting.specs.Words.{stateOf, litsOf, lowerLitOf, upperLitOf}
 use Rattle.reasons.specs.Verdicts.{verdictOf}
@@ -19,8 +18,7 @@ use Rattle.reasons.specs.declared.Verdict.{Verdict}
 use Rattle.reasons.specs.declared.Verdict.the-variants.{Going, DisconnectedInside, Over, Under, Crowded, Apart, Crossed, ZeroSize}
 use Rattle.walks.specs.declared.Listed.the-variants.{Missing}
 use Rattle.walks.specs.Written.{Out}
-use Rattle.walks.specs.Answers.{Answer, given, missing}
-use Rattle.lists.specs.Parts.{andWord, andLit}
+use Rattle.walks.specs.Answers.{given, missing}
 use Rattle.lists.specs.Conflicts.{spanAfter, spansAfter, apartLits, conflictLits, conflictsOf, Chosen, ConflictWithin, pathGone}
 use Rattle.lists.specs.Within.{Held}
 use Rattle.lists.proofs.Walks.{lit-given, word-lost, lit-lost, path-there, path-gone, decided-there, potential-there}

@@ -1,7 +1,7 @@
 -- Every list of a reason fits a reason buffer of edges + 2 × vertices + 4, and stands in it whole.
 use Prim.Native.Nat.{ℕ, _+_, _*_, _<_, _≤_, zero-le}
 use native.Mathlib.Omega.{arith}
-use mathlib.Core.Path.{_≡_, refl, ap, subst}
+use mathlib.Core.Path.{_≡_, ap, subst}
 use mathlib.Core.Bool.{false}
 use mathlib.Core.List.{List, [], _∷_}
 use lib.ListN.{length, length-append}
@@ -29,7 +29,7 @@ use Rattle.walks.specs.Written.{Out, outOf}
 use Rattle.walks.specs.Answers.{answerOf, given}
 use Rattle.walks.proofs.Written.{written-fits}
 use Rattle.lists.specs.Within.{Held, Within}
-use Rattle.lists.proofs.Walks.{near, far, near-in, far-in}
+use Rattle.lists.proofs.Walks.{near-in, far-in}
 
 -- where there is room, the list stands whole from the place on, and the answer is the place past it
 pub given-fits : (l t : List ℕ) (n : ℕ) → n + length l ≤ length t → given l (outOf t n) ≡ answerOf (Past (n + length l)) (sets t n l)

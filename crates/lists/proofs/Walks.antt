@@ -1,15 +1,14 @@
 -- The walks of a proper plan's words are those of the plan that they stand for, and lists written one after the other are one list.
 use Prim.Native.Nat.{ℕ, _+_, _<_, _≤_}
 use native.Mathlib.Omega.{arith}
-use mathlib.Core.Path.{_≡_, refl, sym, _∙_, ap, ap₂}
-use mathlib.Core.Bool.{Bool, true, false, not, _||_}
+use mathlib.Core.Path.{_≡_, refl, sym, _∙_, ap}
+use mathlib.Core.Bool.{Bool, true, false}
 use mathlib.Core.List.{List, [], _∷_, _++_}
-use lib.Dec.{ltb}
-use lib.ListN.{length, getD}
+use lib.ListN.{length}
 use borrow.Author.Tests.{lt-ltb, not-true, not-false}
 use Rattle.base.specs.Iter.{pick}
 use Rattle.base.proofs.Loop.{pick-yes, pick-no, pick-ind}
-use Rattle.graph.specs.Search.{graph, searched, reachedYet}
+use Rattle.graph.specs.Search.{graph}
 use Rattle.graph.specs.Lists.{numberOf}
 use Rattle.graph.proofs.Walkable.{fine-walkable}
 use Rattle.division.specs.Plan.{Plan, left, right}
@@ -24,14 +23,13 @@ use Rattle.plan.proofs.Abstract.{proper-plan}
 use Rattle.noting.specs.Words.{stateOf, litsOf}
 use Rattle.walks.specs.declared.Listed.{Listed}
 use Rattle.walks.specs.declared.Listed.the-variants.{Past, Missing}
-use Rattle.walks.specs.Written.{Out, outOf, written}
+use Rattle.walks.specs.Written.{Out, written}
 use Rattle.walks.specs.Walk as walk
 use Rattle.walks.specs.Answers.{Answer, answerOf, given, missing, startable, ready, connectedPath, decidedRegion, potentialRegion}
 use Rattle.walks.proofs.Answers.{ready-yes}
 use Rattle.walks.proofs.Written.{written-append}
 use Rattle.walks.proofs.Same.{path-same, decided-same, potential-same}
-use Rattle.lists.specs.declared.Ends.{Ends}
-use Rattle.lists.specs.Parts.{shapeOf, endsFrom, endsOf, after, then, path, decided, potential, inside, twoPaths, twoRegions, threeRegions, andWord, andLit}
+use Rattle.lists.specs.Parts.{shapeOf, endsFrom, endsOf, after, then, path, decided, potential, andWord, andLit}
 use Rattle.lists.specs.Within.{Held}
 
 -- ---- one list after the other

@@ -1,5 +1,5 @@
 -- The Rust's `Reason`, read from its two words, and what it stands for.
-use mathlib.Core.Bool.{Bool, not}
+use mathlib.Core.Bool.{not}
 use mathlib.Core.List.{List, [], _∷_}
 use mathlib.Core.Path.{_≡_}
 use Prim.Native.Nat.{ℕ, _/_, _%_, _<_, _≤_}

@@ -4,7 +4,7 @@ use crate::packed_lits;
 ghost use mathlib.Core.Path.{_≡_};
 ghost use Prim.Native.Nat.{_/_, _%_};
 ghost use Rattle.reasons.specs.Words.{packed, bit};
-ghost use Rattle.reasons.specs.Reason.{kindOf, byte1, byte2, byte3, half, quarter0, quarter1, quarter2, quarter3, laterReason, reasonOf, firstWordOf, secondWordOf};
+ghost use Rattle.reasons.specs.Reason.{laterReason, reasonOf, firstWordOf, secondWordOf};
 
 // A literal 65535 (undo_log::NO_LIT) is none.
 pub enum Reason {
