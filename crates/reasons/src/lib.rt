@@ -1,4 +1,6 @@
 // What an analysis finds: a verdict, and proposals with their reasons, stored as words. specs/Words.antt says what is where.
+pub mod reason;
+
 ghost use mathlib.Core.Path.{_≡_};
 ghost use Rattle.reasons.specs.Words.{packed, packedLits, put};
 ghost use Rattle.reasons.specs.Verdicts.{goesOn};

@@ -1,0 +1,85 @@
+use mathlib.Core.Path.{_≡_, refl, sym, ap, ap₂, _∙_}
+use native.Mathlib.Omega.{arith}
+use Prim.Native.Nat.{ℕ, _≤_}
+use mathlib.Core.List.{[]}
+use mathlib.Core.Path.{subst}
+use lib.Dec.{eqb}
+use Rattle.division.specs.Regions.{lowest}
+use Rattle.division.specs.Analysis.{loose, matches}
+use Rattle.reasons.specs.Words.{bit, packed}
+use Rattle.reasons.specs.declared.Verdict.the-variants.{Going}
+use Rattle.reasons.specs.Verdicts.{ran}
+use Rattle.analysis.specs.Placed.{words, on}
+use Rattle.analysis.proofs.Matching.{matched-not, matched-none, matched-some}
+use borrow.Author.Needs.{needs}
+use Rattle.analysis.proofs.step1.matched.Statement.{statement}
+use Rattle.analysis.proofs.step1.matched.Tie as tie
+
+loose-requires : tie.Need-loose-requires
+loose-requires c κs = search needs
+
+num-edges-requires : tie.Need-num-edges-requires
+num-edges-requires c κs = search needs
+
+cast-n : tie.Need-cast-n
+cast-n c = search needs
+
+lowest-match-requires : tie.Need-lowest-match-requires
+lowest-match-requires c κs = search needs
+
+left-region-requires : tie.Need-left-region-requires
+left-region-requires c κs = search needs
+
+right-region-requires : tie.Need-right-region-requires
+right-region-requires c κs = search needs
+
+edge-place-requires : tie.Need-edge-place-requires
+edge-place-requires c κs = search needs
+
+bit-requires : tie.Need-bit-requires
+bit-requires c κs = search needs
+
+packed-requires : tie.Need-packed-requires
+packed-requires c κs = search needs
+
+put-requires : tie.Need-put-requires
+put-requires c κs = search needs
+
+same-length : tie.Need-same-length
+same-length c = search needs
+
+returns : tie.Need-returns
+unfolding loose matches
+returns c =
+    let h = (c .before .before .before .before .before .before .before .before .before .before .lowest-match .ensures) ∙ ap (lowest (on matches (words [] (c .before .before .before .before .before .before .before .before .before .before .before .before .before .before .before .args .edges .now) (c .before .before .before .before .before .before .before .before .before .before .before .before .before .before .before .args .noted .now) (c .before .before .before .before .before .before .before .before .before .before .before .before .before .before .before .args .view .now)) (c .before .before .before .before .before .before .before .before .before .before .before .before .before .before .before .args .g))) (c .before .before .before .before .before .before .before .before .before .before .before .num-edges .ensures) in
+    ap (ran Going) (c .before .before .put .ensures)
+    ∙ matched-some _ _ _ _ _ _ _ _ _ (sym (c .before .before .before .before .before .before .before .before .before .before .before .before .before .loose .ensures) ∙ (c .before .before .before .before .before .before .before .before .before .before .before .before .if1 .taken)) h (omega arith) (ap₂ eqb (c .before .before .before .before .before .before .before .before .left-region .ensures) (c .before .before .before .before .before .before .before .right-region .ensures)) (c .before .before .before .before .before .edge-place .ensures)
+    ((c .before .before .before .packed .ensures) ∙ ap (λ (i : ℕ). packed 2 (c .before .before .before .before .before .before .before .before .before .before .lowest-match .result) (c .before .before .before .before .before .before .before .before .before .before .before .before .before .before .before .args .g) i 0) (c .before .before .before .before .bit .ensures))
+
+returns-2 : tie.Need-returns-2
+unfolding loose matches
+returns-2 c =
+    matched-none _ _ _ _ _ (sym (c .before .before .before .before .loose .ensures) ∙ (c .before .before .before .if1 .taken)) (subst (λ i. i ≤ lowest (on matches (words [] (c .before .before .before .before .before .before .args .edges .now) (c .before .before .before .before .before .before .args .noted .now) (c .before .before .before .before .before .before .args .view .now)) (c .before .before .before .before .before .before .args .g)) i) (c .before .before .num-edges .ensures) (subst (λ i. (c .before .before .num-edges .result) ≤ i) (c .before .lowest-match .ensures) (omega arith)))
+
+returns-3 : tie.Need-returns-3
+unfolding loose
+returns-3 c = matched-not _ _ _ _ _ (sym (c .before .loose .ensures) ∙ (c .if1 .left))
+
+pub matched-spec : {M : Type 1} → statement M
+matched-spec =
+    tie.close
+    (tie.spec
+    loose-requires
+    num-edges-requires
+    cast-n
+    lowest-match-requires
+    left-region-requires
+    right-region-requires
+    edge-place-requires
+    bit-requires
+    packed-requires
+    put-requires
+    same-length
+    returns
+    returns-2
+    returns-3)

@@ -1,0 +1,62 @@
+use Prim.Native.Nat.{_≤_, _-_}
+use native.Mathlib.Omega.{arith}
+use mathlib.Core.Path.{_≡_, sym, _∙_}
+use borrow.Author.Needs.{needs}
+use Rattle.base.specs.Iter.{iter}
+use Rattle.division.specs.Analysis.{parts, guarded}
+use Rattle.reasons.specs.declared.Verdict.the-variants.{Going}
+use Rattle.reasons.specs.Verdicts.{begun, ran, ranOf}
+use Rattle.analysis.specs.Placed.{words, on}
+use Rattle.analysis.proofs.Pass.{ran-none, ran-more, ran-done, ran-length}
+use Rattle.analysis.proofs.Spreading.{parts-follows}
+use Rattle.analysis.proofs.step4.disconnect_parted.Statement.{statement}
+use Rattle.analysis.proofs.step4.disconnect_parted.Tie as tie
+
+abbrev Inv-loop : tie.InvT-loop
+Inv-loop plan edges noted view proposals₀ n g₀ proposals g = (g ≤ n) × (ran Going proposals ≡ ranOf (iter (guarded (on parts (words plan edges noted view))) g begun) proposals₀)
+
+abbrev μ-loop : tie.MeasureT-loop
+μ-loop plan edges noted view proposals₀ n g₀ proposals g = n - g
+
+num-edges-requires : tie.Need-num-edges-requires Inv-loop μ-loop
+num-edges-requires c κs = search needs
+
+cast-n : tie.Need-cast-n Inv-loop μ-loop
+cast-n c = omega arith
+
+loop-holds : tie.Need-loop-holds Inv-loop μ-loop
+loop-holds c = (omega arith, ran-none _ _)
+
+parts-requires : tie.Need-parts-requires Inv-loop μ-loop
+parts-requires c κs = omega arith
+
+add-g : tie.Need-add-g Inv-loop μ-loop
+add-g c = omega arith
+
+loop-less : tie.Need-loop-less Inv-loop μ-loop
+loop-less c = omega arith
+
+loop-again : tie.Need-loop-again Inv-loop μ-loop
+loop-again c = (omega arith, ran-more _ (parts-follows _ _ _) _ _ _ _ _ (c .before .before .before .before .before .loop .inv .1) (c .before .before .parts .ensures))
+
+same-length : tie.Need-same-length Inv-loop μ-loop
+same-length c = ran-length _ _ _ _ (c .before .loop .inv .1)
+
+returns : tie.Need-returns Inv-loop μ-loop
+returns c = ran-done _ _ _ _ _ (c .before .loop .inv .1) (omega arith) (omega arith)
+
+pub disconnect-parted-spec : {M : Type 1} → statement M
+disconnect-parted-spec =
+    tie.close
+    (tie.spec
+    Inv-loop
+    μ-loop
+    num-edges-requires
+    cast-n
+    loop-holds
+    parts-requires
+    add-g
+    loop-less
+    loop-again
+    same-length
+    returns)

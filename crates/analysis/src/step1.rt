@@ -1,0 +1,201 @@
+// Step 1, where extra walls are not allowed. Document 01: "a shut gate inside a region is a conflict; an undecided one is to be
+// opened; an undecided gate between two regions that a shut gate also joins is to be shut."
+use crate::edge_place;
+use crate::edge_state;
+use crate::left_region;
+use crate::negation;
+use crate::right_region;
+use reasons::Verdict;
+use reasons::goes_on;
+use reasons::packed;
+use reasons::put;
+ghost use mathlib.Core.Path.{_≡_};
+ghost use mathlib.Core.List.{[]};
+ghost use mathlib.Core.Bool.{_&&_, _||_};
+ghost use Prim.Native.Nat.{_<_, _≤_};
+ghost use lib.Dec.{eqb};
+ghost use Rattle.base.specs.Iter.{iter};
+ghost use Rattle.plan.specs.Words.{edgesOf};
+ghost use Rattle.division.specs.Regions.{lowest};
+ghost use Rattle.division.specs.Analysis.{inside, matches, loose, matched, guarded};
+ghost use Rattle.reasons.specs.declared.Verdict.the-variants.{Going};
+ghost use Rattle.reasons.specs.Words.{bit};
+ghost use Rattle.reasons.specs.Verdicts.{begun, ran, ranOf};
+ghost use Rattle.analysis.specs.Placed.{words, on};
+
+// Edge g inside a region.
+fn inside(
+    plan: &[u32; 15241],
+    edges: &[[u8; 2]; 128],
+    noted: &[u32; 384],
+    view: &[u32; 512],
+    g: usize,
+    proposals: &mut [u64],
+) -> Verdict
+    requires { ⌜ g < 128 ⌝ }
+    ensures { λ r. ⌜ ran r (now (proposals .exit)) ≡ ranOf (on inside (words (now (plan .entry)) (now (edges .entry)) (now (noted .entry)) (now (view .entry))) g begun) (now (proposals .entry)) ⌝ }
+{
+    if left_region(edges, view, g) != right_region(edges, view, g) {
+        return Verdict::Going;
+    }
+    let state = edge_state(noted, g);
+    if state == 1 {
+        return Verdict::DisconnectedInside { edge_idx: g };
+    }
+    if state == 0 {
+        put(
+            proposals,
+            negation(edge_place(plan, g)),
+            packed(1, g, 0, 0, 0),
+            0,
+        );
+    }
+    Verdict::Going
+}
+
+// Every edge in order, up to a conflict.
+pub(crate) fn connect_inside(
+    plan: &[u32; 15241],
+    edges: &[[u8; 2]; 128],
+    noted: &[u32; 384],
+    view: &[u32; 512],
+    proposals: &mut [u64],
+) -> Verdict
+    requires { ⌜ edgesOf (now plan) ≤ 128 ⌝ }
+    ensures { λ r. ⌜ ran r (now (proposals .exit)) ≡ ranOf (iter (guarded (on inside (words (now (plan .entry)) (now (edges .entry)) (now (noted .entry)) (now (view .entry))))) (edgesOf (now (plan .entry))) begun) (now (proposals .entry)) ⌝ }
+{
+    let n = plan::num_edges(plan) as usize;
+    for g in 0..n {
+        let found = inside(plan, edges, noted, view, g, proposals);
+        if goes_on(found) {
+            continue;
+        }
+        return found;
+    }
+    Verdict::Going
+}
+
+fn equal(a: usize, b: usize, c: usize, d: usize) -> bool
+    ensures { λ r. ⌜ r ≡ (eqb a c && eqb b d) ⌝ }
+{
+    if a == c {
+        return b == d;
+    }
+    false
+}
+
+// Whether a and b are c and d, in either order.
+fn same_pair(a: usize, b: usize, c: usize, d: usize) -> bool
+    ensures { λ r. ⌜ r ≡ ((eqb a c && eqb b d) || (eqb a d && eqb b c)) ⌝ }
+{
+    if equal(a, b, c, d) {
+        return true;
+    }
+    equal(a, b, d, c)
+}
+
+// Whether edge h is disconnected and joins the two regions that edge g joins.
+fn matches(
+    edges: &[[u8; 2]; 128],
+    noted: &[u32; 384],
+    view: &[u32; 512],
+    g: usize,
+    h: usize,
+) -> bool
+    requires { ⌜ (g < 128) × (h < 128) ⌝ }
+    ensures { λ r. ⌜ r ≡ on matches (words [] (now (edges .entry)) (now (noted .entry)) (now (view .entry))) g h ⌝ }
+{
+    if edge_state(noted, h) != 1 {
+        return false;
+    }
+    same_pair(
+        left_region(edges, view, h),
+        right_region(edges, view, h),
+        left_region(edges, view, g),
+        right_region(edges, view, g),
+    )
+}
+
+// The lowest of the first n edges that matches edge g, or n. Document 01: "Where several shut gates match, the lowest gate
+// number is the reason."
+fn lowest_match(
+    edges: &[[u8; 2]; 128],
+    noted: &[u32; 384],
+    view: &[u32; 512],
+    g: usize,
+    n: usize,
+) -> usize
+    requires { ⌜ (g < 128) × (n ≤ 128) ⌝ }
+    ensures { λ r. ⌜ r ≡ lowest (on matches (words [] (now (edges .entry)) (now (noted .entry)) (now (view .entry))) g) n ⌝ }
+{
+    for h in 0..n {
+        if matches(edges, noted, view, g, h) {
+            return h;
+        }
+    }
+    n
+}
+
+// Whether edge g is undecided and joins two regions.
+pub(crate) fn loose(edges: &[[u8; 2]; 128], noted: &[u32; 384], view: &[u32; 512], g: usize) -> bool
+    requires { ⌜ g < 128 ⌝ }
+    ensures { λ r. ⌜ r ≡ on loose (words [] (now (edges .entry)) (now (noted .entry)) (now (view .entry))) g ⌝ }
+{
+    if edge_state(noted, g) == 0 {
+        return left_region(edges, view, g) != right_region(edges, view, g);
+    }
+    false
+}
+
+fn bit(b: bool) -> usize
+    ensures { λ r. ⌜ r ≡ bit b ⌝ }
+{
+    if b {
+        return 1;
+    }
+    0
+}
+
+// Edge g between two regions that a disconnected edge also joins.
+fn matched(
+    plan: &[u32; 15241],
+    edges: &[[u8; 2]; 128],
+    noted: &[u32; 384],
+    view: &[u32; 512],
+    g: usize,
+    proposals: &mut [u64],
+)
+    requires { ⌜ (g < 128) × (edgesOf (now plan) ≤ 128) ⌝ }
+    ensures { λ _. ⌜ ran Going (now (proposals .exit)) ≡ ranOf (on matched (words (now (plan .entry)) (now (edges .entry)) (now (noted .entry)) (now (view .entry))) g begun) (now (proposals .entry)) ⌝ }
+{
+    if loose(edges, noted, view, g) {
+        let n = plan::num_edges(plan) as usize;
+        let h = lowest_match(edges, noted, view, g, n);
+        if h < n {
+            let flip = left_region(edges, view, g) == right_region(edges, view, h);
+            put(
+                proposals,
+                edge_place(plan, g),
+                packed(2, h, g, bit(flip), 0),
+                0,
+            );
+        }
+    }
+}
+
+// Every edge in order.
+pub(crate) fn disconnect_matched(
+    plan: &[u32; 15241],
+    edges: &[[u8; 2]; 128],
+    noted: &[u32; 384],
+    view: &[u32; 512],
+    proposals: &mut [u64],
+)
+    requires { ⌜ edgesOf (now plan) ≤ 128 ⌝ }
+    ensures { λ _. ⌜ ran Going (now (proposals .exit)) ≡ ranOf (iter (guarded (on matched (words (now (plan .entry)) (now (edges .entry)) (now (noted .entry)) (now (view .entry))))) (edgesOf (now (plan .entry))) begun) (now (proposals .entry)) ⌝ }
+{
+    let n = plan::num_edges(plan) as usize;
+    for g in 0..n {
+        matched(plan, edges, noted, view, g, proposals);
+    }
+}

@@ -1,0 +1,100 @@
+// Step 3. Document 01: "Lower bound over the potential region's weight: conflict. Upper bounds cut. Pens in order of upper
+// bound, then falling lower bound (its negation rising), then number: lower bounds of pairwise separate ranges, added, must not
+// pass the potential weight."
+use crate::lit_at_least;
+use crate::negation;
+use crate::potential_weight;
+use noting::lower_bound;
+use noting::upper_bound;
+use reasons::Verdict;
+use reasons::goes_on;
+use reasons::packed;
+use reasons::put;
+use views::cells::required_weight;
+use views::cells::separate_ranges;
+ghost use mathlib.Core.Path.{_≡_};
+ghost use mathlib.Core.List.{List, []};
+ghost use Prim.Native.Nat.{ℕ, _+_, _<_, _≤_, min};
+ghost use lib.Dec.{eqb, ltb};
+ghost use Rattle.base.specs.Iter.{iter, pick};
+ghost use Rattle.plan.specs.Words.{verticesOf};
+ghost use Rattle.division.specs.Analysis.{cuts, crowds, guarded};
+ghost use Rattle.reasons.specs.declared.Verdict.the-variants.{Going};
+ghost use Rattle.reasons.specs.Verdicts.{begun, ran, ranOf};
+ghost use Rattle.analysis.specs.Placed.{words, on, Finds};
+
+// Vertex v: no more than what can be joined to it.
+fn cuts(
+    plan: &[u32; 15241],
+    noted: &[u32; 384],
+    view: &[u32; 512],
+    v: usize,
+    proposals: &mut [u64],
+) -> Verdict
+    ensures { λ r. ⌜ ran r (now (proposals .exit)) ≡ ranOf (on cuts (words (now (plan .entry)) [] (now (noted .entry)) (now (view .entry))) v begun) (now (proposals .entry)) ⌝ }
+{
+    if plan::domain_len(plan, v) == 0 {
+        return Verdict::Going;
+    }
+    let weight = potential_weight(view, v);
+    if weight < lower_bound(noted, v) {
+        return Verdict::Under { vertex_idx: v };
+    }
+    if weight < upper_bound(noted, v) {
+        let lit = lit_at_least(plan, v, weight as u64 + 1);
+        put(proposals, negation(lit), packed(5, v, 0, 0, 0), 0);
+    }
+    Verdict::Going
+}
+
+// Every vertex in order, up to a conflict.
+pub(crate) fn cut_upper_bounds(
+    plan: &[u32; 15241],
+    noted: &[u32; 384],
+    view: &[u32; 512],
+    proposals: &mut [u64],
+) -> Verdict
+    ensures { λ r. ⌜ ran r (now (proposals .exit)) ≡ ranOf (iter (guarded (on cuts (words (now (plan .entry)) [] (now (noted .entry)) (now (view .entry))))) (verticesOf (now (plan .entry))) begun) (now (proposals .entry)) ⌝ }
+{
+    let n = plan::num_vertices(plan) as usize;
+    for v in 0..n {
+        let found = cuts(plan, noted, view, v, proposals);
+        if goes_on(found) {
+            continue;
+        }
+        return found;
+    }
+    Verdict::Going
+}
+
+// The potential region with label r: its separate ranges need more than it weighs.
+fn crowds(plan: &[u32; 15241], noted: &[u32; 384], view: &[u32; 512], r: usize) -> Verdict
+    requires { ⌜ verticesOf (now plan) ≤ 64 ⌝ }
+    ensures { λ x. ⌜ Finds x (on crowds (words (now (plan .entry)) [] (now (noted .entry)) (now (view .entry))) r begun) ⌝ }
+{
+    if views::potential_region(view, r) as usize == r {
+        let mut chosen = [0u8; 64];
+        let count = separate_ranges(plan, noted, view, r, &mut chosen);
+        let weight = views::potential_region_weight(view, r) as u64;
+        if weight < required_weight(noted, &chosen, count) {
+            return Verdict::Crowded { region: r };
+        }
+    }
+    Verdict::Going
+}
+
+// Every potential region in order, up to a conflict.
+pub(crate) fn check_crowded(plan: &[u32; 15241], noted: &[u32; 384], view: &[u32; 512]) -> Verdict
+    requires { ⌜ verticesOf (now plan) ≤ 64 ⌝ }
+    ensures { λ r. ⌜ Finds r (iter (guarded (on crowds (words (now (plan .entry)) [] (now (noted .entry)) (now (view .entry))))) (verticesOf (now (plan .entry))) begun) ⌝ }
+{
+    let n = plan::num_vertices(plan) as usize;
+    for r in 0..n {
+        let found = crowds(plan, noted, view, r);
+        if goes_on(found) {
+            continue;
+        }
+        return found;
+    }
+    Verdict::Going
+}

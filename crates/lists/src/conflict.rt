@@ -1,0 +1,105 @@
+// The list that a conflict leaves: the Rust's `inconsistency_reason`.
+use crate::Ends;
+use crate::and_lit;
+use crate::and_word;
+use crate::decided;
+use crate::inside;
+use crate::path;
+use crate::potential;
+use crate::wide;
+use reasons::Verdict;
+use walks::Listed;
+ghost use mathlib.Core.Path.{_≡_};
+ghost use Rattle.walks.specs.Written.{outOf};
+ghost use Rattle.walks.specs.Answers.{answerOf};
+ghost use Rattle.lists.specs.Conflicts.{numChosen, spanAfter, spansAfter, chosenOf, apartLits, conflictLits};
+
+// The bound literals of vertex v after a list.
+fn span(noted: &[u32; 384], v: usize, r: Listed, out: &mut [u32]) -> Listed
+    ensures { λ a. ⌜ answerOf a (now (out .exit)) ≡ spanAfter (now (noted .entry)) v (answerOf r (now (out .entry))) ⌝ }
+{
+    let s = and_lit(r, noting::lower_bound_lit(noted, v), out);
+    and_lit(s, noting::upper_bound_lit(noted, v), out)
+}
+
+fn num_chosen(count: usize) -> usize
+    ensures { λ r. ⌜ r ≡ numChosen count ⌝ }
+{
+    if count < 64 {
+        return count;
+    }
+    64
+}
+
+// Those of the vertices chosen.
+fn spans(noted: &[u32; 384], chosen: &[u8; 64], count: usize, r: Listed, out: &mut [u32]) -> Listed
+    ensures { λ a. ⌜ answerOf a (now (out .exit)) ≡ spansAfter (now (noted .entry)) (chosenOf (now (chosen .entry)) count) (answerOf r (now (out .entry))) ⌝ }
+{
+    let n = num_chosen(count);
+    let mut a = r;
+    let mut i = 0;
+    while i < n {
+        a = span(noted, wide(chosen[i]), a, out);
+        i += 1;
+    }
+    a
+}
+
+// Bounds of one region that do not meet.
+fn apart(
+    plan: &[u32; 15241],
+    edges: [[u8; 2]; 128],
+    noted: &[u32; 384],
+    a: usize,
+    b: usize,
+    out: &mut [u32],
+    at: usize,
+) -> Listed
+    ensures { λ r. ⌜ answerOf r (now (out .exit)) ≡ apartLits (now (plan .entry)) edges (now (noted .entry)) a b (outOf (now (out .entry)) at) ⌝ }
+{
+    let p = Ends { u: a, v: b };
+    let r = path(plan, edges, noted, p, out, at);
+    let s = and_lit(r, noting::lower_bound_lit(noted, a), out);
+    and_lit(s, noting::upper_bound_lit(noted, b), out)
+}
+
+// The list of a conflict. Of a potential region whose ranges need more than it weighs, the vertices of these ranges are the first
+// `count` of `chosen`. What is no conflict has no list.
+pub fn conflict_lits(
+    plan: &[u32; 15241],
+    edges: [[u8; 2]; 128],
+    noted: &[u32; 384],
+    verdict: Verdict,
+    chosen: &[u8; 64],
+    count: usize,
+    out: &mut [u32],
+    at: usize,
+) -> Listed
+    ensures { λ r. ⌜ answerOf r (now (out .exit)) ≡ conflictLits (now (plan .entry)) edges (now (noted .entry)) verdict (chosenOf (now (chosen .entry)) count) (outOf (now (out .entry)) at) ⌝ }
+{
+    match verdict {
+        Verdict::Going => Listed::Missing,
+        Verdict::DisconnectedInside { edge_idx: g } => {
+            let r = inside(plan, edges, noted, g, out, at);
+            and_word(r, plan::edge_lit(plan, g), out)
+        }
+        Verdict::Over { vertex_idx: v } => {
+            let r = decided(plan, edges, noted, v, out, at);
+            and_lit(r, noting::upper_bound_lit(noted, v), out)
+        }
+        Verdict::Under { vertex_idx: v } => {
+            let r = potential(plan, edges, noted, v, out, at);
+            and_lit(r, noting::lower_bound_lit(noted, v), out)
+        }
+        Verdict::Crowded { region: v } => {
+            let r = potential(plan, edges, noted, v, out, at);
+            spans(noted, chosen, count, r, out)
+        }
+        Verdict::Apart {
+            lower_bound_idx: a,
+            upper_bound_idx: b,
+        } => apart(plan, edges, noted, a, b, out, at),
+        Verdict::Crossed => Listed::Missing,
+        Verdict::ZeroSize => Listed::Missing,
+    }
+}

@@ -1,0 +1,361 @@
+// The lists of literals: `get_reason_lits` and the list of a conflict, each written to a lent buffer from a place on. Both walk the
+// edges as noted.
+pub mod conflict;
+
+use reasons::reason::Reason;
+use walks::Listed;
+use walks::Shape;
+ghost use mathlib.Core.Path.{_≡_};
+ghost use Prim.Native.Nat.{_+_, _<_};
+ghost use Rattle.walks.specs.Written.{outOf, pushed};
+ghost use Rattle.walks.specs.Answers.{answerOf};
+ghost use Rattle.lists.specs.Parts.{shapeOf, endsOf, path, decided, potential, andWord, andLit, inside, twoPaths, twoRegions, threeRegions};
+ghost use Rattle.lists.specs.Lists.{between, tooLarge, mismatch, spread, sameSize, reasonLits};
+
+// The ends of an edge, or of a path.
+struct Ends {
+    u: usize,
+    v: usize,
+}
+
+fn shape_of(plan: &[u32; 15241]) -> Shape
+    ensures { λ r. ⌜ r ≡ shapeOf (now (plan .entry)) ⌝ }
+{
+    Shape {
+        num_vertices: plan::num_vertices(plan) as usize,
+        num_edges: plan::num_edges(plan) as usize,
+        first_lit: 4232,
+    }
+}
+
+fn wide(x: u8) -> usize
+    ensures { λ r. ⌜ r ≡ x ⌝ }
+{
+    x as usize
+}
+
+// The ends of edge g, the right one first with flip.
+fn ends_of(edges: [[u8; 2]; 128], g: usize, flip: bool) -> Ends
+    ensures { λ r. ⌜ r ≡ endsOf edges g flip ⌝ }
+{
+    if g < 128 {
+        let a = wide(edges[g][0]);
+        let b = wide(edges[g][1]);
+        if flip {
+            return Ends { u: b, v: a };
+        }
+        return Ends { u: a, v: b };
+    }
+    Ends { u: 0, v: 0 }
+}
+
+fn path(
+    plan: &[u32; 15241],
+    edges: [[u8; 2]; 128],
+    noted: &[u32; 384],
+    p: Ends,
+    out: &mut [u32],
+    at: usize,
+) -> Listed
+    ensures { λ r. ⌜ answerOf r (now (out .exit)) ≡ path (now (plan .entry)) edges (now (noted .entry)) p (outOf (now (out .entry)) at) ⌝ }
+{
+    walks::reason_connected_path(edges, noted, plan, shape_of(plan), p.u, p.v, out, at)
+}
+
+fn decided(
+    plan: &[u32; 15241],
+    edges: [[u8; 2]; 128],
+    noted: &[u32; 384],
+    u: usize,
+    out: &mut [u32],
+    at: usize,
+) -> Listed
+    ensures { λ r. ⌜ answerOf r (now (out .exit)) ≡ decided (now (plan .entry)) edges (now (noted .entry)) u (outOf (now (out .entry)) at) ⌝ }
+{
+    walks::reason_decided_region(edges, noted, plan, shape_of(plan), u, out, at)
+}
+
+fn potential(
+    plan: &[u32; 15241],
+    edges: [[u8; 2]; 128],
+    noted: &[u32; 384],
+    u: usize,
+    out: &mut [u32],
+    at: usize,
+) -> Listed
+    ensures { λ r. ⌜ answerOf r (now (out .exit)) ≡ potential (now (plan .entry)) edges (now (noted .entry)) u (outOf (now (out .entry)) at) ⌝ }
+{
+    walks::reason_potential_region(edges, noted, plan, shape_of(plan), u, out, at)
+}
+
+// One word more, if there is room: the place past it.
+fn push(out: &mut [u32], at: usize, x: u32) -> usize
+    ensures { λ r. ⌜ outOf (now (out .exit)) r ≡ pushed x (outOf (now (out .entry)) at) ⌝ }
+{
+    if at < out.len() {
+        out[at] = x;
+        return at + 1;
+    }
+    at
+}
+
+// One literal after a list.
+fn and_word(r: Listed, x: u32, out: &mut [u32]) -> Listed
+    ensures { λ a. ⌜ answerOf a (now (out .exit)) ≡ andWord x (answerOf r (now (out .entry))) ⌝ }
+{
+    match r {
+        Listed::Past(n) => Listed::Past(push(out, n, x)),
+        Listed::Missing => Listed::Missing,
+    }
+}
+
+// One literal after a list, if it is one.
+fn and_lit(r: Listed, x: u32, out: &mut [u32]) -> Listed
+    ensures { λ a. ⌜ answerOf a (now (out .exit)) ≡ andLit x (answerOf r (now (out .entry))) ⌝ }
+{
+    if x == 65535 {
+        return r;
+    }
+    and_word(r, x, out)
+}
+
+fn two_paths(
+    plan: &[u32; 15241],
+    edges: [[u8; 2]; 128],
+    noted: &[u32; 384],
+    p: Ends,
+    q: Ends,
+    out: &mut [u32],
+    at: usize,
+) -> Listed
+    ensures { λ r. ⌜ answerOf r (now (out .exit)) ≡ twoPaths (now (plan .entry)) edges (now (noted .entry)) p q (outOf (now (out .entry)) at) ⌝ }
+{
+    let r = path(plan, edges, noted, p, out, at);
+    match r {
+        Listed::Past(n) => path(plan, edges, noted, q, out, n),
+        Listed::Missing => Listed::Missing,
+    }
+}
+
+fn two_regions(
+    plan: &[u32; 15241],
+    edges: [[u8; 2]; 128],
+    noted: &[u32; 384],
+    u: usize,
+    v: usize,
+    out: &mut [u32],
+    at: usize,
+) -> Listed
+    ensures { λ r. ⌜ answerOf r (now (out .exit)) ≡ twoRegions (now (plan .entry)) edges (now (noted .entry)) u v (outOf (now (out .entry)) at) ⌝ }
+{
+    let r = decided(plan, edges, noted, u, out, at);
+    match r {
+        Listed::Past(n) => decided(plan, edges, noted, v, out, n),
+        Listed::Missing => Listed::Missing,
+    }
+}
+
+// The path from one end of edge g to the other.
+fn inside(
+    plan: &[u32; 15241],
+    edges: [[u8; 2]; 128],
+    noted: &[u32; 384],
+    g: usize,
+    out: &mut [u32],
+    at: usize,
+) -> Listed
+    ensures { λ r. ⌜ answerOf r (now (out .exit)) ≡ inside (now (plan .entry)) edges (now (noted .entry)) g (outOf (now (out .entry)) at) ⌝ }
+{
+    path(plan, edges, noted, ends_of(edges, g, false), out, at)
+}
+
+// EdgeBetweenDifferentGroups.
+fn between(
+    plan: &[u32; 15241],
+    edges: [[u8; 2]; 128],
+    noted: &[u32; 384],
+    h: u8,
+    g: u8,
+    flip: bool,
+    out: &mut [u32],
+    at: usize,
+) -> Listed
+    ensures { λ r. ⌜ answerOf r (now (out .exit)) ≡ between (now (plan .entry)) edges (now (noted .entry)) h g flip (outOf (now (out .entry)) at) ⌝ }
+{
+    let d = ends_of(edges, h as usize, false);
+    let e = ends_of(edges, g as usize, flip);
+    let p = Ends { u: d.u, v: e.u };
+    let q = Ends { u: d.v, v: e.v };
+    let r = two_paths(plan, edges, noted, p, q, out, at);
+    and_word(r, plan::edge_lit(plan, h as usize), out)
+}
+
+// TooLargeIfRegionsAreMerged.
+fn too_large(
+    plan: &[u32; 15241],
+    edges: [[u8; 2]; 128],
+    noted: &[u32; 384],
+    g: u8,
+    l: u16,
+    out: &mut [u32],
+    at: usize,
+) -> Listed
+    ensures { λ r. ⌜ answerOf r (now (out .exit)) ≡ tooLarge (now (plan .entry)) edges (now (noted .entry)) g l (outOf (now (out .entry)) at) ⌝ }
+{
+    let e = ends_of(edges, g as usize, false);
+    let r = two_regions(plan, edges, noted, e.u, e.v, out, at);
+    and_lit(r, l as u32, out)
+}
+
+// InconsistentBoundsIfRegionsAreMerged; no list for any other reason.
+fn mismatch(
+    plan: &[u32; 15241],
+    edges: [[u8; 2]; 128],
+    noted: &[u32; 384],
+    reason: Reason,
+    out: &mut [u32],
+    at: usize,
+) -> Listed
+    ensures { λ r. ⌜ answerOf r (now (out .exit)) ≡ mismatch (now (plan .entry)) edges (now (noted .entry)) reason (outOf (now (out .entry)) at) ⌝ }
+{
+    if let Reason::InconsistentBoundsIfRegionsAreMerged {
+        disconnected_edge_idx: g,
+        upper_bound_vertex_idx: a,
+        lower_bound_vertex_idx: b,
+        flip,
+    } = reason {
+        let e = ends_of(edges, g as usize, flip);
+        let p = Ends {
+            u: e.u,
+            v: a as usize,
+        };
+        let q = Ends {
+            u: e.v,
+            v: b as usize,
+        };
+        let r = two_paths(plan, edges, noted, p, q, out, at);
+        let s = and_lit(r, noting::upper_bound_lit(noted, a as usize), out);
+        return and_lit(s, noting::lower_bound_lit(noted, b as usize), out);
+    }
+    Listed::Missing
+}
+
+// BoundPropagationWithinRegion.
+fn spread(
+    plan: &[u32; 15241],
+    edges: [[u8; 2]; 128],
+    noted: &[u32; 384],
+    k: u8,
+    u: u8,
+    l: u16,
+    out: &mut [u32],
+    at: usize,
+) -> Listed
+    ensures { λ r. ⌜ answerOf r (now (out .exit)) ≡ spread (now (plan .entry)) edges (now (noted .entry)) k u l (outOf (now (out .entry)) at) ⌝ }
+{
+    let p = Ends {
+        u: k as usize,
+        v: u as usize,
+    };
+    let r = path(plan, edges, noted, p, out, at);
+    and_lit(r, l as u32, out)
+}
+
+// Two regions and a third one.
+fn three_regions(
+    plan: &[u32; 15241],
+    edges: [[u8; 2]; 128],
+    noted: &[u32; 384],
+    a: usize,
+    b: usize,
+    u: usize,
+    out: &mut [u32],
+    at: usize,
+) -> Listed
+    ensures { λ r. ⌜ answerOf r (now (out .exit)) ≡ threeRegions (now (plan .entry)) edges (now (noted .entry)) a b u (outOf (now (out .entry)) at) ⌝ }
+{
+    let r = two_regions(plan, edges, noted, a, b, out, at);
+    match r {
+        Listed::Past(n) => decided(plan, edges, noted, u, out, n),
+        Listed::Missing => Listed::Missing,
+    }
+}
+
+// AdjacentSameSizeRegions; no list for any other reason.
+fn same_size(
+    plan: &[u32; 15241],
+    edges: [[u8; 2]; 128],
+    noted: &[u32; 384],
+    reason: Reason,
+    out: &mut [u32],
+    at: usize,
+) -> Listed
+    ensures { λ r. ⌜ answerOf r (now (out .exit)) ≡ sameSize (now (plan .entry)) edges (now (noted .entry)) reason (outOf (now (out .entry)) at) ⌝ }
+{
+    if let Reason::AdjacentSameSizeRegions {
+        region1_vertex: a,
+        region1_lower_bound: la,
+        region1_upper_bound: ua,
+        region2_vertex: b,
+        region2_lower_bound: lb,
+        region2_upper_bound: ub,
+        region3_vertex: u,
+    } = reason {
+        let r = three_regions(
+            plan,
+            edges,
+            noted,
+            a as usize,
+            b as usize,
+            u as usize,
+            out,
+            at,
+        );
+        let s = and_lit(r, la as u32, out);
+        let t = and_lit(s, ua as u32, out);
+        let w = and_lit(t, lb as u32, out);
+        return and_lit(w, ub as u32, out);
+    }
+    Listed::Missing
+}
+
+// The Rust's `get_reason_lits`, where the edges and bounds are as noted. There is no list where a path is gone.
+pub fn reason_lits(
+    plan: &[u32; 15241],
+    edges: [[u8; 2]; 128],
+    noted: &[u32; 384],
+    reason: Reason,
+    out: &mut [u32],
+    at: usize,
+) -> Listed
+    ensures { λ r. ⌜ answerOf r (now (out .exit)) ≡ reasonLits (now (plan .entry)) edges (now (noted .entry)) reason (outOf (now (out .entry)) at) ⌝ }
+{
+    match reason {
+        Reason::NotPropagated => Listed::Missing,
+        Reason::EdgeInSameGroup { edge_idx: g } => inside(plan, edges, noted, g as usize, out, at),
+        Reason::EdgeBetweenDifferentGroups {
+            disconnected_edge_idx: h,
+            newly_decided_edge_idx: g,
+            flip,
+        } => between(plan, edges, noted, h, g, flip, out, at),
+        Reason::TooLargeIfRegionsAreMerged {
+            disconnected_edge_idx: g,
+            upper_bound_lit: l,
+        } => too_large(plan, edges, noted, g, l, out, at),
+        Reason::RegionAlreadyLarge { vertex_idx: v } => {
+            decided(plan, edges, noted, v as usize, out, at)
+        }
+        Reason::RegionAlreadySmall { vertex_idx: v } => {
+            potential(plan, edges, noted, v as usize, out, at)
+        }
+        Reason::InconsistentBoundsIfRegionsAreMerged { .. } => {
+            mismatch(plan, edges, noted, reason, out, at)
+        }
+        Reason::BoundPropagationWithinRegion {
+            known_bound_lit: l,
+            known_bound_idx: k,
+            unknown_bound_idx: u,
+        } => spread(plan, edges, noted, k, u, l, out, at),
+        Reason::AdjacentSameSizeRegions { .. } => same_size(plan, edges, noted, reason, out, at),
+    }
+}
