@@ -6,7 +6,6 @@ use reasons::reason::Reason;
 use walks::Listed;
 use walks::Shape;
 ghost use mathlib.Core.Path.{_≡_};
-ghost use Prim.Native.Nat.{_+_, _<_};
 ghost use Rattle.walks.specs.Written.{outOf, pushed};
 ghost use Rattle.walks.specs.Answers.{answerOf};
 ghost use Rattle.lists.specs.Parts.{shapeOf, endsOf, path, decided, potential, andWord, andLit, inside, twoPaths, twoRegions, threeRegions};
@@ -319,7 +318,8 @@ fn same_size(
     Listed::Missing
 }
 
-// The Rust's `get_reason_lits`, where the edges and bounds are as noted. There is no list where a path is gone.
+// The Rust's `get_reason_lits`, where the edges and bounds are as noted. There is no list where a path is gone; if it is the second
+// of two, the literals of the first are written.
 pub fn reason_lits(
     plan: &[u32; 15241],
     edges: [[u8; 2]; 128],

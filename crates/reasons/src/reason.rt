@@ -2,7 +2,7 @@
 use crate::packed;
 use crate::packed_lits;
 ghost use mathlib.Core.Path.{_≡_};
-ghost use Prim.Native.Nat.{_/_, _%_};
+ghost use Prim.Native.Nat.{_%_};
 ghost use Rattle.reasons.specs.Words.{packed, bit};
 ghost use Rattle.reasons.specs.Reason.{laterReason, reasonOf, firstWordOf, secondWordOf};
 
