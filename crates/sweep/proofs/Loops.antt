@@ -11,7 +11,7 @@ use lib.ListN.{length, getD, take, drop, length-set, drop-of-length-le}
 use lib.Seq.{drop-cons, take-nil}
 use borrow.Author.Tests.{le-ltb}
 use Rattle.base.specs.Iter.{iter}
-use Rattle.base.proofs.Loop.{pick-yes, pick-no, pick-ind, eq-or-not, iter-ind}
+use Rattle.base.proofs.Loop.{pick-yes, pick-no, pick-ind, eq-or-not, tested, iter-ind}
 use Rattle.division.specs.Regions.{lowest}
 use Rattle.division.proofs.Phases.{lowest-true}
 use Rattle.division.proofs.Views.{lowest-most}
@@ -36,6 +36,17 @@ module _ (t : ℕ → Bool) where
   lowest-none (suc n) f =
       let e = lowest-none n (λ q h. f q (le-step h)) in
       sym (pick-no _ _ (le-ltb (lowest t n) n (omega arith)) ∙ pick-no _ _ (f n (lt-suc-self n)))
+
+  pub lowest-le : (n : ℕ) → lowest t n ≤ n
+  unfolding lowest
+  lowest-le zero = omega arith
+  lowest-le (suc n) = let h = lowest-le n in pick-ind (λ x. x ≤ suc n) _ _ _ (λ _. omega arith) (λ _. pick-ind (λ x. x ≤ suc n) _ _ _ (λ _. omega arith) (λ _. omega arith))
+
+  pub lowest-below : (n q : ℕ) → q < lowest t n → t q ≡ false
+  lowest-below n q h = tested (t q) (λ e. absurd (over e)) (λ e. e)
+    where
+      over : t q ≡ true → ⊥
+      over e = let k = lowest-le n in let m = lowest-most t n q (omega arith) e in omega arith
 
 -- ---- a part of a list
 module _ (t l : List ℕ) (to i : ℕ) where
