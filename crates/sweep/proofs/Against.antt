@@ -16,6 +16,7 @@ use Rattle.base.specs.Lists.{Every}
 use Rattle.base.proofs.Loop.{pick-ind, pick-yes, pick-no, eq-or-not, tested}
 use Rattle.base.proofs.Tests.{and-left, and-right, and-rest}
 use Rattle.division.specs.Analysis.{Verdict, Proposal}
+use Rattle.division.specs.Noting.{In}
 use Rattle.division.specs.Regions.{lowest}
 use Rattle.division.proofs.Phases.{lowest-true}
 use Rattle.calls.specs.Table.{rising, falseIn, unsetIn, enter}
@@ -26,8 +27,9 @@ use Rattle.plan.specs.Words.{variablesOf, variableAt, uniqueLitAt}
 use Rattle.plan.specs.Proper.{ProperWords}
 use Rattle.reasons.specs.Words.{stored}
 use Rattle.sweep.specs.Sweep.{proposedAt, falseAt, firstFalseAt, Handed, handing, handed, handedAt, handedOn}
-use Rattle.sweep.specs.Relit.{relitOut, Blank, Inside}
+use Rattle.sweep.specs.Relit.{relitOut, places, Blank, Inside}
 use Rattle.sweep.proofs.Loops.{lowest-below, lowest-le}
+use Rattle.sweep.proofs.Stored.{proposed-in}
 use Rattle.sweep.proofs.Swept.{swept}
 
 -- ---- the first that is false
@@ -155,6 +157,17 @@ module _ (ws : List ℕ) (ends : List (List ℕ)) (w : ProperWords ws ends) (zer
       ∙ first-from t (uniqueLitAt ws) (proposedAt (stored ps zeros)) n 0 at (omega arith) (omega arith) (lowest-below (falseAt ws (stored ps zeros) t) n)
       (λ (l : at < 0 + n). lowest-true (falseAt ws (stored ps zeros) t) n (omega arith))
       ∙ ap (λ (x : ℕ). pick (ltb at x) (uniqueLitAt ws at ∷ []) []) (zero-add n)
+
+  pub false-none : (t : List ℕ) → 2 * variablesOf ws ≤ firstFalseAt ws (stored ps zeros) t → firstFalse t (offers (relitOut ws v ps)) ≡ []
+  false-none t h = first-false-is t ∙ pick-no _ _ (le-ltb (firstFalseAt ws (stored ps zeros) t) (2 * variablesOf ws) h)
+
+  pub false-some : (t : List ℕ) → firstFalseAt ws (stored ps zeros) t < 2 * variablesOf ws →
+      (firstFalse t (offers (relitOut ws v ps)) ≡ uniqueLitAt ws (firstFalseAt ws (stored ps zeros) t) ∷ []) × In (places ps) (firstFalseAt ws (stored ps zeros) t)
+  unfolding firstFalseAt falseAt
+  false-some t h = (
+    first-false-is t ∙ pick-yes _ _ (lt-ltb (firstFalseAt ws (stored ps zeros) t) (2 * variablesOf ws) h),
+    proposed-in ws zeros b ps _ i h (and-left _ _ (lowest-true (falseAt ws (stored ps zeros) t) (2 * variablesOf ws) h)),
+  )
 
   -- a literal of the plan has 13 bits
   unique-small : (p : ℕ) → p < 2 * variablesOf ws → uniqueLitAt ws p < 4294967296

@@ -6,9 +6,9 @@ use native.Mathlib.Numerals.{add-one}
 use mathlib.Core.Path.{_≡_, refl, sym, ap, ap₂, _∙_}
 use mathlib.Core.Logic.{⊎-elim}
 use mathlib.Core.Bool.{Bool, true, false, true≢false, _||_}
-use mathlib.Core.List.{List, [], _∷_}
+use mathlib.Core.List.{List, [], _∷_, _++_, append-assoc}
 use lib.ListN.{length, getD, take, drop, length-set, drop-of-length-le}
-use lib.Seq.{drop-cons, take-nil}
+use lib.Seq.{drop-cons, take-nil, sets, sets-eq, take-at, drop-at, length-take-le}
 use borrow.Author.Tests.{le-ltb}
 use Rattle.base.specs.Iter.{iter}
 use Rattle.base.proofs.Loop.{pick-yes, pick-no, pick-ind, eq-or-not, tested, iter-ind}
@@ -72,6 +72,15 @@ module _ (t l : List ℕ) (to i : ℕ) where
   pub part-no : i < to → i < length l → currentIn t (getD l i 0) ≡ false →
       someCurrent t (take (to - i) (drop i l)) ≡ someCurrent t (take (to - (i + 1)) (drop (i + 1) l))
   part-no h k e = part-more h k ∙ ap (λ (b : Bool). b || someCurrent t (take (to - (i + 1)) (drop (i + 1) l))) e
+
+-- the part of a list that was written there
+pub part-written : (l vs : List ℕ) (at : ℕ) → at + length vs ≤ length l → take (at + length vs - at) (drop at (sets l at vs)) ≡ vs
+part-written l vs at h =
+    let n : at + length vs - at ≡ length vs = omega arith in
+    ap₂ (λ (k : ℕ) (m : List ℕ). take k (drop at m)) n (sets-eq vs l at h)
+    ∙ ap (λ (m : List ℕ). take (length vs) (drop at m)) (append-assoc (take at l) vs (drop (at + length vs) l))
+    ∙ ap (take (length vs)) (drop-at (take at l) (vs ++ drop (at + length vs) l) at (length-take-le at l (omega arith)))
+    ∙ take-at vs (drop (at + length vs) l) (length vs) refl
 
 -- ---- what is handed on
 module _ (t u l m : List ℕ) (at r lit : ℕ) where

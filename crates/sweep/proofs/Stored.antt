@@ -3,7 +3,7 @@ use Prim.Native.Nat.{ℕ, _+_, _*_, _<_, _≤_}
 use native.Mathlib.Omega.{arith}
 use native.Mathlib.Nat.{zero-add}
 use mathlib.Core.Path.{_≡_, refl, sym, ap, _∙_}
-use mathlib.Core.Logic.{⊎-elim}
+use mathlib.Core.Logic.{inr, ⊎-elim}
 use mathlib.Core.Bool.{Bool, true, false, _||_}
 use mathlib.Core.List.{List, [], _∷_, List·Memᴰ·head}
 use lib.Dec.{eqb, ltb}
@@ -13,7 +13,7 @@ use borrow.Author.Tests.{lt-ltb, eq-eqb, ne-eqb}
 use Rattle.base.specs.Iter.{pick}
 use Rattle.base.specs.Lists.{Every}
 use Rattle.base.proofs.Loop.{pick-ind, pick-yes, pick-no, eq-or-not}
-use Rattle.base.proofs.Filled.{filled-length, filled-in}
+use Rattle.base.proofs.Filled.{filled-length, filled-in, filled-out}
 use Rattle.division.specs.Reasons.{Reason, edgeInSameGroup, edgeBetweenDifferentGroups, tooLargeIfRegionsAreMerged, regionAlreadyLarge, regionAlreadySmall, inconsistentBoundsIfRegionsAreMerged, boundPropagationWithinRegion, adjacentSameSizeRegions}
 use Rattle.division.specs.Analysis.{Proposal}
 use Rattle.division.specs.Noting.{In}
@@ -31,6 +31,15 @@ unfolding cleared
 cleared-blank ws words h =
     let e = filled-length 0 (λ i. 0) words (4 * variablesOf ws) in
     record { long = omega arith; zeros = λ i k. ap (λ (j : ℕ). getD (cleared ws words) j 0) (sym (zero-add i)) ∙ filled-in 0 (λ i. 0) words (4 * variablesOf ws) i k (omega arith) }
+
+-- and leaves the other words
+pub cleared-length : (ws words : List ℕ) → length (cleared ws words) ≡ length words
+unfolding cleared
+cleared-length ws words = filled-length 0 (λ i. 0) words (4 * variablesOf ws)
+
+pub cleared-rest : (ws words : List ℕ) (i : ℕ) → 4 * variablesOf ws ≤ i → getD (cleared ws words) i 0 ≡ getD words i 0
+unfolding cleared
+cleared-rest ws words i h = filled-out 0 (λ i. 0) words (4 * variablesOf ws) i (inr (omega arith))
 
 -- no reason's first word is 0
 pub first-word-some : (r : Reason) → 0 < firstWord r

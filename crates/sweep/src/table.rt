@@ -6,7 +6,7 @@ ghost use Rattle.calls.specs.Table.{codeOf, coded, trueIn, falseIn, unsetIn, cu
 ghost use Rattle.calls.specs.Marks.{sign};
 
 // The entry of a literal's variable; past the table's end 0.
-pub fn code(table: &[u8], lit: u64) -> u8
+fn code(table: &[u8], lit: u64) -> u8
     ensures { λ r. ⌜ r ≡ codeOf (now (table .entry)) lit ⌝ }
 {
     let i = (lit / 2) as usize;
@@ -34,7 +34,7 @@ pub fn is_true(table: &[u8], lit: u64) -> bool
     coded(2, 4, code(table, lit))
 }
 
-pub fn is_false(table: &[u8], lit: u64) -> bool
+pub(crate) fn is_false(table: &[u8], lit: u64) -> bool
     ensures { λ r. ⌜ r ≡ falseIn (now (table .entry)) lit ⌝ }
 {
     if lit % 2 == 0 {
@@ -43,14 +43,14 @@ pub fn is_false(table: &[u8], lit: u64) -> bool
     coded(1, 3, code(table, lit))
 }
 
-pub fn is_unset(table: &[u8], lit: u64) -> bool
+pub(crate) fn is_unset(table: &[u8], lit: u64) -> bool
     ensures { λ r. ⌜ r ≡ unsetIn (now (table .entry)) lit ⌝ }
 {
     code(table, lit) == 0
 }
 
 // Whether the literal or its negation was set at the current level.
-pub fn is_current(table: &[u8], lit: u64) -> bool
+fn is_current(table: &[u8], lit: u64) -> bool
     ensures { λ r. ⌜ r ≡ currentIn (now (table .entry)) lit ⌝ }
 {
     coded(3, 4, code(table, lit))
@@ -67,7 +67,7 @@ fn sign(lit: u64) -> u8
 }
 
 // The literal becomes true at the current level; nothing past the table's end.
-pub fn enter(table: &mut [u8], lit: u64)
+pub(crate) fn enter(table: &mut [u8], lit: u64)
     ensures { λ _. ⌜ now (table .exit) ≡ enter (now (table .entry)) lit ⌝ }
 {
     let i = (lit / 2) as usize;
