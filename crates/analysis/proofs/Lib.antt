@@ -9,3 +9,4 @@ pub mod Relabelled
 pub mod Places
 pub mod Meeting
 pub mod Chain
+pub mod Analyzing

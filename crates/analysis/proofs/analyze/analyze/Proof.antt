@@ -1,30 +1,29 @@
+use mathlib.Core.Path.{_≡_, refl, sym, ap, ap₂, _∙_}
+use Rattle.base.proofs.Loop.{pick-yes, pick-no}
+use Rattle.views.specs.Compute.{Computed}
+use Rattle.analysis.specs.Analyze.{analyzeBy, analyzeWords}
+use Rattle.analysis.proofs.Pass.{ran-length}
+use Rattle.analysis.proofs.Analyzing.{fit}
 use borrow.Author.Needs.{needs}
 use Rattle.analysis.proofs.analyze.analyze.Statement.{statement}
 use Rattle.analysis.proofs.analyze.analyze.Tie as tie
-use Rattle.analysis.proofs.analyze.analyze.Reads as reads
-use Rattle.analysis.proofs.analyze.analyze.Lts as lts
-use Rattle.analysis.proofs.analyze.steps.Reads as steps-reads
-use Rattle.views.proofs.compute.compute_view.Reads as compute-view-reads
 
--- src/analyze.rt:160:8
 compute-view-requires : tie.Need-compute-view-requires
 compute-view-requires c κs = search needs
 
--- src/analyze.rt:161:9
 steps-requires : tie.Need-steps-requires
-steps-requires c κs = ?
+steps-requires c κs = fit _ _ _ _ (ap (λ (z : Computed). z .done) (sym (c .before .before .before .compute-view .ensures)) ∙ (c .before .before .if1 .taken))
 
--- src/analyze.rt:161:9
 same-length : tie.Need-same-length
-same-length c = search needs
+same-length c = ran-length _ _ _ _ (c .before .before .steps .ensures)
 
--- src/analyze.rt:161:9
 returns : tie.Need-returns
-returns c = ?
+unfolding analyzeWords analyzeBy
+returns c = (c .before .before .steps .ensures) ∙ (sym (pick-yes _ _ (c .before .before .before .before .before .if1 .taken)) ∙ ap (analyzeBy (c .before .before .before .before .before .before .before .before .before .args .plan .now) (c .before .before .before .before .before .before .before .before .before .args .edges) (c .before .before .before .before .before .before .before .before .before .args .noted .now) (c .before .before .before .before .before .before .before .before .before .args .proposals .now)) (c .before .before .before .before .before .before .compute-view .ensures))
 
--- src/analyze.rt:151:1
 returns-2 : tie.Need-returns-2
-returns-2 c = ?
+unfolding analyzeWords analyzeBy
+returns-2 c = sym (pick-no _ _ (c .if1 .left)) ∙ ap (analyzeBy (c .before .before .before .before .args .plan .now) (c .before .before .before .before .args .edges) (c .before .before .before .before .args .noted .now) (c .before .before .before .before .args .proposals .now)) (c .before .compute-view .ensures)
 
 pub analyze-spec : {M : Type 1} → statement M
 analyze-spec =

@@ -1,48 +1,39 @@
+use mathlib.Core.List.{[]}
+use Rattle.reasons.specs.declared.Verdict.the-variants.{Going}
+use mathlib.Core.Path.{_≡_, refl, sym, ap, ap₂, _∙_}
+use native.Mathlib.Omega.{arith}
+use Rattle.analysis.proofs.Chain.{step1-walls, step1-ended, step1-done}
+use Rattle.analysis.proofs.Pass.{ran-length}
 use borrow.Author.Needs.{needs}
 use Rattle.analysis.proofs.analyze.step1.Statement.{statement}
 use Rattle.analysis.proofs.analyze.step1.Tie as tie
-use Rattle.analysis.proofs.analyze.step1.Reads as reads
-use Rattle.analysis.proofs.analyze.step1.Lts as lts
-use Rattle.analysis.proofs.step1.connect_inside.Reads as connect-inside-reads
-use Rattle.analysis.proofs.step1.disconnect_matched.Reads as disconnect-matched-reads
-use Rattle.plan.proofs.allow_extra_walls.Reads as allow-extra-walls-reads
-use Rattle.reasons.proofs.goes_on.Reads as goes-on-reads
 
--- src/analyze.rt:34:8
 allow-extra-walls-requires : tie.Need-allow-extra-walls-requires
 allow-extra-walls-requires c κs = search needs
 
--- src/analyze.rt:35:9
 returns : tie.Need-returns
-returns c = ?
+returns c = step1-walls _ _ _ _ [] [] Going (sym (c .before .allow-extra-walls .ensures) ∙ (c .if1 .taken))
 
--- src/analyze.rt:37:9
 connect-inside-requires : tie.Need-connect-inside-requires
-connect-inside-requires c κs = search needs
+connect-inside-requires c κs = (c .before .before .before .before .before .pre .edges)
 
--- src/analyze.rt:38:8
 goes-on-requires : tie.Need-goes-on-requires
 goes-on-requires c κs = search needs
 
--- src/analyze.rt:39:9
 disconnect-matched-requires : tie.Need-disconnect-matched-requires
-disconnect-matched-requires c κs = search needs
+disconnect-matched-requires c κs = (c .before .before .before .before .before .before .before .before .before .before .before .before .pre .edges)
 
--- src/analyze.rt:40:9
 same-length : tie.Need-same-length
-same-length c = search needs
+same-length c = ran-length _ _ _ _ (step1-done _ _ _ _ _ _ _ (sym (c .before .before .before .before .before .before .before .before .before .before .before .before .before .allow-extra-walls .ensures) ∙ (c .before .before .before .before .before .before .before .before .before .before .before .before .if1 .left)) (sym (c .before .before .before .before .before .before .goes-on .ensures) ∙ (c .before .before .before .before .before .if2 .taken)) (c .before .before .before .before .before .before .before .before .before .connect-inside .ensures) (c .before .before .disconnect-matched .ensures))
 
--- src/analyze.rt:40:9
 returns-2 : tie.Need-returns-2
-returns-2 c = ?
+returns-2 c = step1-done _ _ _ _ _ _ _ (sym (c .before .before .before .before .before .before .before .before .before .before .before .before .before .allow-extra-walls .ensures) ∙ (c .before .before .before .before .before .before .before .before .before .before .before .before .if1 .left)) (sym (c .before .before .before .before .before .before .goes-on .ensures) ∙ (c .before .before .before .before .before .if2 .taken)) (c .before .before .before .before .before .before .before .before .before .connect-inside .ensures) (c .before .before .disconnect-matched .ensures)
 
--- src/analyze.rt:24:1
 same-length-2 : tie.Need-same-length-2
-same-length-2 c = search needs
+same-length-2 c = ran-length _ _ _ _ (c .before .before .before .before .connect-inside .ensures)
 
--- src/analyze.rt:24:1
 returns-3 : tie.Need-returns-3
-returns-3 c = ?
+returns-3 c = step1-ended _ _ _ _ _ [] _ (sym (c .before .before .before .before .before .before .before .before .allow-extra-walls .ensures) ∙ (c .before .before .before .before .before .before .before .if1 .left)) (sym (c .before .goes-on .ensures) ∙ (c .if2 .left)) (c .before .before .before .before .connect-inside .ensures)
 
 pub step1-spec : {M : Type 1} → statement M
 step1-spec =
