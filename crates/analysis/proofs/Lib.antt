@@ -8,3 +8,5 @@ pub mod Forks
 pub mod Relabelled
 pub mod Places
 pub mod Meeting
+pub mod Chain
+pub mod Analyzing

@@ -2,3 +2,4 @@ pub mod Placed
 pub mod SameSize
 pub mod Relabel
 pub mod First
+pub mod Analyze

@@ -15,7 +15,7 @@ use Rattle.plan.specs.Plan.{planOf}
 use Rattle.noting.specs.Words.{stateOf, litsOf, lowerLitOf, upperLitOf}
 use Rattle.reasons.specs.Verdicts.{verdictOf}
 use Rattle.reasons.specs.declared.Verdict.{Verdict}
-use Rattle.reasons.specs.declared.Verdict.the-variants.{Going, DisconnectedInside, Over, Under, Crowded, Apart, Crossed, ZeroSize}
+use Rattle.reasons.specs.declared.Verdict.the-variants.{Going, DisconnectedInside, Over, Under, Crowded, Apart, Crossed, ZeroSize, Unfit}
 use Rattle.walks.specs.declared.Listed.the-variants.{Missing}
 use Rattle.walks.specs.Written.{Out}
 use Rattle.walks.specs.Answers.{given, missing}
@@ -54,6 +54,7 @@ module _ (ws : List ℕ) (es : List (List ℕ)) (noted : List ℕ) (k : Held ws 
   writes (Apart a b) ps o = λ (h, i) e. lit-after _ _ _ _ o (lit-after _ _ _ _ o (path-there ws es noted k a b o h i e) refl) (simp append-assoc)
   writes Crossed ps o = tt
   writes ZeroSize ps o = tt
+  writes Unfit ps o = tt
 
   -- the list of a conflict is written where its path is there; ps are the vertices of separate ranges
   pub conflict-listed : (v : Verdict) (ps : List ℕ) (c : Conflict) (o : Out) → conflictsOf v ps ≡ c ∷ [] → ConflictWithin d c → pathGone d s c ≡ false →
@@ -74,6 +75,7 @@ module _ (ws : List ℕ) (es : List (List ℕ)) (noted : List ℕ) (k : Held ws 
   misses (Apart a b) ps o = λ (h, i) e. lit-lost _ _ (lit-lost _ _ (path-gone ws es noted k a b o h i e))
   misses Crossed ps o = refl
   misses ZeroSize ps o = refl
+  misses Unfit ps o = refl
 
   -- and not where it is gone
   pub conflict-missing : (v : Verdict) (ps : List ℕ) (c : Conflict) (o : Out) → conflictsOf v ps ≡ c ∷ [] → ConflictWithin d c → pathGone d s c ≡ true → conflictLits ws es noted v ps o .listed ≡ Missing

@@ -14,7 +14,7 @@ use Rattle.calls.specs.Look.{unjoined}
 use Rattle.plan.specs.Words.{edgeLitOf}
 use Rattle.noting.specs.Words.{lowerLitOf, upperLitOf}
 use Rattle.reasons.specs.declared.Verdict.{Verdict}
-use Rattle.reasons.specs.declared.Verdict.the-variants.{Going, DisconnectedInside, Over, Under, Crowded, Apart, Crossed, ZeroSize}
+use Rattle.reasons.specs.declared.Verdict.the-variants.{Going, DisconnectedInside, Over, Under, Crowded, Apart, Crossed, ZeroSize, Unfit}
 use Rattle.walks.specs.Written.{Out}
 use Rattle.walks.specs.Answers.{Answer, missing}
 use Rattle.lists.specs.Parts.{endsFrom, path, decided, potential, inside, andWord, andLit}
@@ -48,6 +48,7 @@ module _ (ws : List ℕ) (es : List (List ℕ)) (noted : List ℕ) where
   conflictLits (Apart a b) ps o = apartLits a b o
   conflictLits Crossed ps o = missing o
   conflictLits ZeroSize ps o = missing o
+  conflictLits Unfit ps o = missing o
 
 -- the conflict that is meant, none for a verdict that is none; ps are the vertices chosen
 unfoldable pub conflictsOf : Verdict → List ℕ → List Conflict
@@ -59,6 +60,7 @@ conflictsOf (Crowded r) ps = crowded r ps ∷ []
 conflictsOf (Apart a b) ps = apart a b ∷ []
 conflictsOf Crossed ps = []
 conflictsOf ZeroSize ps = []
+conflictsOf Unfit ps = []
 
 -- ps are the vertices of a conflict's separate ranges, if it has any
 abbrev pub Chosen : Conflict → List ℕ → Type 0

@@ -101,5 +101,6 @@ pub fn conflict_lits(
         } => apart(plan, edges, noted, a, b, out, at),
         Verdict::Crossed => Listed::Missing,
         Verdict::ZeroSize => Listed::Missing,
+        Verdict::Unfit => Listed::Missing,
     }
 }

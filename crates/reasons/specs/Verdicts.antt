@@ -5,7 +5,7 @@ use Prim.Native.Nat.{ℕ}
 use Rattle.division.specs.Conflicts.{disconnectedInside, over, under, crowded, apart}
 use Rattle.division.specs.Analysis as abstract
 use Rattle.reasons.specs.declared.Verdict.{Verdict}
-use Rattle.reasons.specs.declared.Verdict.the-variants.{Going, DisconnectedInside, Over, Under, Crowded, Apart, Crossed, ZeroSize}
+use Rattle.reasons.specs.declared.Verdict.the-variants.{Going, DisconnectedInside, Over, Under, Crowded, Apart, Crossed, ZeroSize, Unfit}
 use Rattle.reasons.specs.Words.{stored}
 
 -- the code's verdict; the vertices of separate ranges follow from the region
@@ -28,6 +28,7 @@ goesOn (Crowded r) = false
 goesOn (Apart a b) = false
 goesOn Crossed = false
 goesOn ZeroSize = false
+goesOn Unfit = false
 
 -- nothing found, nothing proposed
 abbrev pub begun : abstract.Out

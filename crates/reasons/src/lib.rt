@@ -33,6 +33,8 @@ pub enum Verdict {
     Crossed,
     // Refusal 13.
     ZeroSize,
+    // The words are no plan's: nothing was analyzed.
+    Unfit,
 }
 
 pub fn goes_on(v: Verdict) -> bool
@@ -50,6 +52,7 @@ pub fn goes_on(v: Verdict) -> bool
         } => false,
         Verdict::Crossed => false,
         Verdict::ZeroSize => false,
+        Verdict::Unfit => false,
     }
 }
 

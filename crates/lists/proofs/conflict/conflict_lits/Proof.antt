@@ -67,6 +67,9 @@ enum-told-2 c = search needs
 enum-told-3 : tie.Need-enum-told-3
 enum-told-3 c = search needs
 
+enum-told-4 : tie.Need-enum-told-4
+enum-told-4 c = search needs
+
 returns : tie.Need-returns
 unfolding conflictLits missing
 returns c = conflict-arm _ _ _ _ _ _ _ _ ((c .enum-told .given) .1) refl
@@ -114,6 +117,10 @@ returns-8 : tie.Need-returns-8
 unfolding conflictLits missing
 returns-8 c = conflict-arm _ _ _ _ _ _ _ _ ((c .enum-told3 .given) .1) refl
 
+returns-9 : tie.Need-returns-9
+unfolding conflictLits missing
+returns-9 c = conflict-arm _ _ _ _ _ _ _ _ ((c .enum-told4 .given) .1) refl
+
 pub conflict-lits-spec : {M : Type 1} → statement M
 conflict-lits-spec =
     tie.close
@@ -138,6 +145,7 @@ conflict-lits-spec =
     apart-requires
     enum-told-2
     enum-told-3
+    enum-told-4
     returns
     same-length
     returns-2
@@ -150,4 +158,5 @@ conflict-lits-spec =
     same-length-5
     returns-6
     returns-7
-    returns-8)
+    returns-8
+    returns-9)

@@ -1,0 +1,4 @@
+pub mod Loops
+pub mod Stored
+pub mod Swept
+pub mod Against

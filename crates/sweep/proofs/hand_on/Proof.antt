@@ -1,0 +1,70 @@
+use mathlib.Core.Path.{_≡_, refl, sym, ap, ap₂, _∙_}
+use Prim.Native.Nat.{ℕ, suc, _+_, _-_, _*_, _/_, _%_, _≤_, _<_}
+use native.Mathlib.Omega.{arith}
+use borrow.Author.Needs.{needs}
+use lib.ListN.{length}
+use Rattle.base.specs.Iter.{iter}
+use Rattle.base.proofs.Loop.{iter-zero, iter-more, iter-done}
+use Rattle.plan.specs.Words.{variablesOf}
+use Rattle.sweep.specs.Sweep.{Handed, handing, handedAt, handedOn}
+use Rattle.sweep.proofs.Loops.{all-table, all-list}
+use Rattle.sweep.proofs.hand_on.Statement.{statement}
+use Rattle.sweep.proofs.hand_on.Tie as tie
+
+abbrev Inv-loop : tie.InvT-loop
+Inv-loop plan proposals table₀ list₀ at n p₀ past₀ table list p past = (p ≤ n) × ((n ≡ 2 * variablesOf plan) × (handing table list past ≡ iter (handedAt plan proposals) p (handing table₀ list₀ at)))
+
+abbrev μ-loop : tie.MeasureT-loop
+μ-loop plan proposals table₀ list₀ at n p₀ past₀ table list p past = n - p
+
+num-variables-requires : tie.Need-num-variables-requires Inv-loop μ-loop
+num-variables-requires c κs = search needs
+
+cast-n : tie.Need-cast-n Inv-loop μ-loop
+cast-n c = omega arith
+
+mul-n : tie.Need-mul-n Inv-loop μ-loop
+mul-n c = omega arith
+
+loop-holds : tie.Need-loop-holds Inv-loop μ-loop
+loop-holds c = (omega arith, (omega arith, iter-zero _ _))
+
+hand-on-place-requires : tie.Need-hand-on-place-requires Inv-loop μ-loop
+hand-on-place-requires c κs = search needs
+
+add-p : tie.Need-add-p Inv-loop μ-loop
+add-p c = omega arith
+
+loop-less : tie.Need-loop-less Inv-loop μ-loop
+loop-less c = omega arith
+
+loop-again : tie.Need-loop-again Inv-loop μ-loop
+loop-again c = (omega arith, ((c .before .before .before .before .before .before .before .before .loop .inv .1 .0), iter-more _ _ _ _ _ (c .before .before .before .before .before .before .before .before .loop .inv .1 .1) (c .before .before .before .before .hand-on-place .ensures)))
+
+same-length : tie.Need-same-length Inv-loop μ-loop
+same-length c = ap (λ (x : Handed). length (x .table)) (c .before .loop .inv .1 .1) ∙ all-table _ _ (c .before .loop .p) _
+
+same-length-2 : tie.Need-same-length-2 Inv-loop μ-loop
+same-length-2 c = ap (λ (x : Handed). length (x .out .text)) (c .before .loop .inv .1 .1) ∙ all-list _ _ (c .before .loop .p) _
+
+returns : tie.Need-returns Inv-loop μ-loop
+unfolding handedOn
+returns c = iter-done _ _ _ _ _ (c .before .loop .inv .1 .1) (omega arith) (omega arith)
+
+pub hand-on-spec : {M : Type 1} → statement M
+hand-on-spec =
+    tie.close
+    (tie.spec
+    Inv-loop
+    μ-loop
+    num-variables-requires
+    cast-n
+    mul-n
+    loop-holds
+    hand-on-place-requires
+    add-p
+    loop-less
+    loop-again
+    same-length
+    same-length-2
+    returns)

@@ -1,0 +1,30 @@
+use mathlib.Core.Path.{_≡_, refl, sym, ap, ap₂, _∙_}
+use Prim.Native.Nat.{ℕ, suc, _+_, _-_, _*_, _/_, _%_, _≤_, _<_}
+use native.Mathlib.Omega.{arith}
+use lib.ListN.{set}
+use lib.Seq.{set-out}
+use Rattle.calls.specs.Marks.{sign}
+use Rattle.calls.specs.Table.{enter}
+use borrow.Author.Needs.{needs}
+use Rattle.sweep.proofs.table.enter.Statement.{statement}
+use Rattle.sweep.proofs.table.enter.Tie as tie
+
+sign-requires : tie.Need-sign-requires
+sign-requires c κs = search needs
+
+slice-write-table : tie.Need-slice-write-table
+slice-write-table c = search needs
+
+same-length : tie.Need-same-length
+same-length c = search needs
+
+returns : tie.Need-returns
+unfolding enter sign
+returns c = ap (λ (x : ℕ). set (c .before .before .before .args .table .now) ((c .before .before .before .args .lit) / 2) x) (c .sign .ensures)
+
+returns-2 : tie.Need-returns-2
+unfolding enter
+returns-2 c = sym (set-out _ _ _ (c .if1 .left))
+
+pub enter-spec : {M : Type 1} → statement M
+enter-spec = tie.close (tie.spec sign-requires slice-write-table same-length returns returns-2)

@@ -1,0 +1,120 @@
+// What an analysis proposed, against the value table. Words 2p and 2p + 1 of the proposals are those of the literal at place p
+// of the plan's distinct literals, which rise; specs/Sweep.antt says what each function does.
+pub mod table;
+
+ghost use mathlib.Core.Path.{_≡_};
+ghost use Rattle.walks.specs.Written.{outOf, pushed};
+ghost use Rattle.plan.specs.Words.{uniqueLitAt};
+ghost use lib.ListN.{set};
+ghost use Rattle.sweep.specs.Sweep.{proposedAt, cleared, falseAt, firstFalseAt, handing, handed, handedAt, handedOn};
+
+fn clear_word(proposals: &mut [u64], i: usize)
+    ensures { λ _. ⌜ now (proposals .exit) ≡ set (now (proposals .entry)) i 0 ⌝ }
+{
+    if i < proposals.len() {
+        proposals[i] = 0;
+    }
+}
+
+// No place is proposed any more; the words past the last place's stay.
+pub fn clear(plan: &[u32; 15241], proposals: &mut [u64])
+    ensures { λ _. ⌜ now (proposals .exit) ≡ cleared (now (plan .entry)) (now (proposals .entry)) ⌝ }
+{
+    let n = 4 * (plan::num_variables(plan) as usize);
+    let mut i = 0;
+    while i < n {
+        clear_word(proposals, i);
+        i += 1;
+    }
+}
+
+pub fn proposed(proposals: &[u64], p: usize) -> bool
+    ensures { λ r. ⌜ r ≡ proposedAt (now (proposals .entry)) p ⌝ }
+{
+    if p < proposals.len() - proposals.len() / 2 {
+        return 0 < proposals[2 * p];
+    }
+    false
+}
+
+fn false_at(plan: &[u32; 15241], proposals: &[u64], table: &[u8], p: usize) -> bool
+    ensures { λ r. ⌜ r ≡ falseAt (now (plan .entry)) (now (proposals .entry)) (now (table .entry)) p ⌝ }
+{
+    if proposed(proposals, p) {
+        return table::is_false(table, plan::unique_lit(plan, p));
+    }
+    false
+}
+
+// The lowest place that is proposed and whose literal is false, or the place past the last.
+pub fn first_false(plan: &[u32; 15241], proposals: &[u64], table: &[u8]) -> usize
+    ensures { λ r. ⌜ r ≡ firstFalseAt (now (plan .entry)) (now (proposals .entry)) (now (table .entry)) ⌝ }
+{
+    let n = 2 * (plan::num_variables(plan) as usize);
+    let mut p = 0;
+    while p < n {
+        if false_at(plan, proposals, table, p) {
+            return p;
+        }
+        p += 1;
+    }
+    n
+}
+
+// One word more, if there is room: the place past it.
+fn push(list: &mut [u32], at: usize, x: u32) -> usize
+    ensures { λ r. ⌜ outOf (now (list .exit)) r ≡ pushed x (outOf (now (list .entry)) at) ⌝ }
+{
+    if at < list.len() {
+        list[at] = x;
+        return at + 1;
+    }
+    at
+}
+
+fn hand_on_lit(table: &mut [u8], list: &mut [u32], at: usize, lit: u64) -> usize
+    ensures { λ r. ⌜ handing (now (table .exit)) (now (list .exit)) r ≡ handed lit (handing (now (table .entry)) (now (list .entry)) at) ⌝ }
+{
+    if table::is_unset(table, lit) {
+        table::enter(table, lit);
+        return push(list, at, (lit % 4294967296) as u32);
+    }
+    at
+}
+
+fn hand_on_place(
+    plan: &[u32; 15241],
+    proposals: &[u64],
+    table: &mut [u8],
+    list: &mut [u32],
+    at: usize,
+    p: usize,
+) -> usize
+    ensures { λ r. ⌜ handing (now (table .exit)) (now (list .exit)) r ≡ handedAt (now (plan .entry)) (now (proposals .entry)) p (handing (now (table .entry)) (now (list .entry)) at) ⌝ }
+{
+    if proposed(proposals, p) {
+        return hand_on_lit(table, list, at, plan::unique_lit(plan, p));
+    }
+    at
+}
+
+// Each proposed literal that is unset when its turn comes, in rising order: its entry becomes 3 or 4, and it goes to the list
+// from `at` on. The answer is the place past the last.
+pub fn hand_on(
+    plan: &[u32; 15241],
+    proposals: &[u64],
+    table: &mut [u8],
+    list: &mut [u32],
+    at: usize,
+) -> usize
+    ensures { λ r. ⌜ handing (now (table .exit)) (now (list .exit)) r ≡ handedOn (now (plan .entry)) (now (proposals .entry)) (handing (now (table .entry)) (now (list .entry)) at) ⌝ }
+{
+    let n = 2 * (plan::num_variables(plan) as usize);
+    let mut p = 0;
+    let mut past = at;
+    while p < n {
+        past = hand_on_place(plan, proposals, table, list, past, p);
+        p += 1;
+    }
+    past
+}
