@@ -41,6 +41,9 @@ struct Style {
     weights: usize,
     // Whether the literals get the truth values of one division, or any.
     divided: bool,
+    // Whether the last vertex is heavy and without a domain, and its edges mostly undecided: then the other vertices' bounds, which
+    // each has for itself, are seldom too much for a potential region, and the later steps are reached.
+    heavy: bool,
     // Percentages: an edge that is open in the division, a slot that shares a variable, an empty domain, a domain of one size.
     open: usize,
     shared: usize,
@@ -49,7 +52,8 @@ struct Style {
 }
 
 fn style(r: &mut Rng) -> Style {
-    let divided = r.chance(75);
+    let heavy = r.chance(30);
+    let divided = !heavy && r.chance(75);
     let open = [0, 20, 35, 50, 80][r.below(5)];
     let shared = [0, 0, 5, 15, 40][r.below(5)];
     let empty = [0, 10, 30, 60][r.below(4)];
@@ -70,7 +74,7 @@ fn style(r: &mut Rng) -> Style {
         6..=15 => 8,
         _ => 4,
     };
-    Style { vertices, edges, sizes, weights, divided, open, shared, empty, fixed }
+    Style { vertices, edges, sizes, weights: if heavy { 3 } else { weights }, divided, heavy, open, shared, empty, fixed }
 }
 
 // The variables given so far: the number and the truth value of each.
@@ -133,13 +137,17 @@ fn block(r: &mut Rng, out: &mut impl Write) {
     let m = if n == 0 { 0 } else if s.edges == 128 { 128 - r.below(2) * r.below(90) } else { r.below(s.edges + 1) };
 
     let top = s.weights - 1;
-    let weights: Vec<usize> = (0..n)
+    let mut weights: Vec<usize> = (0..n)
         .map(|_| match r.below(8) {
             0 => 0,
             1 => top,
+            2..=5 if s.heavy => 0,
             _ => r.below(top + 1),
         })
         .collect();
+    if s.heavy && n > 0 {
+        weights[n - 1] = 5 + r.below(60);
+    }
 
     let mut ends: Vec<(usize, usize)> = vec![];
     for g in 0..m {
@@ -152,6 +160,7 @@ fn block(r: &mut Rng, out: &mut impl Write) {
                 let (u, v) = ends[r.below(g)];
                 if r.chance(50) { (v, u) } else { (u, v) }
             }
+            3 | 4 if s.heavy => (r.below(n), n - 1),
             3..=7 if n > 1 => {
                 let u = r.below(n - 1);
                 if r.chance(50) { (u, u + 1) } else { (u + 1, u) }
@@ -189,19 +198,21 @@ fn block(r: &mut Rng, out: &mut impl Write) {
         writeln!(out, "O\t{}\t{}", r.below(2), r.below(2)).unwrap();
     }
     let edges_first = r.chance(5);
+    let common = if r.chance(40) { Some(r.below(5)) } else { None };
     let mut lines: Vec<String> = vec![];
     for v in 0..n {
-        let size = heavy[region[v]];
+        let size = if s.heavy { common.unwrap_or(r.below(8)) } else { heavy[region[v]] };
         let spread = 1 + r.below(2 * s.weights.min(600000));
-        let with = s.divided && !r.chance(2) || r.chance(60);
+        let with = (s.divided || s.heavy) && !r.chance(2) || r.chance(60);
         let most = if r.chance(s.fixed) { 1 } else { s.sizes };
-        let d = if r.chance(s.empty) { vec![] } else { domain(r, most, size, with, spread) };
+        let bare = r.chance(s.empty) || s.heavy && v == n - 1;
+        let d = if bare { vec![] } else { domain(r, most, size, with, spread) };
         let mut line = format!("P\t{}\t{}", weights[v], d.len());
         for x in &d {
             line += &format!("\t{x}");
         }
         for j in 1..d.len() {
-            let holds = if s.divided { size >= d[j] } else { r.chance(50) };
+            let holds = if s.divided || s.heavy { size >= d[j] } else { r.chance(50) };
             line += &format!("\t{}", vars.literal(r, s.shared, holds));
         }
         if d.is_empty() && r.chance(10) {
@@ -212,9 +223,14 @@ fn block(r: &mut Rng, out: &mut impl Write) {
         lines.push(line);
     }
     let mut gates: Vec<String> = vec![];
+    let mut undecided = vec![];
     for &(u, v) in &ends {
-        let shut = if s.divided { region[u] != region[v] } else { r.chance(50) };
-        gates.push(format!("G\t{u}\t{v}\t{}", vars.literal(r, s.shared, shut)));
+        let shut = if s.divided || s.heavy { region[u] != region[v] } else { r.chance(50) };
+        let lit = vars.literal(r, s.shared, shut);
+        if s.heavy && (u == n - 1 || v == n - 1) && r.chance(85) {
+            undecided.push(lit / 2);
+        }
+        gates.push(format!("G\t{u}\t{v}\t{lit}"));
     }
     let (a, b) = if edges_first { (&gates, &lines) } else { (&lines, &gates) };
     for l in a.iter().chain(b) {
@@ -227,9 +243,9 @@ fn block(r: &mut Rng, out: &mut impl Write) {
         order.swap(i, r.below(i + 1));
     }
     let part = [0, 15, 40, 60, 85, 100][r.below(6)];
-    let wrong = if s.divided { [0, 0, 0, 2, 10][r.below(5)] } else { 10 };
+    let wrong = if s.divided || s.heavy { [0, 0, 0, 2, 10][r.below(5)] } else { 10 };
     for k in order {
-        if r.chance(part) {
+        if r.chance(part) && !undecided.contains(&vars.numbers[k]) {
             let holds = vars.values[k] != r.chance(wrong);
             writeln!(out, "N\t{}\t1", 2 * vars.numbers[k] + !holds as usize).unwrap();
         }

@@ -1,5 +1,5 @@
 // What the Rust's own `notify`, `analyze` and `get_reason_lits` answer to blocks of O, P, G and N lines, in the text form of the
-// program analysis_cases. Blocks that the builder refuses are not for this driver: the Rust's `new` tests less.
+// program analysis_cases; a line that starts with `#` is a remark. Blocks that the builder refuses are not for this driver: the Rust's `new` tests less.
 //   oracle                          blocks from standard input, the answers to standard output
 //   oracle compare BLOCKS ANSWERS   the answers of another program to the blocks of a file, block by block
 // The source is included from a copy in which one search is changed (the script `oracle` says which).
@@ -96,7 +96,7 @@ fn build(block: &[&str]) -> (GraphDivision, Vec<Lit>) {
     let mut opts = GraphDivisionOptions { disallow_adjacent_same_size_regions: false, allow_extra_walls: false };
     let (mut domains, mut dom_lits, mut weights) = (vec![], vec![], vec![]);
     let (mut edges, mut edge_lits, mut noted) = (vec![], vec![], vec![]);
-    for line in block {
+    for line in block.iter().filter(|l| !l.starts_with('#')) {
         let mut fields = line.split('\t');
         let letter = fields.next().unwrap();
         let f: Vec<i32> = fields.map(|x| x.parse().expect("a number")).collect();
