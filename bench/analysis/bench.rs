@@ -194,10 +194,10 @@ fn compare(c: &mut Case) {
     assert_eq!(proposed, c.rust.proposed());
 }
 
-// Nanoseconds for one call, the best of nine rounds.
+// Nanoseconds for one call, the best of 25 rounds.
 fn time(rounds: usize, mut f: impl FnMut(usize) -> u32) -> f64 {
     let mut best = f64::MAX;
-    for _ in 0..9 {
+    for _ in 0..25 {
         let t = Instant::now();
         for i in 0..rounds {
             black_box(f(i));

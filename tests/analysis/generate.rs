@@ -57,7 +57,7 @@ fn style(r: &mut Rng) -> Style {
     let open = [0, 20, 35, 50, 80][r.below(5)];
     let shared = [0, 0, 5, 15, 40][r.below(5)];
     let empty = [0, 10, 30, 60][r.below(4)];
-    let fixed = [0, 10, 40, 90][r.below(4)];
+    let fixed = if heavy { [0, 40, 90, 100][r.below(4)] } else { [0, 10, 40, 90][r.below(4)] };
     let kind = r.below(200);
     let (vertices, edges, sizes) = match kind {
         0 => (64, 128, 32),
@@ -141,7 +141,7 @@ fn block(r: &mut Rng, out: &mut impl Write) {
         .map(|_| match r.below(8) {
             0 => 0,
             1 => top,
-            2..=5 if s.heavy => 0,
+            2..=6 if s.heavy => 0,
             _ => r.below(top + 1),
         })
         .collect();
@@ -195,7 +195,8 @@ fn block(r: &mut Rng, out: &mut impl Write) {
     }
 
     if r.chance(70) {
-        writeln!(out, "O\t{}\t{}", r.below(2), r.below(2)).unwrap();
+        let same_size = r.chance(if s.heavy { 80 } else { 50 });
+        writeln!(out, "O\t{}\t{}", same_size as usize, r.below(2)).unwrap();
     }
     let edges_first = r.chance(5);
     let common = if r.chance(40) { Some(r.below(5)) } else { None };
