@@ -194,17 +194,13 @@ fn compare(c: &mut Case) {
     assert_eq!(proposed, c.rust.proposed());
 }
 
-// Nanoseconds for one call, the best of 25 rounds.
+// Nanoseconds for one call.
 fn time(rounds: usize, mut f: impl FnMut(usize) -> u32) -> f64 {
-    let mut best = f64::MAX;
-    for _ in 0..25 {
-        let t = Instant::now();
-        for i in 0..rounds {
-            black_box(f(i));
-        }
-        best = best.min(t.elapsed().as_nanos() as f64 / rounds as f64);
+    let t = Instant::now();
+    for i in 0..rounds {
+        black_box(f(i));
     }
-    best
+    t.elapsed().as_nanos() as f64 / rounds as f64
 }
 
 fn main() {
@@ -218,10 +214,13 @@ fn main() {
                 for c in cases.iter_mut() {
                     compare(c);
                 }
-                // Each analysis finds the proposals of the one before, and records the same.
-                let rounds = 16 * if n < 64 { 60 } else { 12 };
-                let mine = time(rounds, |i| ours(&mut cases[i % 16]));
-                let rust = time(rounds, |i| cases[i % 16].rust.analyzed() as u32);
+                // The best of 50 rounds, the two in turn. Each analysis finds the proposals of the one before, and records the same.
+                let rounds = 16 * if n < 64 { 20 } else { 5 };
+                let (mut mine, mut rust) = (f64::MAX, f64::MAX);
+                for _ in 0..50 {
+                    mine = mine.min(time(rounds, |i| ours(&mut cases[i % 16])));
+                    rust = rust.min(time(rounds, |i| cases[i % 16].rust.analyzed() as u32));
+                }
                 println!("{:24} {mine:9.0} ns {rust:9.0} ns   {:5.2}", STATES[state], mine / rust);
             }
         }
