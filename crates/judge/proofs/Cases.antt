@@ -1,8 +1,7 @@
 -- What `judge` answers, case by case: which judgement of the definition it stands for, and what then holds of what it leaves.
 use mathlib.Core.Path.{_≡_, refl, sym, ap, _∙_, subst}
 use mathlib.Core.Logic.{_↔_}
-use mathlib.Core.Bool.{Bool}
-use mathlib.Core.List.{List, []}
+use mathlib.Core.List.{List}
 use Prim.Native.Nat.{ℕ, _+_, _*_, _≤_}
 use native.Mathlib.Omega.{arith}
 use lib.ListN.{length, take}
@@ -11,11 +10,11 @@ use Rattle.division.specs.Plan.{Plan}
 use Rattle.division.specs.Analysis.{going}
 use Rattle.division.specs.Runs.{analysis}
 use Rattle.calls.specs.Look as calls
-use Rattle.calls.specs.Look.{Looked, looked, lookedBy, offered, clashes, stop, offers, handOn, enterAll}
+use Rattle.calls.specs.Look.{Looked, looked, offered, clashes, stop, offers, handOn, enterAll}
 use Rattle.calls.proofs.View.{Saw, saw, sawStop, sawConflict, sawFalse, sawFine}
 use Rattle.plan.specs.Words.{variablesOf}
 use Rattle.plan.specs.Plan.{planOf}
-use Rattle.sweep.specs.Sweep.{Handed, handing, handedOn}
+use Rattle.sweep.specs.Sweep.{cleared, handing, handedOn}
 use Rattle.sweep.proofs.Against.{handed-all}
 use Rattle.judge.specs.Judge.{Judged}
 use Rattle.judge.specs.Answers.{answerFor, Leaves, Keeps, atPlaces, JudgedBy}
@@ -106,7 +105,7 @@ pub judged-handed : (ws : List ℕ) (ends : List (List ℕ)) (noted ls : List �
 judged-handed ws ends noted ls k t proposals l x j room e list at h =
     let d = planOf ws ends in
     let ps = analysis d ls .props in
-    let z = Rattle.sweep.specs.Sweep.cleared ws proposals in
+    let z = cleared ws proposals in
     let (a, b) = fine-hands d ls t (saw d ls t) (judged-fine ws d ls t proposals l x j .0 e) in
     ap (λ (w : List ℕ). handedOn ws w (handing t list at)) (j .words)
     ∙ handed-all ws ends (k .held .proper) z (judged-blank ws ends noted ls k proposals room) going (atPlaces ws ps) (judged-inside ws ends noted ls k) t list at h
