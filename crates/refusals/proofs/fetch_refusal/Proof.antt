@@ -1,8 +1,5 @@
-use mathlib.Core.Path.{_≡_, refl, sym, ap, _∙_}
-use mathlib.Core.Bool.{Bool, true, false, not, _&&_, _||_}
-use Prim.Native.Nat.{ℕ, _/_, _≤_, _<_}
-use native.Mathlib.Omega.{arith}
-use Rattle.base.proofs.Tests.{or-yes, or-next, not-false}
+use mathlib.Core.Path.{refl, sym, _∙_}
+use Rattle.base.proofs.Tests.{or-yes, or-next}
 use Rattle.refusals.specs.Refusals.{fetchRefusal}
 use Rattle.refusals.proofs.Steps.{stop, go-on}
 use borrow.Author.Needs.{needs}

@@ -1,11 +1,8 @@
-use mathlib.Core.Path.{_≡_, refl, sym, ap, _∙_}
-use mathlib.Core.Bool.{Bool, true, false, not, _&&_, _||_}
-use Prim.Native.Nat.{ℕ, _/_, _≤_, _<_}
-use native.Mathlib.Omega.{arith}
-use lib.IntN.{ℤ, pos}
+use mathlib.Core.Path.{refl, ap, _∙_}
+use Prim.Native.Nat.{ℕ, _/_}
 use mir.Facts.{toZ-ofZ}
 use Rattle.noting.specs.Undo.{recordsOf}
-use Rattle.noting.specs.Standing.{standing, hasVariable, notNewest}
+use Rattle.noting.specs.Standing.{standing, hasVariable}
 use Rattle.refusals.specs.Refusals.{litNumber, unknownLit, propagateRefusal}
 use Rattle.refusals.proofs.Steps.{stop, go-on}
 use borrow.Author.Needs.{needs}

@@ -1,10 +1,9 @@
-use mathlib.Core.Path.{_≡_, refl, sym, ap, _∙_}
-use mathlib.Core.Bool.{Bool, true, false, not, _&&_, _||_}
-use Prim.Native.Nat.{ℕ, _/_, _≤_, _<_}
-use native.Mathlib.Omega.{arith}
-use lib.IntN.{ℤ, pos}
+use mathlib.Core.Path.{sym, ap, _∙_}
+use mathlib.Core.Bool.{not}
+use Prim.Native.Nat.{ℕ, _/_}
+use lib.IntN.{pos}
 use mir.Facts.{toZ-ofZ}
-use Rattle.base.specs.Range.{inRange, toNat}
+use Rattle.base.specs.Range.{inRange}
 use Rattle.base.proofs.Tests.{and-no, and-next}
 use Rattle.noting.specs.Note.{known}
 use Rattle.refusals.specs.Refusals.{litNumber, unknownLit}
