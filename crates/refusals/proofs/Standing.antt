@@ -14,8 +14,9 @@ use Rattle.sat.specs.Literal.{negate}
 use Rattle.noting.specs.Standing.{hasVariable, newest, notNewest}
 use Rattle.noting.proofs.Vertex.{one-variable, negate-other}
 use Rattle.calls.specs.Table.{has}
-use Rattle.calls.specs.Calls.{World, undone, Outcome, refuse, taken, takeBack}
+use Rattle.calls.specs.Calls.{World, Outcome, refuse, taken, takeBack}
 use Rattle.calls.specs.Claim.{tail}
+use Rattle.refusals.specs.Calls.{takenBack}
 
 -- a literal of l's variable is l or its negation
 same-variable : (x l : ℕ) → eqb (x / 2) (l / 2) ≡ (eqb x l || eqb x (negate l))
@@ -42,15 +43,6 @@ stands-is l (x ∷ xs) = ap₂ (λ (a b : Bool). a || b) (same-variable x l) (st
 pub taken-is : (w : World) (l : ℕ) → hasVariable (l / 2) (w .standing) ≡ taken w l
 unfolding taken
 taken-is w l = stands-is l (w .standing)
-
--- what an accepted undo leaves, where ls stood
-unfoldable pub takenBack : World → List ℕ → Outcome
-takenBack w ls = record {
-  answer = undone;
-  world = record { standing = tail ls; reasons = w .reasons; last = w .last; done = w .done };
-  table = [];
-  handed = [];
-}
 
 pick-not : (b : Bool) (o q : Outcome) → pick b o q ≡ pick (not b) q o
 unfolding pick
