@@ -3,7 +3,7 @@ use mathlib.Core.Path.{_≡_, refl, sym, ap, ap₂, _∙_}
 use mathlib.Core.Logic.{⊎-elim}
 use mathlib.Core.Bool.{Bool, true, false, not, _||_}
 use mathlib.Core.List.{List, [], _∷_}
-use Prim.Native.Nat.{ℕ, _/_, _≤_}
+use Prim.Native.Nat.{ℕ, _/_, _<_}
 use native.Mathlib.Omega.{arith}
 use lib.Dec.{eqb}
 use borrow.Author.Tests.{eq-eqb, ne-eqb, eqb-true, eqb-false}
@@ -50,12 +50,12 @@ pick-not true o q = refl
 pick-not false o q = refl
 
 -- 11, "undo not of the newest standing"
-pub newest-is : (w : World) (l : ℕ) (ls : List ℕ) → l ≤ 8191 → takeBack w l ls ≡ pick (notNewest l ls) (refuse 11 w []) (takenBack w ls)
+pub newest-is : (w : World) (l : ℕ) (ls : List ℕ) → l < 65535 → takeBack w l ls ≡ pick (notNewest l ls) (refuse 11 w []) (takenBack w ls)
 unfolding notNewest newest takeBack takenBack tail
 newest-is w l [] h = sym (pick-yes _ _ (ap not (ne-eqb 65535 l (λ (e : 65535 ≡ l). omega arith))))
 newest-is w l (x ∷ xs) h = pick-not (eqb x l) _ _
 
-pub newest-there : (l : ℕ) (ls : List ℕ) → l ≤ 8191 → notNewest l ls ≡ false → (xs : List ℕ) × (ls ≡ l ∷ xs)
+pub newest-there : (l : ℕ) (ls : List ℕ) → l < 65535 → notNewest l ls ≡ false → (xs : List ℕ) × (ls ≡ l ∷ xs)
 unfolding notNewest newest
 newest-there l [] h e = absurd (let z : 65535 ≡ l = eqb-true 65535 l (not-false (eqb 65535 l) e) in omega arith)
 newest-there l (x ∷ xs) h e = (xs, ap (λ (n : ℕ). n ∷ xs) (eqb-true x l (not-false (eqb x l) e)))
