@@ -7,7 +7,7 @@ use Prim.Native.Nat.{ℕ}
 use lib.Dec.{eqb}
 use lib.IntN.{ℤ}
 use Rattle.base.specs.Iter.{pick}
-use Rattle.base.proofs.Loop.{pick-no, tested}
+use Rattle.base.proofs.Loop.{pick-no}
 use Rattle.undo_log.specs.declared.Cursor.{Cursor}
 use Rattle.plan.specs.Plan.{planOf}
 use Rattle.division.specs.Plan.{Plan}

@@ -10,7 +10,6 @@ use Rattle.base.proofs.Loop.{tested}
 use Rattle.base.proofs.Tests.{and-left, and-right}
 use Rattle.plan.specs.Words.{verticesOf, edgesOf, variablesOf, domainLenOf, litOf, edgeLitOf, domLitOf, placeOf, variableAt}
 use Rattle.plan.specs.Plan.{planOf}
-use Rattle.plan.specs.Check.{usedSlot}
 use Rattle.plan.specs.Proper.{ProperWords}
 use Rattle.plan.proofs.Abstract.{unique-only}
 use Rattle.plan.proofs.Passes.{edge-slot}

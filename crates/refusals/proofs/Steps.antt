@@ -1,5 +1,5 @@
 -- Tests in a row, as code that returns at the first that passes goes along them.
-use mathlib.Core.Path.{_≡_, refl, sym, ap, _∙_}
+use mathlib.Core.Path.{_≡_, refl, sym, _∙_}
 use mathlib.Core.Bool.{Bool, true, false, not, false≢true}
 use Prim.Native.Nat.{ℕ}
 use Rattle.base.specs.Iter.{pick}

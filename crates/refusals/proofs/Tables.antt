@@ -1,15 +1,14 @@
 -- Refusal 7's test of the value table on a proper plan's words is the plan's.
-use mathlib.Core.Path.{_≡_, refl, sym, ap, ap₂, subst, _∙_}
+use mathlib.Core.Path.{_≡_, refl, sym, ap, ap₂, _∙_}
 use mathlib.Core.Logic.{_⊎_, ⊎-elim}
 use mathlib.Core.Bool.{Bool, true, false, _||_}
 use mathlib.Core.List.{List, [], _∷_}
-use Prim.Native.Nat.{ℕ, zero, suc, pred, _+_, _-_, _*_, _/_, _≤_, _<_}
+use Prim.Native.Nat.{ℕ, zero, suc, pred, _-_, _*_, _/_, _≤_, _<_}
 use native.Mathlib.Omega.{arith}
 use native.Mathlib.Nat.{eq-or-lt-of-le}
 use lib.Dec.{ltb}
 use lib.ListN.{length, getD}
 use borrow.Author.Tests.{ltb-true, ltb-false}
-use Rattle.base.specs.Iter.{pick}
 use Rattle.base.specs.Lists.{some}
 use Rattle.base.proofs.Loop.{pick-ind}
 use Rattle.plan.specs.Words.{verticesOf, edgesOf, variablesOf, domainLenOf, edgeLitOf, domLitOf, variableAt}
