@@ -1,16 +1,17 @@
 -- Step 1, an edge's turn by cases.
-use Prim.Native.Nat.{ℕ, zero, suc, _+_, _<_, _≤_}
+use Prim.Native.Nat.{ℕ, zero, suc, _+_, _-_, _<_, _≤_}
 use native.Mathlib.Omega.{arith}
-use native.Mathlib.Numerals.{add-one}
+use native.Mathlib.Numerals.{add-one, unary-clauses}
 use native.Mathlib.Nat.{le-antisymm}
 use mathlib.Core.Path.{_≡_, refl, sym, ap, ap₂, _∙_, subst}
 use mathlib.Core.Logic.{inl, inr}
 use mathlib.Core.Bool.{Bool, true, false, not, _&&_, _||_}
 use mathlib.Core.List.{List, [], _∷_}
 use lib.Dec.{eqb, ltb}
-use borrow.Author.Tests.{eq-eqb, ne-eqb, lt-ltb, le-ltb}
+use lib.ListN.{getD}
+use borrow.Author.Tests.{eq-eqb, ne-eqb, eqb-false, lt-ltb, le-ltb}
 use Rattle.base.specs.Iter.{pick}
-use Rattle.base.proofs.Loop.{pick-yes, pick-no, eq-or-not}
+use Rattle.base.proofs.Loop.{pick-yes, pick-no, pick-ind, eq-or-not, tested}
 use Rattle.sat.specs.Literal.{negate}
 use Rattle.division.specs.Plan.{Plan}
 use Rattle.division.specs.State.{State, stateOf}
@@ -18,6 +19,7 @@ use Rattle.division.specs.Regions.{lowest}
 use Rattle.division.specs.Reasons.{Reason, edgeInSameGroup, edgeBetweenDifferentGroups}
 use Rattle.division.specs.Analysis.{View, inside, matches, loose, matched, propose, ends, lid, rid}
 use Rattle.reasons.specs.declared.Verdict.the-variants.{Going, DisconnectedInside}
+use Rattle.analysis.specs.First.{disconnectedEnd}
 use Rattle.reasons.specs.Words.{packed, bit, put, firstWord, secondWord, stored}
 use Rattle.reasons.specs.Verdicts.{verdictOf, begun, ran, ranOf}
 use Rattle.analysis.proofs.Pass.{Follows}
@@ -114,3 +116,73 @@ lowest-here t h (suc n) e f l =
 
 pub lowest-left : (t : ℕ → Bool) (h n : ℕ) → lowest t h ≡ h → h ≤ n → n ≤ h → n ≡ lowest t n
 lowest-left t h n e l k = let q = le-antisymm l k in sym (ap (lowest t) (sym q) ∙ (e ∙ q))
+
+-- the last disconnected edge, as the loop finds it
+pub end-none : (noted : List ℕ) (n k : ℕ) → k ≤ 0 → disconnectedEnd noted k ≡ disconnectedEnd noted n → 0 ≡ disconnectedEnd noted n
+unfolding disconnectedEnd
+end-none noted n zero h e = e
+end-none noted n (suc k) h e = absurd (omega (arith, h))
+
+end-here : (noted : List ℕ) (k : ℕ) → eqb (getD noted k 0) 1 ≡ true → disconnectedEnd noted (suc k) ≡ suc k
+unfolding disconnectedEnd
+end-here noted k t = pick-yes _ _ t
+
+end-not : (noted : List ℕ) (k : ℕ) → eqb (getD noted k 0) 1 ≡ false → disconnectedEnd noted (suc k) ≡ disconnectedEnd noted k
+unfolding disconnectedEnd
+end-not noted k t = pick-no _ _ t
+
+pub end-found : (noted : List ℕ) (n k : ℕ) → 0 < k → eqb (getD noted (k - 1) 0) 1 ≡ true → disconnectedEnd noted k ≡ disconnectedEnd noted n → k ≡ disconnectedEnd noted n
+end-found noted n zero h t e = absurd (omega (arith, h))
+end-found noted n (suc k) h t e = sym (end-here noted k (simp unary-clauses at t)) ∙ e
+
+pub end-next : (noted : List ℕ) (n k : ℕ) → 0 < k → eqb (getD noted (k - 1) 0) 1 ≡ false → disconnectedEnd noted k ≡ disconnectedEnd noted n → disconnectedEnd noted (k - 1) ≡ disconnectedEnd noted n
+end-next noted n zero h t e = absurd (omega (arith, h))
+end-next noted n (suc k) h t e = simp unary-clauses (sym (end-not noted k (simp unary-clauses at t)) ∙ e)
+
+pub end-low : (noted : List ℕ) (n : ℕ) → disconnectedEnd noted n ≤ n
+unfolding disconnectedEnd
+end-low noted zero = omega arith
+end-low noted (suc n) = pick-ind (λ i. i ≤ suc n) (eqb (getD noted n 0) 1) (suc n) (disconnectedEnd noted n) (λ _. omega arith) (λ _. omega (arith, end-low noted n))
+
+-- past it no edge is disconnected
+end-past : (noted : List ℕ) (n i : ℕ) → disconnectedEnd noted n ≤ i → i < n → getD noted i 0 ≡ 1 → ⊥
+end-past noted zero i h l e = absurd (omega (arith, l))
+end-past noted (suc n) i h l e = tested (eqb (getD noted n 0) 1)
+    (λ t. omega (arith, end-here noted n t, h, l))
+    (λ t. elim (eq-or-not i n) [
+      | inl k ↦ eqb-false (getD noted n 0) 1 t (ap (λ j. getD noted j 0) (sym k) ∙ e)
+      | inr k ↦ end-past noted n i (omega (arith, end-not noted n t, h)) (omega (arith, l, k)) e
+    ])
+
+-- so a search may end there: what it finds is the lowest of all, and where it finds none there is none
+lowest-up : (t : ℕ → Bool) (m n : ℕ) → m ≤ n → lowest t m < m → lowest t m ≡ lowest t n
+lowest-up t m zero h l = ap (lowest t) (omega (arith, h))
+lowest-up t m (suc n) h l =
+    elim (eq-or-not m (suc n)) [
+      | inl k ↦ ap (lowest t) k
+      | inr k ↦ lowest-stays t (lowest t m) n (lowest-up t m n (omega (arith, h, k)) l) (omega (arith, h, k, l))
+    ]
+
+lowest-nowhere : (t : ℕ → Bool) (m n : ℕ) → m ≤ n → ((i : ℕ) → m ≤ i → i < n → t i ≡ false) → m ≤ lowest t m → n ≤ lowest t n
+unfolding lowest
+lowest-nowhere t m zero h f l = omega arith
+lowest-nowhere t m (suc n) h f l =
+    elim (eq-or-not m (suc n)) [
+      | inl k ↦ subst (λ i. i ≤ lowest t i) k l
+      | inr k ↦
+          let z = lowest-nowhere t m n (omega (arith, h, k)) (λ i a b. f i a (omega (arith, b))) l in
+          subst (λ i. suc n ≤ i) (sym (pick-no _ _ (le-ltb (lowest t n) n z) ∙ pick-no _ _ (f n (omega (arith, h, k)) (omega arith)))) (omega arith)
+    ]
+
+module _ (d : Plan) (s : State) (w : View) (g : ℕ) (end : ℕ) (e : end ≡ disconnectedEnd (s .edgeState) (d .edges)) where
+  not-past : (i : ℕ) → end ≤ i → i < d .edges → matches d s w g i ≡ false
+  not-past i h l = sym (matches-no d s w g [] i (end-past (s .edgeState) (d .edges) i (subst (λ j. j ≤ i) e h) l))
+
+  low : end ≤ d .edges
+  low = subst (λ j. j ≤ d .edges) (sym e) (end-low (s .edgeState) (d .edges))
+
+  pub end-some : (h : ℕ) → h ≡ lowest (matches d s w g) end → h < end → (h ≡ lowest (matches d s w g) (d .edges)) × (h < d .edges)
+  end-some h k l = (k ∙ lowest-up (matches d s w g) end (d .edges) low (subst (λ j. j < end) k l), omega (arith, l, low))
+
+  pub end-nothing : (h : ℕ) → h ≡ lowest (matches d s w g) end → end ≤ h → d .edges ≤ lowest (matches d s w g) (d .edges)
+  end-nothing h k l = lowest-nowhere (matches d s w g) end (d .edges) low not-past (subst (λ j. end ≤ j) k l)

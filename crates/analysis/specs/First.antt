@@ -1,11 +1,19 @@
+-- What code tests first, to search less.
 -- The analysis as code makes it: a region's vertices are searched for two bounds that do not meet only where the region's own bounds do
 -- not, which compares two words. The search finds nothing elsewhere (proofs/Meeting.antt), so this is division's `analyzed`.
-use Prim.Native.Nat.{ℕ}
-use lib.Dec.{ltb}
+use mathlib.Core.List.{List}
+use Prim.Native.Nat.{ℕ, zero, suc}
+use lib.Dec.{eqb, ltb}
+use lib.ListN.{getD}
 use Rattle.base.specs.Iter.{iter, pick}
 use Rattle.division.specs.Plan.{Plan}
 use Rattle.division.specs.State.{State}
 use Rattle.division.specs.Analysis.{View, Out, guarded, meets, parts, spreads, step1, step2, step3, step5}
+
+-- how many of the first n edges there are up to the last disconnected one
+unfoldable pub disconnectedEnd : List ℕ → ℕ → ℕ
+disconnectedEnd noted zero = 0
+disconnectedEnd noted (suc n) = pick (eqb (getD noted n 0) 1) (suc n) (disconnectedEnd noted n)
 
 module _ (d : Plan) (s : State) (w : View) where
   unfoldable pub meetsFirst : ℕ → Out → Out

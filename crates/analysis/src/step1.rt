@@ -14,6 +14,7 @@ ghost use mathlib.Core.List.{[]};
 ghost use mathlib.Core.Bool.{_&&_, _||_};
 ghost use Prim.Native.Nat.{_<_, _≤_};
 ghost use lib.Dec.{eqb};
+ghost use lib.ListN.{getD};
 ghost use Rattle.base.specs.Iter.{iter};
 ghost use Rattle.plan.specs.Words.{edgesOf};
 ghost use Rattle.division.specs.Regions.{lowest};
@@ -22,6 +23,7 @@ ghost use Rattle.reasons.specs.declared.Verdict.the-variants.{Going};
 ghost use Rattle.reasons.specs.Words.{bit};
 ghost use Rattle.reasons.specs.Verdicts.{begun, ran, ranOf};
 ghost use Rattle.analysis.specs.Placed.{words, on};
+ghost use Rattle.analysis.specs.First.{disconnectedEnd};
 
 // Edge g inside a region.
 fn inside(
@@ -156,22 +158,44 @@ fn bit(b: bool) -> usize
     0
 }
 
-// Edge g between two regions that a disconnected edge also joins.
+fn is_disconnected(noted: &[u32; 384], g: usize) -> bool
+    requires { ⌜ g < 128 ⌝ }
+    ensures { λ r. ⌜ r ≡ eqb (getD (now (noted .entry)) g 0) 1 ⌝ }
+{
+    edge_state(noted, g) == 1
+}
+
+// How many of the first n edges there are up to the last disconnected one: no other edge can match.
+fn disconnected_end(noted: &[u32; 384], n: usize) -> usize
+    requires { ⌜ n ≤ 128 ⌝ }
+    ensures { λ r. ⌜ r ≡ disconnectedEnd (now (noted .entry)) n ⌝ }
+{
+    let mut k = n;
+    while 0 < k {
+        if is_disconnected(noted, k - 1) {
+            return k;
+        }
+        k -= 1;
+    }
+    0
+}
+
+// Edge g between two regions that a disconnected edge, one of the first `end`, also joins.
 fn matched(
     plan: &[u32; 15241],
     edges: &[[u8; 2]; 128],
     noted: &[u32; 384],
     view: &[u32; 512],
     g: usize,
+    end: usize,
     proposals: &mut [u64],
 )
-    requires { ⌜ (g < 128) × (edgesOf (now plan) ≤ 128) ⌝ }
+    requires { ⌜ (g < 128) × (edgesOf (now plan) ≤ 128) × (end ≡ disconnectedEnd (now noted) (edgesOf (now plan))) ⌝ }
     ensures { λ _. ⌜ ran Going (now (proposals .exit)) ≡ ranOf (on matched (words (now (plan .entry)) (now (edges .entry)) (now (noted .entry)) (now (view .entry))) g begun) (now (proposals .entry)) ⌝ }
 {
     if loose(edges, noted, view, g) {
-        let n = plan::num_edges(plan) as usize;
-        let h = lowest_match(edges, noted, view, g, n);
-        if h < n {
+        let h = lowest_match(edges, noted, view, g, end);
+        if h < end {
             let flip = left_region(edges, view, g) == right_region(edges, view, h);
             put(
                 proposals,
@@ -195,7 +219,8 @@ pub(crate) fn disconnect_matched(
     ensures { λ _. ⌜ ran Going (now (proposals .exit)) ≡ ranOf (iter (guarded (on matched (words (now (plan .entry)) (now (edges .entry)) (now (noted .entry)) (now (view .entry))))) (edgesOf (now (plan .entry))) begun) (now (proposals .entry)) ⌝ }
 {
     let n = plan::num_edges(plan) as usize;
+    let end = disconnected_end(noted, n);
     for g in 0..n {
-        matched(plan, edges, noted, view, g, proposals);
+        matched(plan, edges, noted, view, g, end, proposals);
     }
 }

@@ -1,3 +1,5 @@
+use mathlib.Core.Path.{ap}
+use Rattle.analysis.specs.First.{disconnectedEnd}
 use Prim.Native.Nat.{_≤_, _-_}
 use native.Mathlib.Omega.{arith}
 use mathlib.Core.Path.{_≡_, sym, _∙_}
@@ -13,10 +15,10 @@ use Rattle.analysis.proofs.step1.disconnect_matched.Statement.{statemen
 use Rattle.analysis.proofs.step1.disconnect_matched.Tie as tie
 
 abbrev Inv-loop : tie.InvT-loop
-Inv-loop plan edges noted view proposals₀ n g₀ proposals g = (g ≤ n) × (ran Going proposals ≡ ranOf (iter (guarded (on matched (words plan edges noted view))) g begun) proposals₀)
+Inv-loop plan edges noted view proposals₀ n end g₀ proposals g = (g ≤ n) × (ran Going proposals ≡ ranOf (iter (guarded (on matched (words plan edges noted view))) g begun) proposals₀)
 
 abbrev μ-loop : tie.MeasureT-loop
-μ-loop plan edges noted view proposals₀ n g₀ proposals g = n - g
+μ-loop plan edges noted view proposals₀ n end g₀ proposals g = n - g
 
 num-edges-requires : tie.Need-num-edges-requires Inv-loop μ-loop
 num-edges-requires c κs = search needs
@@ -24,11 +26,14 @@ num-edges-requires c κs = search needs
 cast-n : tie.Need-cast-n Inv-loop μ-loop
 cast-n c = omega arith
 
+disconnected-end-requires : tie.Need-disconnected-end-requires Inv-loop μ-loop
+disconnected-end-requires c κs = search needs
+
 loop-holds : tie.Need-loop-holds Inv-loop μ-loop
 loop-holds c = (omega arith, ran-none _ _)
 
 matched-requires : tie.Need-matched-requires Inv-loop μ-loop
-matched-requires c κs = (omega arith, omega arith)
+matched-requires c κs = (omega arith, omega arith, (c .before .before .before .disconnected-end .ensures) ∙ ap (disconnectedEnd (c .before .before .before .before .before .before .args .noted .now)) (c .before .before .before .before .num-edges .ensures))
 
 add-g : tie.Need-add-g Inv-loop μ-loop
 add-g c = omega arith
@@ -53,6 +58,7 @@ disconnect-matched-spec =
     μ-loop
     num-edges-requires
     cast-n
+    disconnected-end-requires
     loop-holds
     matched-requires
     add-g

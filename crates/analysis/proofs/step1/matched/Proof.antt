@@ -1,16 +1,17 @@
+use Rattle.plan.specs.Words.{edgesOf}
+use Rattle.analysis.proofs.Matching.{end-low}
 use mathlib.Core.Path.{_≡_, refl, sym, ap, ap₂, _∙_}
 use native.Mathlib.Omega.{arith}
-use Prim.Native.Nat.{ℕ, _≤_}
+use Prim.Native.Nat.{ℕ}
 use mathlib.Core.List.{[]}
-use mathlib.Core.Path.{subst}
 use lib.Dec.{eqb}
-use Rattle.division.specs.Regions.{lowest}
 use Rattle.division.specs.Analysis.{loose, matches}
 use Rattle.reasons.specs.Words.{bit, packed}
 use Rattle.reasons.specs.declared.Verdict.the-variants.{Going}
 use Rattle.reasons.specs.Verdicts.{ran}
-use Rattle.analysis.specs.Placed.{words, on}
-use Rattle.analysis.proofs.Matching.{matched-not, matched-none, matched-some}
+use Rattle.noting.specs.Words.{stateOf}
+use Rattle.analysis.specs.Placed.{words, planIn, viewIn}
+use Rattle.analysis.proofs.Matching.{matched-not, matched-none, matched-some, end-some, end-nothing}
 use borrow.Author.Needs.{needs}
 use Rattle.analysis.proofs.step1.matched.Statement.{statement}
 use Rattle.analysis.proofs.step1.matched.Tie as tie
@@ -18,20 +19,14 @@ use Rattle.analysis.proofs.step1.matched.Tie as tie
 loose-requires : tie.Need-loose-requires
 loose-requires c κs = search needs
 
-num-edges-requires : tie.Need-num-edges-requires
-num-edges-requires c κs = search needs
-
-cast-n : tie.Need-cast-n
-cast-n c = search needs
-
 lowest-match-requires : tie.Need-lowest-match-requires
-lowest-match-requires c κs = search needs
+lowest-match-requires c κs = ((c .before .before .before .pre .0), omega (arith, (c .before .before .before .pre .1), end-low (c .before .before .before .args .noted .now) (edgesOf (c .before .before .before .args .plan .now)), (c .before .before .before .pre .2)))
 
 left-region-requires : tie.Need-left-region-requires
 left-region-requires c κs = search needs
 
 right-region-requires : tie.Need-right-region-requires
-right-region-requires c κs = search needs
+right-region-requires c κs = omega (arith, (c .before .before .before .before .before .before .pre .1), end-low (c .before .before .before .before .before .before .args .noted .now) (edgesOf (c .before .before .before .before .before .before .args .plan .now)), (c .before .before .before .before .before .before .pre .2))
 
 edge-place-requires : tie.Need-edge-place-requires
 edge-place-requires c κs = search needs
@@ -51,15 +46,17 @@ same-length c = search needs
 returns : tie.Need-returns
 unfolding loose matches
 returns c =
-    let h = (c .before .before .before .before .before .before .before .before .before .before .lowest-match .ensures) ∙ ap (lowest (on matches (words [] (c .before .before .before .before .before .before .before .before .before .before .before .before .before .before .before .args .edges .now) (c .before .before .before .before .before .before .before .before .before .before .before .before .before .before .before .args .noted .now) (c .before .before .before .before .before .before .before .before .before .before .before .before .before .before .before .args .view .now)) (c .before .before .before .before .before .before .before .before .before .before .before .before .before .before .before .args .g))) (c .before .before .before .before .before .before .before .before .before .before .before .num-edges .ensures) in
+    let x = words (c .before .before .before .before .before .before .before .before .before .before .before .before .before .before .args .plan .now) (c .before .before .before .before .before .before .before .before .before .before .before .before .before .before .args .edges .now) (c .before .before .before .before .before .before .before .before .before .before .before .before .before .before .args .noted .now) (c .before .before .before .before .before .before .before .before .before .before .before .before .before .before .args .view .now) in
+    let h = end-some (planIn x) (stateOf (c .before .before .before .before .before .before .before .before .before .before .before .before .before .before .args .noted .now)) (viewIn x) (c .before .before .before .before .before .before .before .before .before .before .before .before .before .before .args .g) (c .before .before .before .before .before .before .before .before .before .before .before .before .before .before .args .end) (c .before .before .before .before .before .before .before .before .before .before .before .before .before .before .pre .2) (c .before .before .before .before .before .before .before .before .before .before .lowest-match .result) (c .before .before .before .before .before .before .before .before .before .before .lowest-match .ensures) (c .before .before .before .before .before .before .before .before .before .if2 .taken) in
     ap (ran Going) (c .before .before .put .ensures)
-    ∙ matched-some _ _ _ _ _ _ _ _ _ (sym (c .before .before .before .before .before .before .before .before .before .before .before .before .before .loose .ensures) ∙ (c .before .before .before .before .before .before .before .before .before .before .before .before .if1 .taken)) h (omega arith) (ap₂ eqb (c .before .before .before .before .before .before .before .before .left-region .ensures) (c .before .before .before .before .before .before .before .right-region .ensures)) (c .before .before .before .before .before .edge-place .ensures)
-    ((c .before .before .before .packed .ensures) ∙ ap (λ (i : ℕ). packed 2 (c .before .before .before .before .before .before .before .before .before .before .lowest-match .result) (c .before .before .before .before .before .before .before .before .before .before .before .before .before .before .before .args .g) i 0) (c .before .before .before .before .bit .ensures))
+    ∙ matched-some _ _ _ _ _ _ _ _ _ (sym (c .before .before .before .before .before .before .before .before .before .before .before .before .loose .ensures) ∙ (c .before .before .before .before .before .before .before .before .before .before .before .if1 .taken)) (h .0) (h .1) (ap₂ eqb (c .before .before .before .before .before .before .before .before .left-region .ensures) (c .before .before .before .before .before .before .before .right-region .ensures)) (c .before .before .before .before .before .edge-place .ensures)
+    ((c .before .before .before .packed .ensures) ∙ ap (λ (i : ℕ). packed 2 (c .before .before .before .before .before .before .before .before .before .before .lowest-match .result) (c .before .before .before .before .before .before .before .before .before .before .before .before .before .before .args .g) i 0) (c .before .before .before .before .bit .ensures))
 
 returns-2 : tie.Need-returns-2
 unfolding loose matches
 returns-2 c =
-    matched-none _ _ _ _ _ (sym (c .before .before .before .before .loose .ensures) ∙ (c .before .before .before .if1 .taken)) (subst (λ i. i ≤ lowest (on matches (words [] (c .before .before .before .before .before .before .args .edges .now) (c .before .before .before .before .before .before .args .noted .now) (c .before .before .before .before .before .before .args .view .now)) (c .before .before .before .before .before .before .args .g)) i) (c .before .before .num-edges .ensures) (subst (λ i. (c .before .before .num-edges .result) ≤ i) (c .before .lowest-match .ensures) (omega arith)))
+    let x = words (c .before .before .before .before .before .args .plan .now) (c .before .before .before .before .before .args .edges .now) (c .before .before .before .before .before .args .noted .now) (c .before .before .before .before .before .args .view .now) in
+    matched-none _ _ _ _ _ (sym (c .before .before .before .loose .ensures) ∙ (c .before .before .if1 .taken)) (end-nothing (planIn x) (stateOf (c .before .before .before .before .before .args .noted .now)) (viewIn x) (c .before .before .before .before .before .args .g) (c .before .before .before .before .before .args .end) (c .before .before .before .before .before .pre .2) (c .before .lowest-match .result) (c .before .lowest-match .ensures) (c .if2 .left))
 
 returns-3 : tie.Need-returns-3
 unfolding loose
@@ -70,8 +67,6 @@ matched-spec =
     tie.close
     (tie.spec
     loose-requires
-    num-edges-requires
-    cast-n
     lowest-match-requires
     left-region-requires
     right-region-requires
