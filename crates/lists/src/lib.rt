@@ -99,7 +99,7 @@ fn push(out: &mut [u32], at: usize, x: u32) -> usize
 }
 
 // One literal after a list.
-fn and_word(r: Listed, x: u32, out: &mut [u32]) -> Listed
+pub fn and_word(r: Listed, x: u32, out: &mut [u32]) -> Listed
     ensures { λ a. ⌜ answerOf a (now (out .exit)) ≡ andWord x (answerOf r (now (out .entry))) ⌝ }
 {
     match r {

@@ -1,0 +1,83 @@
+// The body of the Rust's `propagate` after noting, up to handing on: an analysis, and its proposals against the value table.
+// Nothing of the state or of the table is changed; specs/Judge.antt says what each function does.
+pub mod conflict;
+pub mod proposal;
+
+use conflict::judge_conflict;
+use conflict::judge_crowded;
+use proposal::judge_proposals;
+use reasons::Verdict;
+ghost use mathlib.Core.Path.{_≡_};
+ghost use Rattle.judge.specs.Judge.{judgedOf, listing, hasRoom, judgeFound, judgeWords};
+
+pub enum Judgement {
+    Fine,
+    // The list that the conflict leaves is left[0..len].
+    Clash { len: usize },
+    // Document 01's number: 12, 13 or 14; 7 where the words are no plan's or the buffers are too short.
+    Stopped { refusal: u32 },
+}
+
+// Room for the words of all distinct literals, and for any list.
+fn has_room(plan: &[u32; 15241], proposals: &[u64], left: &[u32]) -> bool
+    ensures { λ r. ⌜ r ≡ hasRoom (now (plan .entry)) (now (proposals .entry)) (now (left .entry)) ⌝ }
+{
+    let words = 4 * (plan::num_variables(plan) as usize);
+    if proposals.len() < words {
+        return false;
+    }
+    let lits = plan::num_edges(plan) as usize + 2 * (plan::num_vertices(plan) as usize) + 4;
+    if left.len() < lits {
+        return false;
+    }
+    true
+}
+
+// What the analysis found, by its verdict.
+fn judge_found(
+    plan: &[u32; 15241],
+    edges: [[u8; 2]; 128],
+    noted: &[u32; 384],
+    table: &[u8],
+    found: Verdict,
+    proposals: &[u64],
+    left: &mut [u32],
+) -> Judgement
+    ensures { λ r. ⌜ listing r (now (left .exit)) ≡ judgeFound (now (plan .entry)) edges (now (noted .entry)) (now (table .entry)) found (now (proposals .entry)) (now (left .entry)) ⌝ }
+{
+    match found {
+        Verdict::Going => judge_proposals(plan, edges, noted, table, proposals, left),
+        Verdict::DisconnectedInside { edge_idx: _ } => {
+            judge_conflict(plan, edges, noted, found, left)
+        }
+        Verdict::Over { vertex_idx: _ } => judge_conflict(plan, edges, noted, found, left),
+        Verdict::Under { vertex_idx: _ } => judge_conflict(plan, edges, noted, found, left),
+        Verdict::Crowded { region: r } => judge_crowded(plan, edges, noted, r, left),
+        Verdict::Apart {
+            lower_bound_idx: _,
+            upper_bound_idx: _,
+        } => judge_conflict(plan, edges, noted, found, left),
+        Verdict::Crossed => Judgement::Stopped { refusal: 12 },
+        Verdict::ZeroSize => Judgement::Stopped { refusal: 13 },
+        Verdict::Unfit => Judgement::Stopped { refusal: 7 },
+    }
+}
+
+// Analyzes what is noted and judges it. The proposals' words are those of this analysis after it.
+pub fn judge(
+    plan: &[u32; 15241],
+    edges: [[u8; 2]; 128],
+    noted: &[u32; 384],
+    table: &[u8],
+    proposals: &mut [u64],
+    left: &mut [u32],
+) -> Judgement
+    ensures { λ r. ⌜ judgedOf r (now (proposals .exit)) (now (left .exit)) ≡ judgeWords (now (plan .entry)) edges (now (noted .entry)) (now (table .entry)) (now (proposals .entry)) (now (left .entry)) ⌝ }
+{
+    if has_room(plan, proposals, left) {
+        sweep::clear(plan, proposals);
+        let found = analysis::analyze::analyze(plan, edges, noted, proposals);
+        return judge_found(plan, edges, noted, table, found, proposals, left);
+    }
+    Judgement::Stopped { refusal: 7 }
+}
