@@ -1,7 +1,7 @@
 -- A conflict's list stands whole from place 0 of the buffer on.
 use mathlib.Core.Path.{_≡_, refl, sym, ap, _∙_, subst}
-use mathlib.Core.Bool.{Bool, true, false, not}
-use mathlib.Core.List.{List, [], _∷_}
+use mathlib.Core.Bool.{false, not}
+use mathlib.Core.List.{List, []}
 use Prim.Native.Nat.{ℕ, _+_, _*_, _<_, _≤_}
 use native.Mathlib.Omega.{arith}
 use native.Mathlib.Nat.{zero-add}
@@ -9,7 +9,6 @@ use lib.Dec.{ltb}
 use lib.ListN.{length, getD, take, replicate, length-replicate}
 use lib.Seq.{sets, sets-eq, take-append-seam}
 use borrow.Author.Tests.{ltb-false}
-use Rattle.base.specs.Iter.{pick}
 use Rattle.base.specs.Lists.{tab}
 use Rattle.base.proofs.Loop.{pick-yes, pick-no, tested}
 use Rattle.division.specs.Plan.{Plan}
@@ -20,7 +19,7 @@ use Rattle.division.specs.Noting.{noteAll}
 use Rattle.division.specs.Runs.{analysis}
 use Rattle.division.specs.Views.{viewOf}
 use Rattle.division.proofs.Alike.{within-same, conflict-same}
-use Rattle.division.proofs.Proposed.{IsConflict, isDisconnected, isOver, isUnder, isCrowded, isApart, Right, rightConflict}
+use Rattle.division.proofs.Proposed.{IsConflict, isCrowded, Right, rightConflict}
 use Rattle.division.proofs.Whole.{conflicts}
 use Rattle.calls.specs.Look.{unjoined}
 use Rattle.calls.proofs.Fetchable.{good}
@@ -39,7 +38,7 @@ use Rattle.lists.specs.Conflicts as lists
 use Rattle.lists.specs.Conflicts.{numChosen, pathGone}
 use Rattle.lists.proofs.Fits.{given-fits}
 use Rattle.lists.proofs.Conflicts.{conflict-listed, conflict-coded, conflict-there}
-use Rattle.judge.specs.Judge.{Listing, listing, listed, ofList, judgeChosen, judgeConflict, rangesOf, crowdedBy, judgeCrowded, judgeFound}
+use Rattle.judge.specs.Judge.{listing, listed, ofList, judgeChosen, judgeConflict, rangesOf, crowdedBy, judgeCrowded, judgeFound}
 use Rattle.judge.specs.declared.Judgement.the-variants.{Clash}
 use Rattle.judge.proofs.Agrees.{Agrees, proper, analysis-is}
 use Rattle.judge.proofs.Ranges.{ranges-are}

@@ -1,23 +1,23 @@
 -- The lowest false proposal: its reason's list and its negation stand whole from place 0 of the buffer on.
-use mathlib.Core.Path.{_≡_, refl, sym, ap, ap₂, _∙_, subst}
-use mathlib.Core.Bool.{Bool, true, false}
-use mathlib.Core.List.{List, [], _∷_, _++_, map}
+use mathlib.Core.Path.{_≡_, sym, ap, ap₂, _∙_, subst}
+use mathlib.Core.Bool.{true, false}
+use mathlib.Core.List.{List, [], _∷_, _++_}
 use Prim.Native.Nat.{ℕ, _+_, _*_, _/_, _%_, _<_, _≤_}
 use native.Mathlib.Omega.{arith}
 use lib.Dec.{ltb}
-use lib.ListN.{length, getD, take, length-append}
+use lib.ListN.{length, getD, length-append}
 use lib.Seq.{sets}
 use borrow.Author.Tests.{ltb-true, ltb-false}
 use Rattle.base.specs.Iter.{pick}
-use Rattle.base.proofs.Loop.{pick-yes, pick-no, tested}
+use Rattle.base.proofs.Loop.{pick-yes, pick-no}
 use Rattle.sat.specs.Literal.{negate}
 use Rattle.division.specs.Plan.{Plan}
 use Rattle.division.specs.State.{State}
 use Rattle.division.specs.Reasons.{Reason, edgeInSameGroup, edgeBetweenDifferentGroups, tooLargeIfRegionsAreMerged, regionAlreadyLarge, regionAlreadySmall, inconsistentBoundsIfRegionsAreMerged, boundPropagationWithinRegion, adjacentSameSizeRegions, listOf}
 use Rattle.division.specs.Analysis.{Proposal, going}
-use Rattle.division.specs.Noting.{noteAll, In}
+use Rattle.division.specs.Noting.{noteAll}
 use Rattle.division.specs.Runs as runs
-use Rattle.division.specs.Runs.{analysis, fetched, Justifies}
+use Rattle.division.specs.Runs.{analysis, Justifies}
 use Rattle.division.proofs.Alike.{Names, list-same}
 use Rattle.division.proofs.Whole.{each-found, reasons, reason-there}
 use Rattle.calls.specs.Table.{someCurrent}
@@ -30,9 +30,8 @@ use Rattle.plan.specs.Plan.{planOf}
 use Rattle.noting.specs.Words.{stateOf}
 use Rattle.reasons.specs.Words.{stored}
 use Rattle.reasons.specs.Reason.{reasonOf}
-use Rattle.walks.specs.declared.Listed.the-variants.{Past}
 use Rattle.walks.specs.Written.{outOf}
-use Rattle.walks.specs.Answers.{answerOf, given}
+use Rattle.walks.specs.Answers.{given}
 use Rattle.lists.specs.Parts.{andWord}
 use Rattle.lists.specs.Within.{Within}
 use Rattle.lists.proofs.Walks.{word-given}
@@ -40,8 +39,7 @@ use Rattle.lists.proofs.Fits.{proposed-within}
 use Rattle.lists.proofs.Lists.{reason-listed}
 use Rattle.sweep.specs.Sweep.{cleared, firstFalseAt}
 use Rattle.sweep.proofs.Against.{false-none, false-some}
-use Rattle.judge.specs.Judge.{Listing, listing, negationAt, judgeCurrent, ofFalse, falseLits, judgeFalse, judgeProposals}
-use Rattle.judge.specs.declared.Judgement.{Judgement}
+use Rattle.judge.specs.Judge.{listing, negationAt, judgeCurrent, ofFalse, falseLits, judgeFalse, judgeProposals}
 use Rattle.judge.specs.declared.Judgement.the-variants.{Fine, Clash, Stopped}
 use Rattle.judge.specs.Answers.{atPlaces}
 use Rattle.judge.proofs.Agrees.{Agrees, proper}

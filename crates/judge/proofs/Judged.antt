@@ -1,37 +1,33 @@
 -- What `judge` answers and leaves is what the definition says of the standing literals and the table: crate calls' `looked`.
-use mathlib.Core.Path.{_≡_, refl, sym, ap, ap₂, _∙_, subst}
-use mathlib.Core.Logic.{_↔_}
-use mathlib.Core.Bool.{Bool, true, false, false≢true}
+use mathlib.Core.Path.{_≡_, refl, sym, ap, _∙_, subst}
+use mathlib.Core.Bool.{Bool, true, false}
 use mathlib.Core.List.{List, [], _∷_}
 use Prim.Native.Nat.{ℕ, _+_, _*_, _≤_}
-use native.Mathlib.Omega.{arith}
 use lib.Dec.{ltb}
-use lib.ListN.{length, take}
+use lib.ListN.{length}
 use lib.Seq.{sets}
 use borrow.Author.Tests.{le-ltb}
 use Rattle.base.specs.Iter.{pick}
 use Rattle.base.proofs.Loop.{pick-yes, pick-no, tested}
 use Rattle.division.specs.Plan.{Plan}
 use Rattle.division.specs.Conflicts.{conflictList}
-use Rattle.division.specs.Analysis.{Verdict, going, conflict, crossed, zeroSize, Out, Proposal}
+use Rattle.division.specs.Analysis.{Verdict, going, conflict, crossed, zeroSize, Out}
 use Rattle.division.specs.Noting.{noteAll}
 use Rattle.division.specs.Runs.{analysis}
 use Rattle.calls.specs.Table.{someCurrent}
 use Rattle.calls.proofs.View.{Saw, saw, sawStop, sawConflict, sawFalse, sawFine}
-use Rattle.calls.specs.Look.{Looked, looked, lookedBy, offered, clashes, stop, offers, firstFalse, falseList}
+use Rattle.calls.specs.Look.{Looked, looked, lookedBy, offered, clashes, stop, falseList}
 use Rattle.plan.specs.Words.{verticesOf, edgesOf, variablesOf, uniqueLitAt}
 use Rattle.plan.specs.Plan.{planOf}
 use Rattle.plan.specs.Proper.{ProperWords}
 use Rattle.noting.specs.Note.{Noting}
 use Rattle.noting.proofs.Valid.{Valid, standingOf}
 use Rattle.reasons.specs.Words.{stored}
-use Rattle.reasons.specs.Verdicts.{Ran, verdictOf, ranOf}
-use Rattle.analysis.specs.Placed.{placeOfLit}
+use Rattle.reasons.specs.Verdicts.{verdictOf, ranOf}
 use Rattle.analysis.specs.Relabel.{relabelled}
 use Rattle.sweep.specs.Sweep.{cleared, firstFalseAt}
-use Rattle.judge.specs.Judge.{Listing, listing, Judged, hasRoom, withWords, judgeRan, judgeFound, judgeWords}
+use Rattle.judge.specs.Judge.{Listing, listing, hasRoom, withWords, judgeRan, judgeProposals, judgeFound, judgeWords}
 use Rattle.judge.specs.Answers.{answerFor, Leaves, Keeps, atPlaces, JudgedBy}
-use Rattle.judge.specs.declared.Judgement.{Judgement}
 use Rattle.judge.specs.declared.Judgement.the-variants.{Fine, Clash, Stopped}
 use Rattle.judge.proofs.Agrees.{Agrees, valid-agrees, ran-is}
 use Rattle.judge.proofs.Conflicts.{conflict-found, conflict-short, list-taken}
@@ -89,11 +85,11 @@ module _ (ws : List ℕ) (ends : List (List ℕ)) (noted ls : List ℕ) (k : Agr
   going-answers = tested (ltb (firstFalseAt ws words t) (2 * variablesOf ws))
       (λ e.
       let (f, h, j) = false-found ws ends noted ls k proposals room t l long e in
-      subst (λ (qs : List ℕ). Answers (offered d ls t o qs) l (Rattle.judge.specs.Judge.judgeProposals ws ends noted t words l)) (sym f)
+      subst (λ (qs : List ℕ). Answers (offered d ls t o qs) l (judgeProposals ws ends noted t words l)) (sym f)
       (subst (Answers (offered d ls t o (uniqueLitAt ws (firstFalseAt ws words t) ∷ [])) l) (sym j) (false-answers d ls t o l (uniqueLitAt ws (firstFalseAt ws words t)) h)))
       (λ e.
       let (f, j) = fine-found ws ends noted ls k proposals room t l long e in
-      subst (λ (qs : List ℕ). Answers (offered d ls t o qs) l (Rattle.judge.specs.Judge.judgeProposals ws ends noted t words l)) (sym f)
+      subst (λ (qs : List ℕ). Answers (offered d ls t o qs) l (judgeProposals ws ends noted t words l)) (sym f)
       (subst (Answers (offered d ls t o []) l) (sym j) (fine-answers d ls t o l)))
 
   found-answers : (v : Verdict) → o .verdict ≡ v → Answers (lookedBy d ls t o v) l (judgeFound ws ends noted t (verdictOf v) words l)

@@ -1,8 +1,8 @@
 -- The literals that an analysis proposes are the plan's, and so have their places; the numbers of their reasons fit words.
-use mathlib.Core.Path.{_≡_, refl, sym, ap, ap₂, _∙_, subst}
+use mathlib.Core.Path.{_≡_, refl, sym, ap, ap₂, _∙_}
 use mathlib.Core.Bool.{Bool, true, false, not, _||_}
 use mathlib.Core.List.{List, [], _∷_}
-use Prim.Native.Nat.{ℕ, suc, _+_, _*_, _/_, _<_, _≤_}
+use Prim.Native.Nat.{ℕ, suc, _+_, _*_, _/_, _<_}
 use native.Mathlib.Omega.{arith}
 use borrow.Author.Tests.{eq-eqb, ne-eqb}
 use Rattle.base.specs.Iter.{pick}
@@ -13,13 +13,12 @@ use Rattle.division.specs.Plan.{Plan, Proper, left, right}
 use Rattle.division.specs.State.{State, Same}
 use Rattle.division.specs.Reasons.{Reason}
 use Rattle.division.specs.Noting.{noteAll, In, Consistent}
-use Rattle.division.specs.Runs.{analysis, Justifies}
+use Rattle.division.specs.Runs.{analysis}
 use Rattle.division.proofs.Walk.{joined-within}
 use Rattle.division.proofs.Noted.{Lower, Upper}
 use Rattle.division.proofs.Noting.{noted-all}
 use Rattle.division.proofs.Fetch.{reason-explained}
 use Rattle.division.proofs.Proposed.{Proposes, ruleInGroup, ruleBetween, ruleTooLarge, ruleLarge, ruleSmall, ruleMismatch, ruleSpreadLow, ruleSpreadHigh, ruleSameSize, Each}
-use Rattle.division.proofs.Explained.{Explains}
 use Rattle.calls.specs.Table.{knows}
 use Rattle.calls.specs.Look.{unjoined, gone}
 use Rattle.calls.specs.Refusals.{Known, ofEdge, ofDomain}

@@ -5,26 +5,26 @@ use mathlib.Core.List.{List, [], _∷_, map}
 use Prim.Native.Nat.{ℕ, _+_, _*_, _/_, _<_, _≤_}
 use native.Mathlib.Omega.{arith}
 use mathlib.Core.Bool.{true}
-use lib.ListN.{length, getD}
+use lib.ListN.{length}
+use Rattle.base.specs.Iter.{pick}
 use Rattle.base.specs.Lists.{Every}
-use Rattle.division.specs.Reasons.{Reason}
 use Rattle.division.specs.Analysis.{Verdict, Proposal}
 use Rattle.division.specs.Runs as runs
 use Rattle.division.specs.Runs.{analysis}
 use Rattle.division.proofs.Proposed.{Each, nothing, also}
-use Rattle.calls.specs.Look.{offers}
+use Rattle.calls.specs.Look.{inOrder, offers}
 use Rattle.plan.specs.Words.{variablesOf, uniqueLitAt}
 use Rattle.plan.specs.Plan.{planOf}
 use Rattle.plan.specs.Proper.{ProperWords}
 use Rattle.noting.specs.Note.{known}
 use Rattle.reasons.specs.Words.{stored}
-use Rattle.reasons.specs.Reason.{reasonOf, meaning, Fits}
+use Rattle.reasons.specs.Reason.{laterReason, reasonOf, meaning, Fits}
 use Rattle.reasons.proofs.Stored.{reasonAt, stored-fresh}
 use Rattle.analysis.specs.Relabel.{relabel}
 use Rattle.analysis.proofs.Places.{place-back}
 use Rattle.sweep.specs.Sweep.{cleared}
-use Rattle.sweep.specs.Relit.{relit, relits, relitOut, places, Blank, Inside}
-use Rattle.sweep.proofs.Stored.{cleared-blank, cleared-length}
+use Rattle.sweep.specs.Relit.{relit, relits, relitOut, Blank, Inside}
+use Rattle.sweep.proofs.Stored.{cleared-blank}
 use Rattle.sweep.proofs.Swept.{reason-relit}
 use Rattle.judge.specs.Answers.{atPlaces}
 use Rattle.judge.proofs.Agrees.{Agrees}
@@ -47,7 +47,7 @@ fits-placed ws [] nothing = nothing
 fits-placed ws (q ∷ ps) (also h e) = also h (fits-placed ws ps e)
 
 no-reason : meaning (reasonOf 0 0) ≡ []
-unfolding meaning reasonOf Rattle.reasons.specs.Reason.laterReason Rattle.base.specs.Iter.pick
+unfolding meaning reasonOf laterReason pick
 no-reason = refl
 
 module _ (ws : List ℕ) (ends : List (List ℕ)) (noted ls : List ℕ) (k : Agrees ws ends noted ls) where
@@ -63,7 +63,7 @@ module _ (ws : List ℕ) (ends : List (List ℕ)) (noted ls : List ℕ) (k : Agr
 
   pub judged-offers : (v : Verdict) → offers (relitOut ws v (atPlaces ws ps)) ≡ offers (analysis (planOf ws ends) ls)
   unfolding offers
-  judged-offers v = ap (λ (qs : List Proposal). Rattle.calls.specs.Look.inOrder (map (λ q. q .lit) qs)) judged-relits
+  judged-offers v = ap (λ (qs : List Proposal). inOrder (map (λ q. q .lit) qs)) judged-relits
 
   -- the words of a place are those of its literal's newest reason
   module _ (words : List ℕ) (long : 4 * variablesOf ws ≤ length words) where

@@ -1,6 +1,6 @@
 -- The vertices that a conflict of step 3's third test names are those of the potential region's separate ranges.
-use mathlib.Core.Path.{_≡_, subst}
-use mathlib.Core.Bool.{Bool, true, false}
+use mathlib.Core.Path.{_≡_, refl, subst}
+use mathlib.Core.Bool.{Bool}
 use mathlib.Core.List.{List}
 use Prim.Native.Nat.{ℕ}
 use Rattle.base.specs.Iter.{iter, pick}
@@ -61,7 +61,7 @@ module _ (d : Plan) (s : State) (w : View) where
 
   crowds-kept : (r : ℕ) (o : Out) → R o → R (crowds d s w r o)
   unfolding crowds ends
-  crowds-kept r o h = picked _ _ _ mathlib.Core.Path.refl h
+  crowds-kept r o h = picked _ _ _ refl h
 
   meets-kept : (r : ℕ) (o : Out) → R o → R (meets d s w r o)
   unfolding meets ends

@@ -1,5 +1,5 @@
 -- The returns of the functions, by cases.
-use mathlib.Core.Path.{_≡_, refl, sym, ap, ap₂, _∙_}
+use mathlib.Core.Path.{_≡_, sym, ap, ap₂, _∙_}
 use mathlib.Core.Bool.{Bool, true, false}
 use mathlib.Core.List.{List}
 use Prim.Native.Nat.{ℕ, _+_, _-_, _*_, _<_, _≤_}
@@ -27,7 +27,7 @@ use Rattle.lists.specs.Lists.{reasonLits}
 use Rattle.lists.specs.Conflicts.{chosenOf}
 use Rattle.analysis.specs.Analyze.{analyzeWords}
 use Rattle.sweep.specs.Sweep.{cleared, firstFalseAt}
-use Rattle.judge.specs.Judge.{Listing, listing, Judged, judgedOf, listed, ofList, judgeCurrent, ofFalse, negationAt, judgeChosen, rangesOf, crowdedBy, judgeCrowded, falseLits, judgeFalse, judgeProposals, judgeFound, hasRoom, withWords, judgeRan, judgeWords}
+use Rattle.judge.specs.Judge.{Listing, listing, judgedOf, listed, ofList, judgeCurrent, ofFalse, negationAt, judgeChosen, judgeConflict, rangesOf, crowdedBy, judgeCrowded, falseLits, judgeFalse, judgeProposals, judgeFound, hasRoom, withWords, judgeRan, judgeWords}
 use Rattle.judge.specs.declared.Judgement.{Judgement}
 use Rattle.judge.specs.declared.Judgement.the-variants.{Fine, Clash, Stopped}
 
@@ -102,9 +102,9 @@ module _ (ws : List ℕ) (es : List (List ℕ)) (noted : List ℕ) where
   found-arm t words l v w x e h = h ∙ sym (ap (λ (y : Verdict). judgeFound ws es noted t y words l) e)
 
   -- a judgement of a conflict is of the verdict that was matched
-  pub found-conflict : (t words l : List ℕ) (v w : Verdict) (x : Listing) → v ≡ w → x ≡ Rattle.judge.specs.Judge.judgeConflict ws es noted v l →
-      Rattle.judge.specs.Judge.judgeConflict ws es noted w l ≡ judgeFound ws es noted t w words l → x ≡ judgeFound ws es noted t v words l
-  found-conflict t words l v w x e h k = h ∙ ap (λ (y : Verdict). Rattle.judge.specs.Judge.judgeConflict ws es noted y l) e ∙ k ∙ sym (ap (λ (y : Verdict). judgeFound ws es noted t y words l) e)
+  pub found-conflict : (t words l : List ℕ) (v w : Verdict) (x : Listing) → v ≡ w → x ≡ judgeConflict ws es noted v l →
+      judgeConflict ws es noted w l ≡ judgeFound ws es noted t w words l → x ≡ judgeFound ws es noted t v words l
+  found-conflict t words l v w x e h k = h ∙ ap (λ (y : Verdict). judgeConflict ws es noted y l) e ∙ k ∙ sym (ap (λ (y : Verdict). judgeFound ws es noted t y words l) e)
 
   module _ (t p l : List ℕ) (b : Bool) (r : b ≡ hasRoom ws p l) where
     pub judge-some : (q : Ran) (x : Listing) → b ≡ true → q ≡ analyzeWords ws es noted (cleared ws p) → x ≡ judgeFound ws es noted t (q .verdict) (q .words) l →

@@ -6,7 +6,6 @@ use views::cells::separate_ranges;
 use views::compute::compute_view;
 use walks::Listed;
 ghost use mathlib.Core.Path.{_≡_};
-ghost use Rattle.walks.specs.Answers.{answerOf};
 ghost use Rattle.lists.specs.Conflicts.{chosenOf};
 ghost use Rattle.judge.specs.Judge.{listing, listed, judgeChosen, judgeConflict, judgeCrowded};
 

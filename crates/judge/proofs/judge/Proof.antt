@@ -1,5 +1,4 @@
-use mathlib.Core.Path.{_≡_, refl, sym, ap, ap₂, _∙_}
-use Rattle.sweep.specs.Sweep.{cleared}
+use mathlib.Core.Path.{ap, _∙_}
 use Rattle.analysis.specs.Analyze.{analyzeWords}
 use Rattle.judge.specs.Judge.{withWords}
 use Rattle.judge.proofs.Steps.{judge-some, judge-short}

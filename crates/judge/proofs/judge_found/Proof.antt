@@ -1,4 +1,4 @@
-use mathlib.Core.Path.{_≡_, refl, sym, ap, ap₂, _∙_}
+use mathlib.Core.Path.{refl}
 use Rattle.judge.proofs.Steps.{found-arm, found-conflict}
 use Rattle.judge.specs.Judge.{judgeFound}
 use borrow.Author.Needs.{needs}

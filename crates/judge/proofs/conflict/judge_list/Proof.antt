@@ -1,4 +1,4 @@
-use mathlib.Core.Path.{_≡_, refl, sym, ap, ap₂, _∙_}
+use mathlib.Core.Path.{refl}
 use Rattle.judge.proofs.Steps.{list-arm}
 use Rattle.judge.specs.Judge.{listed}
 use borrow.Author.Needs.{needs}

@@ -1,4 +1,4 @@
-use mathlib.Core.Path.{_≡_, refl, sym, ap, ap₂, _∙_}
+use mathlib.Core.Path.{ap₂, _∙_}
 use Rattle.reasons.specs.Reason.{reasonOf}
 use borrow.Author.Needs.{needs}
 use Rattle.judge.proofs.proposal.reason_at.Statement.{statement}
