@@ -22,7 +22,7 @@ use Rattle.refusals.proofs.Standing.{newest-there}
 use Rattle.refusals.proofs.State.{good-state}
 use Rattle.refusals.proofs.Numbers.{given-inside, number-given, known-inside}
 
-pick-zero : (b : Bool) (k m : ℕ) → 0 < k → pick b k m ≡ 0 → (b ≡ false) × (m ≡ 0)
+pub pick-zero : (b : Bool) (k m : ℕ) → 0 < k → pick b k m ≡ 0 → (b ≡ false) × (m ≡ 0)
 unfolding pick
 pick-zero true k m h e = absurd (omega arith)
 pick-zero false k m h e = (refl, e)
