@@ -2,7 +2,7 @@
 use mathlib.Core.Bool.{Bool, true, false}
 use mathlib.Core.List.{List, [], _∷_}
 use Prim.Native.Nat.{ℕ, _/_}
-use lib.Dec.{eqb}
+use lib.Dec.{eqb, ltb}
 use lib.IntN.{ℤ, pos}
 use lib.ListN.{length, replicate}
 use Rattle.base.specs.Iter.{pick}
@@ -142,13 +142,7 @@ isNone (InconsistentBoundsIfRegionsAreMerged g a b flip) = false
 isNone (BoundPropagationWithinRegion l k u) = false
 isNone (AdjacentSameSizeRegions a la ua b lb ub u) = false
 
-module _ (s : GraphDivision) (c : Cursor) (log : List ℕ) where
-  -- `calc_reason` without a literal: the list last left
-  unfoldable pub lastFetched : List ℕ → Fetched
-  lastFetched b =
-      let n = fetchRefusal (s .plan) (s .edges .ends) (s .noted) (length b) log c in
-      pick (eqb n 0) (copied (s .last) (s .«last_len») b) (fetched (answer.Refused n) b)
-
+module _ (s : GraphDivision) where
   -- the reason recorded for literal l, and its list
   unfoldable pub recordedFor : ℕ → Reason
   recordedFor l = reasonAt (s .reasons) (placeOfLit (s .plan) l)
@@ -159,9 +153,16 @@ module _ (s : GraphDivision) (c : Cursor) (log : List ℕ) where
   unfoldable pub giving : Reason → List ℕ → Fetched
   giving r b = pick (isNone r) (fetched (answer.Refused 15) b) (reasonGiven (listFor r .text) (listFor r .listed) b)
 
+module _ (s : GraphDivision) (c : Cursor) (log : List ℕ) where
+  -- `calc_reason` without a literal: the list last left; a state whose list is longer than any is none that a call leaves
+  unfoldable pub lastFetched : List ℕ → Fetched
+  lastFetched b =
+      let n = fetchRefusal (s .plan) (s .edges .ends) (s .noted) (length b) log c in
+      pick (eqb n 0) (pick (ltb 260 (s .«last_len»)) (fetched (answer.Refused 7) b) (copied (s .last) (s .«last_len») b)) (fetched (answer.Refused n) b)
+
   -- `calc_reason` of a literal
   unfoldable pub reasonFetched : ℤ → List ℕ → Fetched
   reasonFetched lit b =
       let n = fetchRefusal (s .plan) (s .edges .ends) (s .noted) (length b) log c in
       let m = literalRefusal (s .plan) lit in
-      pick (eqb n 0) (pick (eqb m 0) (giving (recordedFor (litNumber lit)) b) (fetched (answer.Refused m) b)) (fetched (answer.Refused n) b)
+      pick (eqb n 0) (pick (eqb m 0) (giving s (recordedFor s (litNumber lit)) b) (fetched (answer.Refused m) b)) (fetched (answer.Refused n) b)

@@ -1,5 +1,6 @@
 // The propagator's state, and how it is built.
 pub mod accept;
+pub mod calc_reason;
 pub mod propagate;
 pub mod undo;
 
