@@ -1,2 +1,4 @@
 pub mod Represents
 pub mod Undoing
+pub mod Noted
+pub mod Recording
