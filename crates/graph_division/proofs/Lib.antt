@@ -2,3 +2,5 @@ pub mod Represents
 pub mod Undoing
 pub mod Noted
 pub mod Recording
+pub mod Looked
+pub mod Propagating
