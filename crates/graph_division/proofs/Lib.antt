@@ -4,3 +4,4 @@ pub mod Noted
 pub mod Recording
 pub mod Looked
 pub mod Propagating
+pub mod Fetching
