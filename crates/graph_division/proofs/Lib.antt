@@ -5,3 +5,4 @@ pub mod Recording
 pub mod Looked
 pub mod Propagating
 pub mod Fetching
+pub mod Building
