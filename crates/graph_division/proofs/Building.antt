@@ -5,9 +5,8 @@ use mathlib.Core.List.{List, []}
 use Prim.Native.Nat.{ℕ, _<_, zero-le}
 use native.Mathlib.Omega.{arith}
 use lib.IntN.{ℤ}
-use lib.ListN.{length, getD, replicate, length-replicate, getD-replicate}
+use lib.ListN.{length, replicate, length-replicate, getD-replicate}
 use borrow.Author.Tests.{lt-ltb, eq-eqb}
-use Rattle.base.specs.Iter.{pick}
 use Rattle.base.specs.Lists.{tab}
 use Rattle.base.proofs.Loop.{pick-yes}
 use Rattle.base.proofs.Filled.{filled-length}
@@ -20,7 +19,7 @@ use Rattle.reasons.specs.declared.reason.Reason.the-variants.{NotPropagated}
 use Rattle.reasons.specs.Reason.{meaning}
 use Rattle.recorded.specs.declared.Recorded.{Recorded}
 use Rattle.recorded.specs.Recorded.{holding, noReasons, reasonAt}
-use Rattle.builder.specs.Build.{given, withIndex, planWords}
+use Rattle.builder.specs.Build.{withIndex, planWords}
 use Rattle.builder.proofs.Refusal.{counted}
 use Rattle.builder.proofs.Lowest.{clean}
 use Rattle.builder.proofs.Given.{given-length}

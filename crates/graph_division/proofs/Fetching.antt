@@ -1,16 +1,15 @@
 -- Both fetches do what the definition says.
 use mathlib.Core.Path.{_≡_, refl, sym, ap, ap₂, subst, _∙_}
 use mathlib.Core.Logic.{_⊎_, inl, inr, ⊎-elim}
-use mathlib.Core.Bool.{Bool, true, false}
+use mathlib.Core.Bool.{true, false}
 use mathlib.Core.List.{List, [], _∷_}
-use Prim.Native.Nat.{ℕ, _+_, _*_, _/_, _<_, _≤_}
+use Prim.Native.Nat.{ℕ, _+_, _*_, _≤_}
 use native.Mathlib.Omega.{arith}
 use lib.Dec.{eqb}
 use lib.IntN.{ℤ}
 use lib.ListN.{length, take, replicate, length-replicate}
 use lib.Seq.{sets, length-sets}
 use borrow.Author.Tests.{eqb-true, ltb-false}
-use Rattle.base.specs.Iter.{pick}
 use Rattle.base.specs.Lists.{tab}
 use Rattle.base.proofs.Loop.{pick-yes, pick-no, tested}
 use Rattle.undo_log.specs.declared.Cursor.{Cursor}
@@ -27,7 +26,6 @@ use Rattle.noting.specs.Note.{noting}
 use Rattle.noting.specs.Buffers.{reasonShort}
 use Rattle.noting.proofs.Valid.{valid-state}
 use Rattle.walks.specs.declared.Listed.{Listed}
-use Rattle.walks.specs.declared.Listed.the-variants.{Past, Missing}
 use Rattle.walks.specs.Written.{Out, outOf, written}
 use Rattle.walks.specs.Answers as walks
 use Rattle.walks.proofs.Written.{written-fits}

@@ -6,7 +6,7 @@ use Prim.Native.Nat.{ℕ, zero, suc, _/_}
 use lib.Dec.{eqb}
 use Rattle.base.specs.Iter.{iter, pick}
 use Rattle.undo_log.specs.declared.Cursor.{Cursor}
-use Rattle.noting.specs.Note.{Noting, noting, effectOf, applied, noteSlot, levelPushed, placeIn, known, noteAt, note}
+use Rattle.noting.specs.Note.{Noting, effectOf, applied, noteSlot, levelPushed, placeIn, known, noteAt, note}
 use Rattle.graph_division.specs.declared.GraphDivision.{GraphDivision}
 use Rattle.graph_division.specs.Calls.{notedIn, triedOut}
 

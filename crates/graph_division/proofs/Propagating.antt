@@ -1,28 +1,26 @@
 -- `propagate` does what the definition says.
 use mathlib.Core.Path.{_≡_, refl, sym, ap, ap₂, subst, _∙_}
-use mathlib.Core.Bool.{Bool, true, false, not}
+use mathlib.Core.Bool.{not}
 use mathlib.Core.List.{List, [], _∷_, _++_}
-use Prim.Native.Nat.{ℕ, zero, suc, _+_, _*_, _/_, _<_, _≤_}
+use Prim.Native.Nat.{ℕ, _+_, _*_, _≤_}
 use native.Mathlib.Omega.{arith}
 use native.Mathlib.Nat.{zero-add}
 use lib.Dec.{eqb}
 use lib.IntN.{ℤ, pos}
-use lib.ListN.{length, take, replicate, length-replicate}
+use lib.ListN.{length, replicate, length-replicate}
 use lib.Seq.{sets, length-sets}
 use borrow.Author.Tests.{eqb-true, ltb-false}
-use Rattle.base.specs.Iter.{pick}
 use Rattle.base.specs.Lists.{tab}
 use Rattle.base.specs.Range.{inRange}
 use Rattle.base.proofs.Loop.{pick-yes, pick-no, tested}
 use Rattle.undo_log.specs.declared.Cursor.{Cursor}
-use Rattle.division.specs.Reasons as abstract
 use Rattle.division.specs.Analysis.{Proposal}
 use Rattle.division.specs.Noting.{noteAll}
 use Rattle.division.specs.Runs as runs
 use Rattle.division.specs.Runs.{analysis}
 use Rattle.division.proofs.Proposed.{Each}
 use Rattle.plan.specs.Words.{word, verticesOf, edgesOf, variablesOf, uniqueLitAt}
-use Rattle.noting.specs.Note.{Noting, noting, note}
+use Rattle.noting.specs.Note.{Noting, noting}
 use Rattle.noting.specs.Buffers.{listShort}
 use Rattle.noting.proofs.Valid.{Valid, standingOf, note-valid}
 use Rattle.reasons.specs.Reason.{meaning}
@@ -31,7 +29,6 @@ use Rattle.lists.specs.Within.{Within}
 use Rattle.lists.proofs.Fits.{proposed-within}
 use Rattle.sweep.specs.Sweep.{Handed, handing, handedOn}
 use Rattle.judge.specs.declared.Judgement.{Judgement}
-use Rattle.judge.specs.declared.Judgement.the-variants.{Fine, Clash, Stopped}
 use Rattle.judge.specs.Judge.{Judged, judgeWords}
 use Rattle.judge.specs.Answers as judging
 use Rattle.judge.specs.Answers.{JudgedBy, Leaves, Keeps}
@@ -47,12 +44,12 @@ use Rattle.calls.proofs.View.{saw}
 use Rattle.calls.proofs.Fetchable.{each-map, each-append}
 use Rattle.refusals.specs.Refusals.{litNumber, propagateRefusal}
 use Rattle.refusals.specs.Calls.{litGiven, tableRoom, refusedOr}
-use Rattle.refusals.proofs.Accepted.{GoodTable, KnownLit, propagate-accepted}
+use Rattle.refusals.proofs.Accepted.{propagate-accepted}
 use Rattle.refusals.proofs.Calls.{propagate-call}
 use Rattle.graph_division.specs.declared.GraphDivision.{GraphDivision}
 use Rattle.graph_division.specs.declared.Answer.the-variants as answer
 use Rattle.graph_division.specs.Calls.{Called, called, refuse, withNoted, withJudged, notedIn, triedOut, adding, accepting, handingOn, settledBy, settled, propagated}
-use Rattle.graph_division.proofs.Represents.{planIn, Represents, answerFor, answerOf, Simulates, SimulatesCalled, noted-represents, refused-simulates}
+use Rattle.graph_division.proofs.Represents.{planIn, Represents, answerFor, answerOf, SimulatesCalled, noted-represents, refused-simulates}
 use Rattle.graph_division.proofs.Noted.{tried-out-is}
 use Rattle.graph_division.proofs.Recording.{recorded-length, recorded-newest}
 use Rattle.graph_division.proofs.Looked.{fine-left, clash-still, tab-take, taken-short}

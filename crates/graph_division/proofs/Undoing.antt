@@ -1,17 +1,15 @@
 -- `undo` does what the definition says.
 use mathlib.Core.Path.{_≡_, refl, sym, ap, subst, _∙_}
-use mathlib.Core.Bool.{true, false}
-use mathlib.Core.List.{List, [], _∷_}
+use mathlib.Core.List.{List, []}
 use Prim.Native.Nat.{ℕ}
 use lib.Dec.{eqb}
 use lib.IntN.{ℤ}
 use borrow.Author.Tests.{eqb-true}
-use Rattle.base.specs.Iter.{pick}
 use Rattle.base.proofs.Loop.{pick-yes, pick-no, tested}
 use Rattle.undo_log.specs.declared.Cursor.{Cursor}
 use Rattle.noting.specs.Note.{Noting, noting}
 use Rattle.noting.specs.Undo.{undo}
-use Rattle.noting.proofs.Valid.{standingOf, undo-valid}
+use Rattle.noting.proofs.Valid.{undo-valid}
 use Rattle.calls.specs.Calls as calls
 use Rattle.calls.specs.Calls.{World}
 use Rattle.calls.specs.Claim.{tail}
@@ -22,7 +20,7 @@ use Rattle.refusals.proofs.Calls.{undo-call}
 use Rattle.graph_division.specs.declared.GraphDivision.{GraphDivision}
 use Rattle.graph_division.specs.declared.Outcome.{Outcome}
 use Rattle.graph_division.specs.declared.Answer.the-variants as answer
-use Rattle.graph_division.specs.Calls.{outcome, refuse, withNoted, undone}
+use Rattle.graph_division.specs.Calls.{outcome, withNoted, undone}
 use Rattle.graph_division.proofs.Represents.{planIn, Represents, answerFor, answerOf, Simulates, noted-represents, refused-simulates}
 
 -- outcomes that are equal to ones that simulate
