@@ -6,3 +6,5 @@ pub mod Looked
 pub mod Propagating
 pub mod Fetching
 pub mod Building
+pub mod Rooms
+pub mod Running
