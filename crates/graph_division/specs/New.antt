@@ -1,6 +1,6 @@
 -- `GraphDivision::new`: the plan inside a fresh state, or the lowest refusal that applies (document 01, "Plan", "Building gives the
 -- lowest number that applies").
-use mathlib.Core.Bool.{Bool}
+use mathlib.Core.Bool.{Bool, false}
 use mathlib.Core.List.{List}
 use Prim.Native.Nat.{ℕ}
 use lib.IntN.{ℤ}
@@ -8,6 +8,7 @@ use lib.ListN.{replicate}
 use Rattle.builder.specs.Input.{refusal}
 use Rattle.builder.specs.Build.{planWords, edgeTable}
 use Rattle.noting.specs.Words.{fresh}
+use Rattle.recorded.specs.Recorded.{noReasons}
 use Rattle.graph_division.specs.declared.GraphDivision.{GraphDivision}
 use Rattle.graph_division.specs.declared.Built.{Built}
 
@@ -19,5 +20,9 @@ built vs n es m sameSize extraWalls = record {
     plan = planWords vs n es m sameSize extraWalls;
     edges = record { ends = edgeTable es m };
     noted = fresh (planWords vs n es m sameSize extraWalls) (replicate 384 0);
+    reasons = noReasons;
+    last = replicate 260 0;
+    «last_len» = 0;
+    initialized = false;
   };
 }

@@ -1,6 +1,13 @@
 // The propagator's state, and how it is built.
+pub mod accept;
+pub mod calc_reason;
+pub mod propagate;
+pub mod undo;
+
 use builder::build::GraphDivisionOptions;
 use edge_table::EdgeTable;
+use recorded::Reasons;
+use undo_log::Cursor;
 ghost use mathlib.Core.Path.{_≡_};
 ghost use lib.ListN.{replicate};
 ghost use Rattle.graph_division.specs.New.{built};
@@ -12,6 +19,33 @@ pub struct GraphDivision {
     pub edges: EdgeTable,
     // Edge states and bounds, read through the functions of crate `noting`.
     pub noted: [u32; 384],
+    // The reason recorded for each of the distinct literals.
+    pub reasons: Reasons,
+    // The list last left: the first `last_len` entries.
+    pub last: [u32; 260],
+    pub last_len: usize,
+    // Whether an initialize was consistent.
+    pub initialized: bool,
+}
+
+// What a call answers. specs/Answers.antt gives document 01's letter and numbers for each.
+pub enum Answer {
+    // The first `handed` entries of the lent list are the literals handed on.
+    Consistent { handed: usize },
+    Conflict,
+    // Only noted: notifications are pending.
+    Noted,
+    Undone,
+    // The first `len` entries of the lent buffer are the reason.
+    Reason { len: usize },
+    Refused { number: u32 },
+}
+
+// A call's state, cursor and answer; what it was lent is changed in place.
+pub struct Outcome {
+    pub state: GraphDivision,
+    pub cursor: Cursor,
+    pub answer: Answer,
 }
 
 // What building gives: 0 and a fresh state, or the number of the refusal, and then the state is no plan's.
@@ -24,6 +58,12 @@ fn no_notes() -> [u32; 384]
     ensures { λ r. ⌜ r ≡ replicate 384 0 ⌝ }
 {
     [0u32; 384]
+}
+
+pub(crate) fn no_list() -> [u32; 260]
+    ensures { λ r. ⌜ r ≡ replicate 260 0 ⌝ }
+{
+    [0u32; 260]
 }
 
 impl GraphDivision {
@@ -49,6 +89,10 @@ impl GraphDivision {
                 plan: plan,
                 edges: table,
                 noted: noted,
+                reasons: recorded::no_reasons(),
+                last: no_list(),
+                last_len: 0,
+                initialized: false,
             },
         }
     }

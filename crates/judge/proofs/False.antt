@@ -47,7 +47,7 @@ use Rattle.judge.proofs.Known.{each-proposed, proposed-there}
 use Rattle.judge.proofs.Proposals.{judged-inside, judged-offers, judged-blank, judged-reasons}
 use Rattle.judge.proofs.Conflicts.{given-whole, list-taken}
 
-within-names : (d : Plan) (r : Reason) → Within d r → Names d r
+pub within-names : (d : Plan) (r : Reason) → Within d r → Names d r
 within-names d (edgeInSameGroup g) h = tt
 within-names d (edgeBetweenDifferentGroups i g f) h = tt
 within-names d (tooLargeIfRegionsAreMerged g ls) h = tt

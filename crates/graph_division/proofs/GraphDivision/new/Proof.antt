@@ -1,7 +1,6 @@
-use mathlib.Core.Path.{_≡_, ap, ap₂, _∙_}
-use mathlib.Core.List.{List}
-use Prim.Native.Nat.{ℕ}
+use mathlib.Core.Path.{_≡_, refl, sym, ap, ap₂, _∙_}
 use Rattle.noting.specs.Words.{fresh}
+use mathlib.Core.Bool.{false}
 use Rattle.graph_division.specs.New.{built}
 use borrow.Author.Needs.{needs}
 use Rattle.graph_division.proofs.GraphDivision.new.Statement.{statement}
@@ -25,13 +24,22 @@ edge-table-requires c κs = search needs
 hold-requires : tie.Need-hold-requires
 hold-requires c κs = search needs
 
+no-reasons-requires : tie.Need-no-reasons-requires
+no-reasons-requires c κs = search needs
+
+no-list-requires : tie.Need-no-list-requires
+no-list-requires c κs = search needs
+
 returns : tie.Need-returns
 unfolding built
 returns c =
-    let plan = (c .before .before .before .before .before .before .before .plan-words) .ensures in
-    let noted = (c .before .before .fresh) .ensures ∙ ap₂ fresh plan ((c .before .before .before .before .before .no-notes) .ensures) in
-    let ends = (c .hold) .ensures ∙ (c .before .edge-table) .ensures in
-    λ i. record { refusal = (c .before .before .before .before .before .before .before .before .refusal-of) .ensures i; state = record { plan = plan i; edges = record { ends = ends i }; noted = noted i } }
+    let plan = (c .before .before .before .before .before .before .before .before .before .plan-words .ensures) in
+    let noted = (c .before .before .before .before .fresh .ensures) ∙ ap₂ fresh plan (c .before .before .before .before .before .before .before .no-notes .ensures) in
+    let ends = (c .before .before .hold .ensures) ∙ (c .before .before .before .edge-table .ensures) in
+    λ i. record {
+      refusal = ((c .before .before .before .before .before .before .before .before .before .before .refusal-of .ensures)) i;
+      state = record { plan = plan i; edges = record { ends = ends i }; noted = noted i; reasons = ((c .before .no-reasons .ensures)) i; last = ((c .no-list .ensures)) i; «last_len» = 0; initialized = false };
+    }
 
 pub new-spec : {M : Type 1} → statement M
 new-spec =
@@ -43,4 +51,6 @@ new-spec =
     fresh-requires
     edge-table-requires
     hold-requires
+    no-reasons-requires
+    no-list-requires
     returns)

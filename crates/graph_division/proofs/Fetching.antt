@@ -1,0 +1,197 @@
+-- Both fetches do what the definition says.
+use mathlib.Core.Path.{_≡_, refl, sym, ap, ap₂, subst, _∙_}
+use mathlib.Core.Logic.{_⊎_, inl, inr, ⊎-elim}
+use mathlib.Core.Bool.{true, false}
+use mathlib.Core.List.{List, [], _∷_}
+use Prim.Native.Nat.{ℕ, _+_, _*_, _≤_}
+use native.Mathlib.Omega.{arith}
+use lib.Dec.{eqb}
+use lib.IntN.{ℤ}
+use lib.ListN.{length, take, replicate, length-replicate}
+use lib.Seq.{sets, length-sets}
+use borrow.Author.Tests.{eqb-true, ltb-false, le-ltb}
+use Rattle.base.specs.Lists.{tab}
+use Rattle.base.proofs.Loop.{pick-yes, pick-no, tested}
+use Rattle.undo_log.specs.declared.Cursor.{Cursor}
+use Rattle.division.specs.Reasons as abstract
+use Rattle.division.specs.Noting.{noteAll}
+use Rattle.division.specs.Runs as runs
+use Rattle.division.proofs.Agree.{SameState}
+use Rattle.division.proofs.Alike.{list-same}
+use Rattle.division.proofs.Whole.{each-found}
+use Rattle.plan.specs.Words.{word, verticesOf, edgesOf}
+use Rattle.plan.proofs.Abstract.{proper-plan}
+use Rattle.noting.specs.Words.{stateOf}
+use Rattle.noting.specs.Note.{noting}
+use Rattle.noting.specs.Buffers.{reasonShort}
+use Rattle.noting.proofs.Valid.{valid-state}
+use Rattle.walks.specs.declared.Listed.{Listed}
+use Rattle.walks.specs.Written.{Out, outOf, written}
+use Rattle.walks.specs.Answers as walks
+use Rattle.walks.proofs.Written.{written-fits}
+use Rattle.reasons.specs.declared.reason.Reason.{Reason}
+use Rattle.reasons.specs.declared.reason.Reason.the-variants.{NotPropagated, EdgeInSameGroup, EdgeBetweenDifferentGroups, TooLargeIfRegionsAreMerged, RegionAlreadyLarge, RegionAlreadySmall, InconsistentBoundsIfRegionsAreMerged, BoundPropagationWithinRegion, AdjacentSameSizeRegions}
+use Rattle.reasons.specs.Reason.{meaning}
+use Rattle.analysis.specs.Placed.{placeOfLit}
+use Rattle.analysis.proofs.Places.{place-back}
+use Rattle.lists.specs.Within.{Held, Within}
+use Rattle.lists.proofs.Lists.{reason-listed, reason-missing}
+use Rattle.lists.proofs.Fits.{reason-fits}
+use Rattle.judge.proofs.False.{within-names}
+use Rattle.judge.proofs.Conflicts.{given-whole, list-taken}
+use Rattle.calls.specs.Look.{gone}
+use Rattle.calls.specs.Calls as calls
+use Rattle.calls.specs.Calls.{World}
+use Rattle.calls.proofs.Alike.{gone-same}
+use Rattle.refusals.specs.Refusals.{litNumber, literalRefusal, fetchRefusal}
+use Rattle.refusals.specs.Calls.{litGiven, fetchRoom, refusedOr}
+use Rattle.refusals.proofs.Accepted.{KnownLit, literal-accepted, fetch-accepted}
+use Rattle.refusals.proofs.Calls.{last-call, reason-call}
+use Rattle.graph_division.specs.declared.GraphDivision.{GraphDivision}
+use Rattle.graph_division.specs.declared.Answer.the-variants as answer
+use Rattle.graph_division.specs.Calls.{Fetched, fetched, copied, reasonGiven, isNone, lastFetched, recordedFor, listFor, giving, reasonFetched}
+use Rattle.graph_division.proofs.Represents.{planIn, Represents, answerFor, answerOf}
+use Rattle.graph_division.proofs.Looked.{tab-take, tab-length}
+
+-- the list of an answer
+unfoldable pub listIn : calls.Answer → List ℕ
+listIn calls.consistent = []
+listIn calls.conflicting = []
+listIn calls.noted = []
+listIn calls.undone = []
+listIn (calls.refused n) = []
+listIn (calls.reason ls) = ls
+
+-- a fetch on state, log and cursor; the definition's outcome is o
+pub record SimulatesFetched (s : GraphDivision) (log : List ℕ) (c : Cursor) (before : List ℕ) (x : Fetched) (o : calls.Outcome) : Type 0 where
+  pub answer : x .answer ≡ answerOf o
+  -- the list stands whole from the buffer's start on, all else of it stays
+  pub buffer : x .buffer ≡ sets before 0 (listIn (o .answer))
+  pub whole : take (length (listIn (o .answer))) (x .buffer) ≡ listIn (o .answer)
+  pub represents : Represents s log c (o .world)
+
+copied-is : (l m b : List ℕ) (n : ℕ) → tab (word l) n ≡ m → length m ≤ length b → copied l n b ≡ fetched (answer.Reason (length m)) (sets b 0 m)
+unfolding copied
+copied-is l m b n e h =
+    ap₂ (λ (k : ℕ) (v : List ℕ). fetched (answer.Reason k) (written v (outOf b 0) .text)) (sym (tab-length (word l) n) ∙ ap length e) e
+    ∙ ap (λ (o : Out). fetched (answer.Reason (length m)) (o .text)) (written-fits m b 0 (omega arith))
+
+-- a reason is none, or stands for one
+one-reason : (r : Reason) → ((meaning r ≡ []) × (isNone r ≡ true)) ⊎ ((q : abstract.Reason) × (meaning r ≡ q ∷ []) × (isNone r ≡ false))
+unfolding meaning isNone
+one-reason NotPropagated = inl (refl, refl)
+one-reason (EdgeInSameGroup g) = inr (_, refl, refl)
+one-reason (EdgeBetweenDifferentGroups h g flip) = inr (_, refl, refl)
+one-reason (TooLargeIfRegionsAreMerged g l) = inr (_, refl, refl)
+one-reason (RegionAlreadyLarge v) = inr (_, refl, refl)
+one-reason (RegionAlreadySmall v) = inr (_, refl, refl)
+one-reason (InconsistentBoundsIfRegionsAreMerged g a b flip) = inr (_, refl, refl)
+one-reason (BoundPropagationWithinRegion l k u) = inr (_, refl, refl)
+one-reason (AdjacentSameSizeRegions a la ua b lb ub u) = inr (_, refl, refl)
+
+module _ (s : GraphDivision) (log : List ℕ) (c : Cursor) (w : World) (r : Represents s log c w) (b : List ℕ) where
+  abbrev ws : List ℕ
+  ws = s .plan
+
+  abbrev ends : List (List ℕ)
+  ends = s .edges .ends
+
+  abbrev number : ℕ
+  number = fetchRefusal ws ends (s .noted) (length b) log c
+
+  fetched-by : {y z : Fetched} {o q : calls.Outcome} → y ≡ z → o ≡ q → SimulatesFetched s log c b z q → SimulatesFetched s log c b y o
+  fetched-by {z = z} {o = o} i j h = subst (λ (y : Fetched). SimulatesFetched s log c b y o) (sym i) (subst (SimulatesFetched s log c b z) (sym j) h)
+
+  refused : (n : ℕ) → SimulatesFetched s log c b (fetched (answer.Refused n) b) (calls.refuse n w [])
+  unfolding calls.refuse answerOf answerFor listIn
+  refused n = record { answer = refl; buffer = refl; whole = refl; represents = r }
+
+  gives : (m : List ℕ) → length m ≤ length b → SimulatesFetched s log c b (fetched (answer.Reason (length m)) (sets b 0 m)) (calls.give w m)
+  unfolding calls.give answerOf answerFor listIn
+  gives m h = record { answer = refl; buffer = refl; whole = list-taken m b h; represents = r }
+
+  buffer-long : number ≡ 0 → edgesOf ws + 2 * verticesOf ws + 4 ≤ length b
+  unfolding reasonShort
+  buffer-long e = ltb-false (length b) (edgesOf ws + 2 * verticesOf ws + 4) (fetch-accepted ws ends (s .noted) log c (r .valid .words) (length b) e .1)
+
+  last-short : length (w .last) ≤ edgesOf ws + 2 * verticesOf ws + 4
+  last-short = omega (arith, r .fits, ap length (r .last), tab-length (word (s .last)) (s .«last_len»))
+
+  pub last-simulated : SimulatesFetched s log c b (lastFetched s c log b) (calls.onCalcLast w (fetchRoom ws ends (s .noted) (length b) log c))
+  unfolding lastFetched refusedOr
+  last-simulated =
+      let f = last-call ws ends (s .noted) log c w (length b) in
+      tested (eqb number 0)
+      (λ t.
+      let h : length (w .last) ≤ length b = omega (arith, last-short, buffer-long (eqb-true number 0 t)) in
+      fetched-by (pick-yes _ _ t ∙ (pick-no _ _ (le-ltb 260 (s .«last_len») (omega (arith, r .fits, r .proper .fine .fits, r .proper .fine .vertices))) ∙ copied-is (s .last) (w .last) b (s .«last_len») (r .last) h)) (f ∙ pick-yes _ _ t) (gives (w .last) h))
+      (λ t. fetched-by (pick-no _ _ t) (f ∙ pick-no _ _ t) (refused number))
+
+  module _ (e : number ≡ 0) where
+    abbrev blank : Out
+    blank = outOf (replicate 260 0) 0
+
+    held : Held ws ends (s .noted)
+    held = record { proper = r .proper; words = r .words; states = omega (arith, r .valid .words) }
+
+    -- the noted words are the state of what stands
+    same : SameState (planIn s) (stateOf (s .noted)) (noteAll (planIn s) (w .standing))
+    same = subst (λ (ls : List ℕ). SameState (planIn s) (stateOf (s .noted)) (noteAll (planIn s) ls)) (sym (r .standing)) (valid-state ws ends (r .proper) (noting (s .noted) log c) (r .valid))
+
+    -- a reason that is recorded: its list, or 16
+    module _ (why : Reason) (q : abstract.Reason) (m : meaning why ≡ q ∷ []) (i : Within (planIn s) q) where
+      abbrev list : List ℕ
+      list = abstract.listOf (planIn s) (stateOf (s .noted)) q
+
+      is-gone : gone (planIn s) (noteAll (planIn s) (w .standing)) q ≡ true → SimulatesFetched s log c b (reasonGiven (listFor s why .text) (listFor s why .listed) b) (calls.refuse 16 w [])
+      unfolding listFor reasonGiven
+      is-gone t = fetched-by
+          (ap (λ (a : Listed). reasonGiven (listFor s why .text) a b) (reason-missing ws ends (s .noted) held why q blank m i (gone-same (planIn s) (proper-plan ws ends (r .proper)) _ _ same q ∙ t)))
+          refl (refused 16)
+
+      is-there : gone (planIn s) (noteAll (planIn s) (w .standing)) q ≡ false →
+          SimulatesFetched s log c b (reasonGiven (listFor s why .text) (listFor s why .listed) b) (calls.give w (runs.fetched (planIn s) (w .standing) q))
+      unfolding listFor reasonGiven
+      is-there t =
+          let k = gone-same (planIn s) (proper-plan ws ends (r .proper)) _ _ same q ∙ t in
+          let short = reason-fits ws ends (s .noted) held why q m i k in
+          let z = length-replicate {A = ℕ} 260 0 in
+          let h : length list ≤ length (replicate {A = ℕ} 260 0) = omega (arith, r .proper .fine .fits, r .proper .fine .vertices) in
+          let h′ : length list ≤ length b = omega (arith, buffer-long e) in
+          fetched-by
+          (ap (λ (a : walks.Answer). reasonGiven (a .text) (a .listed) b) (reason-listed ws ends (s .noted) held why q blank m i k ∙ given-whole list (replicate 260 0) h)
+          ∙ copied-is (sets (replicate 260 0) 0 list) list b (length list) (tab-take (length list) _ (omega (arith, length-sets (replicate {A = ℕ} 260 0) 0 list)) ∙ list-taken list (replicate 260 0) h) h′)
+          (ap (calls.give w) (sym (list-same (planIn s) (proper-plan ws ends (r .proper)) _ _ same q (within-names (planIn s) q i))))
+          (gives list h′)
+
+    module _ (lit : ℤ) (k : KnownLit ws lit) where
+      abbrev why : Reason
+      why = recordedFor s (litNumber lit)
+
+      newest : meaning why ≡ runs.reasonOf (litGiven lit) (w .reasons)
+      unfolding recordedFor
+      newest =
+          let (h, u) = place-back ws ends (r .proper) (litNumber lit) (k .is-known) in
+          r .reasons (placeOfLit ws (litNumber lit)) h ∙ ap (λ (l : ℕ). runs.reasonOf l (w .reasons)) (u ∙ k .number)
+
+      given-reason : SimulatesFetched s log c b (giving s why b) (calls.giveReason (planIn s) w (runs.reasonOf (litGiven lit) (w .reasons)))
+      unfolding giving calls.giveReason
+      given-reason = ⊎-elim
+          (λ (n, t). fetched-by (pick-yes _ _ t) (ap (calls.giveReason (planIn s) w) (sym newest ∙ n)) (refused 15))
+          (λ (q, m, t).
+          let i : Within (planIn s) q = each-found (litGiven lit) q (w .reasons) (r .within) (sym newest ∙ m) in
+          let f = ap (calls.giveReason (planIn s) w) (sym newest ∙ m) in
+          tested (gone (planIn s) (noteAll (planIn s) (w .standing)) q)
+          (λ g. fetched-by (pick-no _ _ t) (f ∙ pick-yes _ _ g) (is-gone why q m i g))
+          (λ g. fetched-by (pick-no _ _ t) (f ∙ pick-no _ _ g) (is-there why q m i g)))
+          (one-reason why)
+
+  pub reason-simulated : (lit : ℤ) → SimulatesFetched s log c b (reasonFetched s c log lit b) (calls.onCalcReason (planIn s) w (fetchRoom ws ends (s .noted) (length b) log c) (litGiven lit))
+  unfolding reasonFetched refusedOr
+  reason-simulated lit =
+      let f = reason-call ws ends (s .noted) log c w (length b) lit in
+      tested (eqb number 0)
+      (λ t. tested (eqb (literalRefusal ws lit) 0)
+      (λ u. fetched-by (pick-yes _ _ t ∙ pick-yes _ _ u) (f ∙ pick-yes _ _ t ∙ pick-yes _ _ u) (given-reason (eqb-true number 0 t) lit (literal-accepted ws lit (eqb-true (literalRefusal ws lit) 0 u))))
+      (λ u. fetched-by (pick-yes _ _ t ∙ pick-no _ _ u) (f ∙ pick-yes _ _ t ∙ pick-no _ _ u) (refused (literalRefusal ws lit))))
+      (λ t. fetched-by (pick-no _ _ t) (f ∙ pick-no _ _ t) (refused number))

@@ -1,0 +1,56 @@
+use mathlib.Core.Path.{_≡_, refl, sym, ap, ap₂, _∙_}
+use mathlib.Core.List.{List}
+use Prim.Native.Nat.{ℕ}
+use Rattle.base.proofs.Loop.{pick-yes, pick-no}
+use Rattle.walks.specs.Answers as walks
+use Rattle.walks.specs.Written.{outOf}
+use Rattle.lists.specs.Lists.{reasonLits}
+use Rattle.graph_division.specs.Calls.{giving, listFor, reasonGiven}
+use borrow.Author.Needs.{needs}
+use Rattle.graph_division.proofs.calc_reason.calc.Statement.{statement}
+use Rattle.graph_division.proofs.calc_reason.calc.Tie as tie
+
+is-none-requires : tie.Need-is-none-requires
+is-none-requires c κs = search needs
+
+returns : tie.Need-returns
+unfolding giving
+returns c = sym (pick-yes _ _ (sym (c .before .is-none .ensures) ∙ (c .if1 .taken)))
+
+no-list-requires : tie.Need-no-list-requires
+no-list-requires c κs = search needs
+
+slice-aggregate-reason-lits : tie.Need-slice-aggregate-reason-lits
+slice-aggregate-reason-lits c = search needs
+
+reason-lits-requires : tie.Need-reason-lits-requires
+reason-lits-requires c κs = search needs
+
+slice-aggregate-give : tie.Need-slice-aggregate-give
+slice-aggregate-give c = search needs
+
+give-requires : tie.Need-give-requires
+give-requires c κs = search needs
+
+same-length : tie.Need-same-length
+same-length c = search needs
+
+returns-2 : tie.Need-returns-2
+unfolding giving listFor
+returns-2 c =
+    let a = (c .before .before .before .before .before .before .reason-lits .ensures) ∙ (λ i. reasonLits (c .before .before .before .before .before .before .before .before .before .before .before .before .before .before .before .before .args .t1 .plan) (((c .before .before .before .before .before .before .before .before .before .before .before .before .before .before .before .before .pre)) i) (c .before .before .before .before .before .before .before .before .before .before .before .before .before .before .before .before .args .t1 .noted) (c .before .before .before .before .before .before .before .before .before .before .before .before .before .before .before .before .args .reason) (outOf (((c .before .before .before .before .before .before .before .before .before .before .before .no-list .ensures)) i) 0)) in
+    (c .before .before .give .ensures) ∙ (ap (λ (x : walks.Answer). reasonGiven (x .text) (x .listed) (c .before .before .before .before .before .before .before .before .before .before .before .before .before .before .before .before .args .buffer .now)) a ∙ sym (pick-no _ _ (sym (c .before .before .before .before .before .before .before .before .before .before .before .before .before .before .is-none .ensures) ∙ (c .before .before .before .before .before .before .before .before .before .before .before .before .before .if1 .left))))
+
+pub calc-spec : {M : Type 1} → statement M
+calc-spec =
+    tie.close
+    (tie.spec
+    is-none-requires
+    returns
+    no-list-requires
+    slice-aggregate-reason-lits
+    reason-lits-requires
+    slice-aggregate-give
+    give-requires
+    same-length
+    returns-2)

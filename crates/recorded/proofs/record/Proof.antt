@@ -1,0 +1,85 @@
+use mathlib.Core.Path.{_≡_, refl, sym, ap, _∙_}
+use native.Mathlib.Omega.{arith}
+use Prim.Native.Nat.{ℕ, _≤_, _-_, _*_}
+use mathlib.Core.List.{List}
+use lib.ListN.{getD, set}
+use borrow.Author.Needs.{needs}
+use Rattle.base.specs.Iter.{iter}
+use Rattle.base.proofs.Loop.{iter-zero, iter-more, iter-done}
+use Rattle.noting.specs.Words.{capped}
+use Rattle.reasons.specs.declared.reason.Reason.the-variants.{NotPropagated}
+use Rattle.recorded.specs.declared.Recorded.{Recorded}
+use Rattle.recorded.specs.declared.Reasons.{Reasons}
+use Rattle.recorded.specs.Recorded.{newest, recorded, holding}
+use Rattle.recorded.proofs.Recording.{capped-low, reasons-eq, recorded-done}
+use Rattle.recorded.proofs.record.Statement.{statement}
+use Rattle.recorded.proofs.record.Tie as tie
+
+abbrev Inv-loop : tie.InvT-loop
+Inv-loop plan proposals n t₀ p₀ t p = (p ≤ n) × (t .at ≡ iter (λ p l. set l p (newest proposals p (getD l p (holding NotPropagated)))) p (t₀ .at))
+
+abbrev μ-loop : tie.MeasureT-loop
+μ-loop plan proposals n t₀ p₀ t p = n - p
+
+num-variables-requires : tie.Need-num-variables-requires Inv-loop μ-loop
+num-variables-requires c κs = search needs
+
+cast-capped : tie.Need-cast-capped Inv-loop μ-loop
+cast-capped c = omega arith
+
+mul-capped : tie.Need-mul-capped Inv-loop μ-loop
+mul-capped c = omega arith
+
+capped-requires : tie.Need-capped-requires Inv-loop μ-loop
+capped-requires c κs = search needs
+
+loop-holds : tie.Need-loop-holds Inv-loop μ-loop
+loop-holds c = (omega arith, iter-zero _ _)
+
+mul-old : tie.Need-mul-old Inv-loop μ-loop
+mul-old c = omega (arith, capped-low (2 * (c .before .before .before .num-variables .result)), (c .before .before .capped .ensures))
+
+element-copy-out-old : tie.Need-element-copy-out-old Inv-loop μ-loop
+element-copy-out-old c = omega (arith, capped-low (2 * (c .before .before .before .num-variables .result)), (c .before .before .capped .ensures))
+
+newest-requires : tie.Need-newest-requires Inv-loop μ-loop
+newest-requires c κs = omega (arith, capped-low (2 * (c .before .before .before .before .num-variables .result)), (c .before .before .before .capped .ensures))
+
+mul-t12 : tie.Need-mul-t12 Inv-loop μ-loop
+mul-t12 c = omega (arith, capped-low (2 * (c .before .before .before .before .before .num-variables .result)), (c .before .before .before .before .capped .ensures))
+
+element-set-from-t : tie.Need-element-set-from-t Inv-loop μ-loop
+element-set-from-t c = omega (arith, capped-low (2 * (c .before .before .before .before .before .num-variables .result)), (c .before .before .before .before .capped .ensures))
+
+add-p : tie.Need-add-p Inv-loop μ-loop
+add-p c = omega arith
+
+loop-less : tie.Need-loop-less Inv-loop μ-loop
+loop-less c = omega arith
+
+loop-again : tie.Need-loop-again Inv-loop μ-loop
+loop-again c = (omega arith, iter-more _ _ _ _ _ (c .before .before .before .loop .inv .1) (ap (set ((c .before .before .before .loop .t) .at) (c .before .before .before .loop .p)) (c .newest .ensures)))
+
+returns : tie.Need-returns Inv-loop μ-loop
+returns c = recorded-done (c .before .before .before .before .before .args .plan .now) _ _ _ _ _ _ (c .before .before .before .num-variables .ensures) (c .before .before .capped .ensures) (c .before .loop .inv .1) (omega arith) (omega arith)
+
+pub record-spec : {M : Type 1} → statement M
+record-spec =
+    tie.close
+    (tie.spec
+    Inv-loop
+    μ-loop
+    num-variables-requires
+    cast-capped
+    mul-capped
+    capped-requires
+    loop-holds
+    mul-old
+    element-copy-out-old
+    newest-requires
+    mul-t12
+    element-set-from-t
+    add-p
+    loop-less
+    loop-again
+    returns)
