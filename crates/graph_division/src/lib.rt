@@ -28,7 +28,7 @@ pub struct GraphDivision {
     pub initialized: bool,
 }
 
-// What a call answers. specs/Answers.antt gives document 01's letter and numbers for each.
+// What a call answers. specs/Answers.antt gives document 01's number and values for each.
 pub enum Answer {
     // The first `handed` entries of the lent list are the literals handed on.
     Consistent { handed: usize },

@@ -1,0 +1,24 @@
+-- Document 01: "If an answer is an enum, a definition gives this paper's number and values for each of its cases."
+use mathlib.Core.List.{List, []}
+use Prim.Native.Nat.{ℕ}
+use lib.ListN.{take}
+use Rattle.graph_division.specs.declared.Answer.{Answer}
+use Rattle.graph_division.specs.declared.Answer.the-variants.{Consistent, Conflict, Noted, Undone, Reason, Refused}
+
+-- the number of the refusal, 0 for a call that is accepted
+unfoldable pub numberOf : Answer → ℕ
+numberOf (Consistent handed) = 0
+numberOf Conflict = 0
+numberOf Noted = 0
+numberOf Undone = 0
+numberOf (Reason len) = 0
+numberOf (Refused number) = number
+
+-- the literals that the answer gives, where l is the list or the buffer that the call was lent, after it: those handed on, or the reason
+unfoldable pub valuesOf : Answer → List ℕ → List ℕ
+valuesOf (Consistent handed) l = take handed l
+valuesOf Conflict l = []
+valuesOf Noted l = []
+valuesOf Undone l = []
+valuesOf (Reason len) l = take len l
+valuesOf (Refused number) l = []
