@@ -1,3 +1,4 @@
 pub mod New
 pub mod Answers
 pub mod Calls
+pub mod Initialize
