@@ -1,31 +1,25 @@
+use mathlib.Core.Path.{_≡_, refl, sym, ap, ap₂, _∙_}
+use mathlib.Core.Bool.{Bool, true, false, _&&_}
+use Rattle.notifications.specs.Notifications.{isDue}
+use Rattle.notifications.proofs.Cases.{due-yes, due-no}
 use borrow.Author.Needs.{needs}
 use Rattle.notifications.proofs.is_due.Statement.{statement}
 use Rattle.notifications.proofs.is_due.Tie as tie
-use Rattle.notifications.proofs.is_due.Reads as reads
-use Rattle.notifications.proofs.is_due.Lts as lts
-use Rattle.notifications.proofs.is_fine.Reads as is-fine-reads
-use Rattle.plan.proofs.unique_lit.Reads as unique-lit-reads
-use Rattle.sweep.proofs.table.is_true.Reads as is-true-reads
 
--- src/lib.rt:129:8
 is-fine-requires : tie.Need-is-fine-requires
 is-fine-requires c κs = search needs
 
--- src/lib.rt:130:45
 unique-lit-requires : tie.Need-unique-lit-requires
 unique-lit-requires c κs = search needs
 
--- src/lib.rt:130:9
 is-true-requires : tie.Need-is-true-requires
 is-true-requires c κs = search needs
 
--- src/lib.rt:130:9
 returns : tie.Need-returns
-returns c = ?
+returns c = due-yes _ _ _ _ _ _ (sym (c .before .before .before .is-fine .ensures) ∙ (c .before .before .if1 .taken)) (c .before .unique-lit .ensures) (c .is-true .ensures)
 
--- src/lib.rt:126:1
 returns-2 : tie.Need-returns-2
-returns-2 c = ?
+returns-2 c = due-no _ _ _ _ (sym (c .before .is-fine .ensures) ∙ (c .if1 .left))
 
 pub is-due-spec : {M : Type 1} → statement M
 is-due-spec =

@@ -1,55 +1,52 @@
+use mathlib.Core.Path.{_≡_, refl, sym, ap, ap₂, _∙_}
+use Prim.Native.Nat.{ℕ, suc, _+_, _-_, _*_, _/_, _%_, _≤_, _<_}
+use native.Mathlib.Omega.{arith}
+use lib.ListN.{length}
+use Rattle.base.specs.Iter.{iter}
+use Rattle.base.proofs.Loop.{iter-zero, iter-more, iter-done}
+use Rattle.plan.specs.Words.{variablesOf}
+use Rattle.notifications.specs.Notifications.{mergedAt, merged}
+use Rattle.notifications.proofs.Cases.{merged-length}
+use borrow.Author.Needs.{needs}
 use Rattle.notifications.proofs.merge.merge.Statement.{statement}
 use Rattle.notifications.proofs.merge.merge.Tie as tie
-use Rattle.notifications.proofs.merge.merge.Reads as reads
-use Rattle.notifications.proofs.merge.merge.Lts as lts
-use Rattle.notifications.proofs.merge.merge_at.Reads as merge-at-reads
-use Rattle.plan.proofs.num_variables.Reads as num-variables-reads
 
 abbrev Inv-loop : tie.InvT-loop
-Inv-loop plan proposals words₀ n p₀ words p = ?
+Inv-loop plan proposals words₀ n p₀ words p = (p ≤ n) × ((n ≡ 2 * variablesOf plan) × (words ≡ iter (mergedAt proposals) p words₀))
 
 abbrev μ-loop : tie.MeasureT-loop
-μ-loop plan proposals words₀ n p₀ words p = ?
+μ-loop plan proposals words₀ n p₀ words p = n - p
 
--- src/merge.rt:37:18
 num-variables-requires : tie.Need-num-variables-requires Inv-loop μ-loop
-num-variables-requires c κs = ?
+num-variables-requires c κs = search needs
 
--- src/merge.rt:37:18
 cast-n : tie.Need-cast-n Inv-loop μ-loop
-cast-n c = ?
+cast-n c = omega arith
 
--- src/merge.rt:37:13
 mul-n : tie.Need-mul-n Inv-loop μ-loop
-mul-n c = ?
+mul-n c = omega arith
 
--- src/merge.rt:39:5
 loop-holds : tie.Need-loop-holds Inv-loop μ-loop
-loop-holds c = ?
+loop-holds c = (omega arith, (omega arith, iter-zero _ _))
 
--- src/merge.rt:40:9
 merge-at-requires : tie.Need-merge-at-requires Inv-loop μ-loop
-merge-at-requires c κs = ?
+merge-at-requires c κs = omega arith
 
--- src/merge.rt:41:9
 add-p : tie.Need-add-p Inv-loop μ-loop
-add-p c = ?
+add-p c = omega arith
 
--- src/merge.rt:39:5
 loop-less : tie.Need-loop-less Inv-loop μ-loop
-loop-less c = ?
+loop-less c = omega arith
 
--- src/merge.rt:39:5
 loop-again : tie.Need-loop-again Inv-loop μ-loop
-loop-again c = ?
+loop-again c = (omega arith, ((c .before .before .before .before .before .loop .inv .1 .0), iter-more _ _ _ _ _ (c .before .before .before .before .before .loop .inv .1 .1) (c .before .before .merge-at .ensures)))
 
--- src/merge.rt:34:1
 same-length : tie.Need-same-length Inv-loop μ-loop
-same-length c = ?
+same-length c = ap length (c .before .loop .inv .1 .1) ∙ merged-length _ _ (c .before .loop .p)
 
--- src/merge.rt:34:1
 returns : tie.Need-returns Inv-loop μ-loop
-returns c = ?
+unfolding merged
+returns c = iter-done _ _ _ _ _ (c .before .loop .inv .1 .1) (omega arith) (omega arith)
 
 pub merge-spec : {M : Type 1} → statement M
 merge-spec =

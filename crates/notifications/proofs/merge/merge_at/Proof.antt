@@ -1,67 +1,53 @@
+use mathlib.Core.Path.{_≡_, refl, sym, ap, ap₂, _∙_}
+use Rattle.notifications.proofs.Cases.{merge-at-yes}
+use Rattle.base.proofs.Loop.{pick-no}
+use Rattle.notifications.specs.Notifications.{mergedAt}
 use borrow.Author.Needs.{needs}
 use Rattle.notifications.proofs.merge.merge_at.Statement.{statement}
 use Rattle.notifications.proofs.merge.merge_at.Tie as tie
-use Rattle.notifications.proofs.merge.merge_at.Reads as reads
-use Rattle.notifications.proofs.merge.merge_at.Lts as lts
-use Rattle.notifications.proofs.merge.put.Reads as put-reads
-use Rattle.notifications.proofs.merge.word.Reads as word-reads
-use Rattle.sweep.proofs.proposed.Reads as proposed-reads
 
--- src/merge.rt:28:8
 proposed-requires : tie.Need-proposed-requires
 proposed-requires c κs = search needs
 
--- src/merge.rt:29:20
 mul-put : tie.Need-mul-put
 mul-put c = search needs
 
--- src/merge.rt:29:43
 mul-word : tie.Need-mul-word
 mul-word c = search needs
 
--- src/merge.rt:29:27
 word-requires : tie.Need-word-requires
 word-requires c κs = search needs
 
--- src/merge.rt:29:9
 put-requires : tie.Need-put-requires
 put-requires c κs = search needs
 
--- src/merge.rt:30:20
 mul-put-2 : tie.Need-mul-put-2
 mul-put-2 c = search needs
 
--- src/merge.rt:30:20
 add-put : tie.Need-add-put
 add-put c = search needs
 
--- src/merge.rt:30:47
 mul-word-2 : tie.Need-mul-word-2
 mul-word-2 c = search needs
 
--- src/merge.rt:30:47
 add-word : tie.Need-add-word
 add-word c = search needs
 
--- src/merge.rt:30:31
 word-requires-2 : tie.Need-word-requires-2
 word-requires-2 c κs = search needs
 
--- src/merge.rt:30:9
 put-requires-2 : tie.Need-put-requires-2
 put-requires-2 c κs = search needs
 
--- src/merge.rt:24:1
 same-length : tie.Need-same-length
 same-length c = search needs
 
--- src/merge.rt:24:1
 returns : tie.Need-returns
-returns c = ?
+returns c = merge-at-yes _ _ _ _ _ _ _ (sym (c .before .before .before .before .before .before .before .before .before .before .before .proposed .ensures) ∙ (c .before .before .before .before .before .before .before .before .before .before .if1 .taken)) (c .before .before .before .before .before .before .before .before .word .ensures) (c .before .before .before .before .before .before .before .put .ensures) (c .before .before .before .word2 .ensures) (c .before .before .put2 .ensures)
 
--- src/merge.rt:24:1
 returns-2 : tie.Need-returns-2
-returns-2 c = ?
+unfolding mergedAt
+returns-2 c = sym (pick-no _ _ (sym (c .before .proposed .ensures) ∙ (c .if1 .left)))
 
 pub merge-at-spec : {M : Type 1} → statement M
 merge-at-spec =

@@ -1,24 +1,21 @@
+use mathlib.Core.Path.{_≡_, refl, sym, ap, ap₂, _∙_}
+use native.Mathlib.Omega.{arith}
+use lib.ListN.{List·getD-eq-default}
 use borrow.Author.Needs.{needs}
 use Rattle.notifications.proofs.merge.word.Statement.{statement}
 use Rattle.notifications.proofs.merge.word.Tie as tie
-use Rattle.notifications.proofs.merge.word.Reads as reads
-use Rattle.notifications.proofs.merge.word.Lts as lts
 
--- src/merge.rt:11:16
 mul-result : tie.Need-mul-result
 mul-result c = search needs
 
--- src/merge.rt:11:16
 shared-slice-read-result : tie.Need-shared-slice-read-result
 shared-slice-read-result c = search needs
 
--- src/merge.rt:11:9
 returns : tie.Need-returns
 returns c = search needs
 
--- src/merge.rt:7:1
 returns-2 : tie.Need-returns-2
-returns-2 c = ?
+returns-2 c = sym (List·getD-eq-default (c .before .args .words .now) 0 {n = (c .before .args .i)} (omega arith))
 
 pub word-spec : {M : Type 1} → statement M
 word-spec = tie.close (tie.spec mul-result shared-slice-read-result returns returns-2)
