@@ -9,3 +9,4 @@ pub mod Fetching
 pub mod Building
 pub mod Rooms
 pub mod Running
+pub mod Saved
