@@ -10,3 +10,4 @@ pub mod Building
 pub mod Rooms
 pub mod Running
 pub mod Saved
+pub mod Begun

@@ -42,6 +42,10 @@ module _ (f : ℕ → ℕ) (l : List ℕ) where
       (λ (k : i < n). getD-set-other (filled 0 n f l) (0 + n) i (f n) 0 (λ (e : i ≡ 0 + n). omega arith) ∙ stored-at n i k r)
       (eq-or-lt-of-le {n = i} {m = n} (omega arith))
 
+pub saved-length : (t : List ℕ) → length (savedTable t) ≡ 4096
+unfolding savedTable
+saved-length t = tab-length (λ i. getD t i 0) 4096
+
 pub saved-tab : (t : List ℕ) → filled 0 4096 (λ i. getD t i 0) (replicate 4096 0) ≡ savedTable t
 unfolding savedTable
 saved-tab t =
@@ -53,7 +57,7 @@ saved-tab t =
     stored-at f (replicate 4096 0) 4096 i k (omega arith) ∙ sym (tab-at f 4096 i k))
 
 -- a table of t's length, and with its entries past the copied ones
-abbrev Rest : List ℕ → List ℕ → Type 0
+abbrev pub Rest : List ℕ → List ℕ → Type 0
 Rest t u = (length u ≡ length t) × ((i : ℕ) → 4096 ≤ i → getD u i 0 ≡ getD t i 0)
 
 pub restored : (t u : List ℕ) → Rest t u → restoredTable (savedTable t) u ≡ t

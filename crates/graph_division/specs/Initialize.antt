@@ -50,6 +50,20 @@ takenOver s c t log words left x done a =
       initialized = done;
     }) (y .cursor) a) [] [] (y .log)
 
+-- the end: t tells which literals were notified, x how far they came, words what was recorded, left is the list last left
+module _ (s : GraphDivision) (c : Cursor) (t log words left : List ℕ) (x : Progress) where
+  -- what was handed on is in the table after it and at the start of the list; all else of the list stays
+  unfoldable pub taking : Bool → Answer → List ℕ → List ℕ → List ℕ → Called
+  taking done a after handed list =
+      let y = takenOver s c t log words left x done a in
+      called (y .outcome) after (written (tab (word handed) (x .handed)) (outOf list 0) .text) (y .log)
+
+  -- "A refused initialise takes back all it did.": back is the table then
+  unfoldable pub endedBy : Judgement → List ℕ → List ℕ → List ℕ → List ℕ → Called
+  endedBy Fine back after handed list = taking true (answer.Consistent (x .handed)) after handed list
+  endedBy (Clash n) back after handed list = taking (s .initialized) answer.Conflict after handed list
+  endedBy (Stopped n) back after handed list = called (refuse n s c) back list log
+
 module _ (s : GraphDivision) (c : Cursor) (t log : List ℕ) where
   -- nothing is notified yet
   unfoldable pub entering : Way
@@ -63,20 +77,8 @@ module _ (s : GraphDivision) (c : Cursor) (t log : List ℕ) where
   unfoldable pub finished : Ending
   finished = let w = goneThrough in lastPass (s .plan) (s .edges .ends) (w .noted) (w .progress) (w .words) (w .proposals) (w .left)
 
-  -- what was handed on is in the table and at the start of the list; all else of the list stays
-  unfoldable pub taking : Bool → Answer → List ℕ → Called
-  taking done a list =
-      let y = takenOver s c t log (finished .words) (finished .left) (finished .progress) done a in
-      called (y .outcome) (goneThrough .table) (written (tab (word (goneThrough .list)) (finished .progress .handed)) (outOf list 0) .text) (y .log)
-
-  -- "A refused initialise takes back all it did."
-  unfoldable pub begunBy : Judgement → List ℕ → Called
-  begunBy Fine list = taking true (answer.Consistent (finished .progress .handed)) list
-  begunBy (Clash n) list = taking (s .initialized) answer.Conflict list
-  begunBy (Stopped n) list = called (refuse n s c) t list log
-
   unfoldable pub begun : List ℕ → Called
-  begun list = begunBy (finished .progress .judgement) list
+  begun list = let y = finished in endedBy s c t log (y .words) (y .left) (y .progress) (y .progress .judgement) t (goneThrough .table) (goneThrough .list) list
 
   -- `initialize`
   unfoldable pub initialized : List ℕ → Called

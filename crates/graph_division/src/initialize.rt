@@ -13,12 +13,11 @@ use notifications::notify_all;
 use undo_log::Cursor;
 ghost use mathlib.Core.Path.{_≡_};
 ghost use mathlib.Core.List.{[]};
-ghost use Prim.Native.Nat.{_<_};
 ghost use lib.ListN.{length, getD, set, replicate};
 ghost use Rattle.noting.specs.Note.{noting};
 ghost use Rattle.refusals.specs.Refusals.{initializeRefusal};
 ghost use Rattle.graph_division.specs.Calls.{called};
-ghost use Rattle.graph_division.specs.Initialize.{savedTable, restoredTable, notedAt, notedUpTo, takenOver, begun, initialized};
+ghost use Rattle.graph_division.specs.Initialize.{savedTable, restoredTable, notedAt, notedUpTo, takenOver, endedBy, begun, initialized};
 
 fn code(table: &[u8], i: usize) -> u8
     ensures { λ r. ⌜ r ≡ getD (now (table .entry)) i 0 ⌝ }
@@ -49,16 +48,16 @@ fn save(table: &[u8]) -> [u8; 4096]
     saved
 }
 
-fn restore_entry(saved: &[u8; 4096], table: &mut [u8], i: usize)
-    requires { ⌜ i < 4096 ⌝ }
+fn restore_entry(saved: &[u8], table: &mut [u8], i: usize)
     ensures { λ _. ⌜ now (table .exit) ≡ set (now (table .entry)) i (getD (now (saved .entry)) i 0) ⌝ }
 {
     if i < table.len() {
-        table[i] = saved[i];
+        let x = code(saved, i);
+        table[i] = x;
     }
 }
 
-fn restore(saved: &[u8; 4096], table: &mut [u8])
+fn restore(saved: &[u8], table: &mut [u8])
     ensures { λ _. ⌜ now (table .exit) ≡ restoredTable (now (saved .entry)) (now (table .entry)) ⌝ }
 {
     let mut i = 0;
@@ -145,7 +144,61 @@ fn take_over(
     }
 }
 
-// All is tried out on copies, the table in place, and taken over or taken back.
+// What was tried out is taken over, or taken back.
+fn finish(
+    s: GraphDivision,
+    entry: &[u8],
+    table: &mut [u8],
+    list: &mut [u32],
+    log: &mut [u64],
+    cursor: Cursor,
+    handed: &[u32],
+    words: &[u64],
+    left: [u32; 260],
+    x: Progress,
+) -> Outcome
+    ensures { λ r. ⌜ called r (now (table .exit)) (now (list .exit)) (now (log .exit)) ≡ endedBy s cursor (now (entry .entry)) (now (log .entry)) (now (words .entry)) left x (x .judgement) (restoredTable (now (entry .entry)) (now (table .entry))) (now (table .entry)) (now (handed .entry)) (now (list .entry)) ⌝ }
+{
+    let found = x.judgement;
+    let n = x.handed;
+    match found {
+        Judgement::Fine => {
+            copy(handed, n, list);
+            take_over(
+                s,
+                entry,
+                log,
+                cursor,
+                words,
+                left,
+                x,
+                true,
+                Answer::Consistent { handed: n },
+            )
+        }
+        Judgement::Clash { len: _ } => {
+            copy(handed, n, list);
+            let done = s.initialized;
+            take_over(
+                s,
+                entry,
+                log,
+                cursor,
+                words,
+                left,
+                x,
+                done,
+                Answer::Conflict,
+            )
+        }
+        Judgement::Stopped { refusal } => {
+            restore(entry, table);
+            refuse(s, cursor, refusal)
+        }
+    }
+}
+
+// All is tried out, on copies and on the table in place.
 fn begin(
     s: GraphDivision,
     table: &mut [u8],
@@ -195,43 +248,18 @@ fn begin(
         &mut left,
         x,
     );
-    let found = y.judgement;
-    let n = y.handed;
-    match found {
-        Judgement::Fine => {
-            copy(&handed, n, list);
-            take_over(
-                s,
-                &entry,
-                log,
-                cursor,
-                &words,
-                left,
-                y,
-                true,
-                Answer::Consistent { handed: n },
-            )
-        }
-        Judgement::Clash { len: _ } => {
-            copy(&handed, n, list);
-            let done = s.initialized;
-            take_over(
-                s,
-                &entry,
-                log,
-                cursor,
-                &words,
-                left,
-                y,
-                done,
-                Answer::Conflict,
-            )
-        }
-        Judgement::Stopped { refusal } => {
-            restore(&entry, table);
-            refuse(s, cursor, refusal)
-        }
-    }
+    finish(
+        s,
+        &entry,
+        table,
+        list,
+        log,
+        cursor,
+        &handed,
+        &words,
+        left,
+        y,
+    )
 }
 
 // Notifies, in rising order, the plan's literals that are true in the table on entry, and analyzes once more.

@@ -8,47 +8,47 @@ use Rattle.graph_division.proofs.accept.refuse.Reads as refuse-reads
 use Rattle.graph_division.proofs.initialize.begin.Reads as begin-reads
 use Rattle.refusals.proofs.initialize_refusal.Reads as initialize-refusal-reads
 
--- src/initialize.rt:248:17
+-- src/initialize.rt:276:17
 table-of-requires : tie.Need-table-of-requires
 table-of-requires c κs = search needs
 
--- src/initialize.rt:250:9
+-- src/initialize.rt:278:9
 initialize-refusal-requires : tie.Need-initialize-refusal-requires
 initialize-refusal-requires c κs = search needs
 
--- src/initialize.rt:261:9
+-- src/initialize.rt:289:9
 begin-requires : tie.Need-begin-requires
 begin-requires c κs = ?
 
--- src/initialize.rt:261:9
+-- src/initialize.rt:289:9
 same-length : tie.Need-same-length
 same-length c = search needs
 
--- src/initialize.rt:261:9
+-- src/initialize.rt:289:9
 same-length-2 : tie.Need-same-length-2
 same-length-2 c = search needs
 
--- src/initialize.rt:261:9
+-- src/initialize.rt:289:9
 same-length-3 : tie.Need-same-length-3
 same-length-3 c = search needs
 
--- src/initialize.rt:261:9
+-- src/initialize.rt:289:9
 returns : tie.Need-returns
 returns c = ?
 
--- src/initialize.rt:263:5
+-- src/initialize.rt:291:5
 refuse-requires : tie.Need-refuse-requires
 refuse-requires c κs = search needs
 
--- src/initialize.rt:238:1
+-- src/initialize.rt:266:1
 same-length-4 : tie.Need-same-length-4
 same-length-4 c = search needs
 
--- src/initialize.rt:238:1
+-- src/initialize.rt:266:1
 same-length-5 : tie.Need-same-length-5
 same-length-5 c = search needs
 
--- src/initialize.rt:238:1
+-- src/initialize.rt:266:1
 returns-2 : tie.Need-returns-2
 returns-2 c = ?
 
