@@ -99,3 +99,21 @@ module _ (s : GraphDivision) (c : Cursor) (t log : List ℕ) (p : ProperWords (s
     begin-is =
         ended (y .progress .judgement)
         ∙ (λ i. endedBy s c t log (last i .words) (last i .left) (last i .progress) (last i .progress .judgement) t (through i .table) (through i .list) list)
+
+-- the whole, from what each call of `begin` ensures
+module _ (s : GraphDivision) (c : Cursor) (t log list : List ℕ) (ends : List (List ℕ)) (entry handed words proposals : List ℕ) where
+  pub begin-by : (w : Way) (y : Ending) (z : Called) →
+      initializeRefusal (s .plan) (s .edges .ends) (s .noted) t (length list) log c (s .initialized) ≡ 0 →
+      ends ≡ s .edges .ends → entry ≡ savedTable t → handed ≡ replicate 8704 0 → words ≡ replicate 8704 0 → proposals ≡ replicate 8704 0 →
+      w ≡ notifiedAll (s .plan) ends entry log (c .used) (way (progress Fine 0 (s .«last_len») 0) (s .noted) t handed words proposals (s .last)) →
+      y ≡ lastPass (s .plan) ends (w .noted) (w .progress) (w .words) (w .proposals) (w .left) →
+      z ≡ endedBy s c entry log (y .words) (y .left) (y .progress) (y .progress .judgement) (restoredTable entry (w .table)) (w .table) (w .list) list →
+      z ≡ begun s c t log list
+  unfolding entering
+  begin-by w y z r g q a b d e f k =
+      k
+      ∙ (ap (λ (u : List ℕ). endedBy s c u log (y .words) (y .left) (y .progress) (y .progress .judgement) (restoredTable u (w .table)) (w .table) (w .list) list) q
+      ∙ begin-is s c t log (proper-of (s .plan) (s .edges .ends) (s .noted) t (length list) log c (s .initialized) r) w y
+      (e ∙ (λ i. notifiedAll (s .plan) (g i) (q i) log (c .used) (way (progress Fine 0 (s .«last_len») 0) (s .noted) t (a i) (b i) (d i) (s .last))))
+      (f ∙ ap (λ (es : List (List ℕ)). lastPass (s .plan) es (w .noted) (w .progress) (w .words) (w .proposals) (w .left)) g)
+      list)

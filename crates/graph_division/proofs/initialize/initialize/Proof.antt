@@ -1,56 +1,54 @@
+use mathlib.Core.Path.{_≡_, refl, sym, ap, ap₂, _∙_}
+use mathlib.Core.List.{List}
+use Prim.Native.Nat.{ℕ}
+use borrow.Author.Tests.{eq-eqb, ne-eqb}
+use lib.ListN.{length}
+use Rattle.base.proofs.Loop.{pick-yes, pick-no}
+use Rattle.refusals.specs.Refusals.{initializeRefusal}
+use Rattle.graph_division.specs.declared.Outcome.{Outcome}
+use Rattle.graph_division.specs.Calls.{called, refuse}
+use Rattle.graph_division.specs.Initialize.{initialized}
 use borrow.Author.Needs.{needs}
 use Rattle.graph_division.proofs.initialize.initialize.Statement.{statement}
 use Rattle.graph_division.proofs.initialize.initialize.Tie as tie
-use Rattle.graph_division.proofs.initialize.initialize.Reads as reads
-use Rattle.graph_division.proofs.initialize.initialize.Lts as lts
-use Rattle.edge_table.proofs.table_of.Reads as table-of-reads
-use Rattle.graph_division.proofs.accept.refuse.Reads as refuse-reads
-use Rattle.graph_division.proofs.initialize.begin.Reads as begin-reads
-use Rattle.refusals.proofs.initialize_refusal.Reads as initialize-refusal-reads
 
--- src/initialize.rt:276:17
 table-of-requires : tie.Need-table-of-requires
 table-of-requires c κs = search needs
 
--- src/initialize.rt:278:9
 initialize-refusal-requires : tie.Need-initialize-refusal-requires
 initialize-refusal-requires c κs = search needs
 
--- src/initialize.rt:289:9
 begin-requires : tie.Need-begin-requires
-begin-requires c κs = ?
+begin-requires c κs = sym ((c .before .before .before .before .initialize-refusal .ensures) ∙ ap (λ (es : List (List ℕ)). initializeRefusal (c .before .before .before .before .before .before .before .before .before .before .before .before .before .before .before .before .args .t1 .plan) es (c .before .before .before .before .before .before .before .before .before .before .before .before .before .before .before .before .args .t1 .noted) (c .before .before .before .before .before .before .before .before .before .before .before .before .before .before .before .before .args .table .now) (length (c .before .before .before .before .before .before .before .before .before .before .before .before .before .before .before .before .args .list .now)) (c .before .before .before .before .before .before .before .before .before .before .before .before .before .before .before .before .args .log .now) (c .before .before .before .before .before .before .before .before .before .before .before .before .before .before .before .before .args .cursor) (c .before .before .before .before .before .before .before .before .before .before .before .before .before .before .before .before .args .t1 .initialized)) (c .before .before .before .before .before .before .before .before .before .before .before .table-of .ensures)) ∙ (c .before .before .before .if1 .taken)
 
--- src/initialize.rt:289:9
 same-length : tie.Need-same-length
 same-length c = search needs
 
--- src/initialize.rt:289:9
 same-length-2 : tie.Need-same-length-2
 same-length-2 c = search needs
 
--- src/initialize.rt:289:9
 same-length-3 : tie.Need-same-length-3
 same-length-3 c = search needs
 
--- src/initialize.rt:289:9
 returns : tie.Need-returns
-returns c = ?
+unfolding initialized
+returns c = (c .before .before .before .before .before .before .begin .ensures) ∙ sym (pick-yes _ _ (eq-eqb _ _ (sym ((c .before .before .before .before .before .before .before .before .before .before .before .initialize-refusal .ensures) ∙ ap (λ (es : List (List ℕ)). initializeRefusal (c .before .before .before .before .before .before .before .before .before .before .before .before .before .before .before .before .before .before .before .before .before .before .before .args .t1 .plan) es (c .before .before .before .before .before .before .before .before .before .before .before .before .before .before .before .before .before .before .before .before .before .before .before .args .t1 .noted) (c .before .before .before .before .before .before .before .before .before .before .before .before .before .before .before .before .before .before .before .before .before .before .before .args .table .now) (length (c .before .before .before .before .before .before .before .before .before .before .before .before .before .before .before .before .before .before .before .before .before .before .before .args .list .now)) (c .before .before .before .before .before .before .before .before .before .before .before .before .before .before .before .before .before .before .before .before .before .before .before .args .log .now) (c .before .before .before .before .before .before .before .before .before .before .before .before .before .before .before .before .before .before .before .before .before .before .before .args .cursor) (c .before .before .before .before .before .before .before .before .before .before .before .before .before .before .before .before .before .before .before .before .before .before .before .args .t1 .initialized)) (c .before .before .before .before .before .before .before .before .before .before .before .before .before .before .before .before .before .before .table-of .ensures)) ∙ (c .before .before .before .before .before .before .before .before .before .before .if1 .taken))))
 
--- src/initialize.rt:291:5
 refuse-requires : tie.Need-refuse-requires
 refuse-requires c κs = search needs
 
--- src/initialize.rt:266:1
 same-length-4 : tie.Need-same-length-4
 same-length-4 c = search needs
 
--- src/initialize.rt:266:1
 same-length-5 : tie.Need-same-length-5
 same-length-5 c = search needs
 
--- src/initialize.rt:266:1
 returns-2 : tie.Need-returns-2
-returns-2 c = ?
+unfolding initialized
+returns-2 c =
+    let e = ((c .before .before .initialize-refusal .ensures) ∙ ap (λ (es : List (List ℕ)). initializeRefusal (c .before .before .before .before .before .before .before .before .before .before .before .before .before .before .args .t1 .plan) es (c .before .before .before .before .before .before .before .before .before .before .before .before .before .before .args .t1 .noted) (c .before .before .before .before .before .before .before .before .before .before .before .before .before .before .args .table .now) (length (c .before .before .before .before .before .before .before .before .before .before .before .before .before .before .args .list .now)) (c .before .before .before .before .before .before .before .before .before .before .before .before .before .before .args .log .now) (c .before .before .before .before .before .before .before .before .before .before .before .before .before .before .args .cursor) (c .before .before .before .before .before .before .before .before .before .before .before .before .before .before .args .t1 .initialized)) (c .before .before .before .before .before .before .before .before .before .table-of .ensures)) in
+    ap (λ (o : Outcome). called o (c .before .before .before .before .before .before .before .before .before .before .before .before .before .before .args .table .now) (c .before .before .before .before .before .before .before .before .before .before .before .before .before .before .args .list .now) (c .before .before .before .before .before .before .before .before .before .before .before .before .before .before .args .log .now)) ((c .refuse .ensures) ∙ ap (λ (k : ℕ). refuse k (c .before .before .before .before .before .before .before .before .before .before .before .before .before .before .args .t1) (c .before .before .before .before .before .before .before .before .before .before .before .before .before .before .args .cursor)) e)
+    ∙ sym (pick-no _ _ (ne-eqb _ _ (λ z. (c .before .if1 .left) (e ∙ z))))
 
 pub initialize-spec : {M : Type 1} → statement M
 initialize-spec =
