@@ -23,7 +23,7 @@ unfoldable pub litAt : List ℕ → ℕ → ℕ
 litAt ws p = uniqueLitAt ws p % 65536
 
 -- the words noted with literal l, tried out with no log
-unfoldable pub triedOut : List ℕ → ℕ → List ℕ → List ℕ
+abbrev pub triedOut : List ℕ → ℕ → List ℕ → List ℕ
 triedOut ws l noted = note ws l (noting noted (0 ∷ []) (record { used = 0; standing = 0 })) .noted
 
 -- the reasons recorded by several analyses, two words for each place: the newest stays

@@ -1,6 +1,5 @@
 use mathlib.Core.Path.{_≡_, refl, sym, ap, ap₂, _∙_}
 use Rattle.noting.specs.Note.{Noting}
-use Rattle.notifications.specs.Notifications.{triedOut}
 use borrow.Author.Needs.{needs}
 use Rattle.notifications.proofs.try_out.Statement.{statement}
 use Rattle.notifications.proofs.try_out.Tie as tie
@@ -12,7 +11,6 @@ note-requires : tie.Need-note-requires
 note-requires c κs = search needs
 
 returns : tie.Need-returns
-unfolding triedOut
 returns c = ap (λ (x : Noting). x .noted) (c .before .note .ensures)
 
 pub try-out-spec : {M : Type 1} → statement M
