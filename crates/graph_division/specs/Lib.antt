@@ -2,3 +2,5 @@ pub mod New
 pub mod Answers
 pub mod Calls
 pub mod Initialize
+pub mod Runs
+pub mod Outcomes
