@@ -16,12 +16,13 @@ use Rattle.noting.specs.Buffers.{tableBad, listShort, reasonShort}
 use Rattle.refusals.specs.Refusals.{litNumber, literalRefusal, stateBad, tableStateBad, initializeRefusal, propagateRefusal, undoRefusal, fetchRefusal}
 use Rattle.judge.specs.declared.Judgement.{Judgement}
 use Rattle.judge.specs.declared.Judgement.the-variants.{Fine, Clash, Stopped}
-use Rattle.judge.specs.Judge.{Judged, judgeWords}
+use Rattle.judge.specs.Judge.{Judged}
+use Rattle.notifications.specs.declared.Progress.{Progress}
 use Rattle.graph_division.specs.declared.Outcome.{Outcome}
 use Rattle.graph_division.specs.declared.Answer.{Answer}
 use Rattle.graph_division.specs.declared.Answer.the-variants.{Consistent, Conflict, Noted, Undone, Reason, Refused}
 use Rattle.graph_division.specs.Calls.{Called, called, refuse, adding, accepting, handingOn, settledBy, settled, propagated, undone, Fetched, fetched, copied, reasonGiven, isNone, listFor, recordedFor, giving, reasonFetched, lastFetched}
-use Rattle.graph_division.specs.Initialize.{taking, takenOver, finished, begunBy, begun, initialized}
+use Rattle.graph_division.specs.Initialize.{taking, takenOver, endedBy, begun, initialized}
 use Rattle.graph_division.specs.Runs.{Request, initialize, propagate, undo, calcReason, calcLast, tableOf, listOf, tailOf, Kept, logFor, Reply, replied, repliedCalled, repliedFetched, reply}
 use Rattle.claims.specs.Conditions.{turnedAwayWith}
 
@@ -66,11 +67,11 @@ module _ (k : Kept) (q : Request) where
   by-fetch log false x y g h = h
 
 module _ (k : Kept) where
-  begun-unchanged : (t list tail : List ℕ) (j : Judgement) → Unchanged k (initialize t list tail) (repliedCalled (begunBy (k .state) (k .cursor) t (logFor k tail) j list))
-  unfolding begunBy taking takenOver repliedCalled replied turnedAwayWith tableOf listOf tailOf kindOf
-  begun-unchanged t list tail Fine = other k (initialize t list tail) _ (Consistent _) refl (λ e. omega arith)
-  begun-unchanged t list tail (Clash n) = other k (initialize t list tail) _ Conflict refl (λ e. omega arith)
-  begun-unchanged t list tail (Stopped n) = away k (initialize t list tail) n _ refl
+  ended-unchanged : (t list tail words left : List ℕ) (x : Progress) (j : Judgement) (u m : List ℕ) → Unchanged k (initialize t list tail) (repliedCalled (endedBy (k .state) (k .cursor) t (logFor k tail) words left x j t u m list))
+  unfolding endedBy taking takenOver repliedCalled replied turnedAwayWith tableOf listOf tailOf kindOf
+  ended-unchanged t list tail words left x Fine u m = other k (initialize t list tail) _ (Consistent _) refl (λ e. omega arith)
+  ended-unchanged t list tail words left x (Clash n) u m = other k (initialize t list tail) _ Conflict refl (λ e. omega arith)
+  ended-unchanged t list tail words left x (Stopped n) u m = away k (initialize t list tail) n _ refl
 
   settled-unchanged : (lit pending : ℤ) (t list tail : List ℕ) (l : ℕ) (x : Judged) (j : Judgement) → Unchanged k (propagate lit pending t list tail) (repliedCalled (settledBy (k .state) (k .cursor) l x j t list (logFor k tail)))
   unfolding settledBy handingOn accepting repliedCalled replied turnedAwayWith tableOf listOf tailOf kindOf
@@ -86,7 +87,7 @@ module _ (k : Kept) where
   -- a call that is refused leaves the state, the cursor and all that it was lent
   refused-initialize : (t list tail : List ℕ) → Unchanged k (initialize t list tail) (reply k (initialize t list tail))
   unfolding reply initialized begun turnedAwayWith tableOf listOf tailOf repliedCalled
-  refused-initialize t list tail = by-test k (initialize t list tail) _ _ _ (begun-unchanged t list tail (finished (k .state) (k .cursor) t (logFor k tail) .progress .judgement)) (away k (initialize t list tail) _ _ refl)
+  refused-initialize t list tail = by-test k (initialize t list tail) _ _ _ (ended-unchanged t list tail _ _ _ _ _ _) (away k (initialize t list tail) _ _ refl)
 
   refused-propagate : (lit pending : ℤ) (t list tail : List ℕ) → Unchanged k (propagate lit pending t list tail) (reply k (propagate lit pending t list tail))
   unfolding reply propagated settled adding turnedAwayWith tableOf listOf tailOf repliedCalled replied kindOf
