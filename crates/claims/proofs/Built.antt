@@ -11,8 +11,8 @@ use Rattle.builder.proofs.Built.{new-proper}
 use Rattle.calls.specs.Calls as calls
 use Rattle.graph_division.specs.New.{built}
 use Rattle.graph_division.specs.Runs.{Kept}
-use Rattle.graph_division.proofs.Represents.{planIn}
-use Rattle.graph_division.proofs.Running.{fresh, fresh-represents}
+use Rattle.simulation.proofs.Represents.{planIn}
+use Rattle.simulation.proofs.Running.{fresh, fresh-represents}
 use Rattle.claims.specs.Conditions.{Condition1, Condition2, Condition3}
 use Rattle.claims.proofs.Replying.{At}
 use Rattle.claims.proofs.Lists as lists

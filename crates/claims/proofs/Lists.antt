@@ -38,9 +38,9 @@ use Rattle.graph_division.specs.declared.Answer.the-variants.{Consistent, Confl
 use Rattle.graph_division.specs.Runs.{Request, initialize, propagate, undo, calcReason, calcLast, tableOf, roomFor, Kept, logFor, Reply, reply, keeping, after, callOf, callsOf}
 use Rattle.claims.specs.Conditions.{accepted, isConsistent, counts, counted, HandsOn, Quiet, aReason, aLast, turnedAway, AllQuiet, done, next, fetchedBy, Condition1, Condition2, Condition3}
 use Rattle.graph_division.specs.Outcomes.{answerOf}
-use Rattle.graph_division.proofs.Represents.{planIn}
-use Rattle.graph_division.proofs.Fetching.{listIn}
-use Rattle.graph_division.proofs.Running.{RepresentsKept, valuesFor, Replies}
+use Rattle.simulation.proofs.Represents.{planIn}
+use Rattle.simulation.proofs.Fetching.{listIn}
+use Rattle.simulation.proofs.Running.{RepresentsKept, valuesFor, Replies}
 use Rattle.claims.proofs.Refusing.{refused-unchanged}
 use Rattle.claims.proofs.Replying.{consistent-many, conflict-back, reason-back, refused-is, accepted-is, consistent-is, At, reply-at, next-at, after-at}
 

@@ -16,9 +16,9 @@ use Rattle.graph_division.specs.declared.Answer.the-variants.{Consistent, Confl
 use Rattle.graph_division.specs.Runs.{Request, Kept, Reply, reply, keeping, after, callOf, callsOf}
 use Rattle.claims.specs.Conditions.{accepted, isConsistent}
 use Rattle.graph_division.specs.Outcomes.{answerFor, answerOf}
-use Rattle.graph_division.proofs.Represents.{planIn}
-use Rattle.graph_division.proofs.Fetching.{listIn}
-use Rattle.graph_division.proofs.Running.{RepresentsKept, Replies, reply-is, Leads, after-leads}
+use Rattle.simulation.proofs.Represents.{planIn}
+use Rattle.simulation.proofs.Fetching.{listIn}
+use Rattle.simulation.proofs.Running.{RepresentsKept, Replies, reply-is, Leads, after-leads}
 
 -- ---- answers
 unfoldable kindOf : Answer → ℕ

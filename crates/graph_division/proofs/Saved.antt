@@ -27,7 +27,11 @@ use Rattle.judge.specs.Judge.{Judged, judgeWords}
 use Rattle.notifications.specs.declared.Progress.{Progress}
 use Rattle.notifications.specs.Notifications.{litAt, Way, isFine, stopping, fineBy, joinedBy, isDue, joined, notified, notifiedAt, notifiedAll, Ending, onceMoreBy, onceMore, lastPass}
 use Rattle.graph_division.specs.Initialize.{savedTable, restoredTable, notedAt, notedUpTo}
-use Rattle.graph_division.proofs.Looked.{tab-length}
+
+pub tab-length : (f : ℕ → ℕ) (n : ℕ) → length (tab f n) ≡ n
+unfolding tab
+tab-length f zero = refl
+tab-length f (suc n) = ap suc (tab-length (λ i. f (suc i)) n)
 
 -- ---- the copy
 -- a list whose first entries are stored anew, as far as it goes

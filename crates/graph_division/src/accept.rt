@@ -25,10 +25,10 @@ pub(crate) fn add(s: GraphDivision, log: &mut [u64], cursor: Cursor, lit: u16) -
     ensures { λ r. ⌜ called r [] [] (now (log .exit)) ≡ adding s cursor lit [] [] (now (log .entry)) ⌝ }
 {
     let mut noted = s.noted;
-    let c = note(&s.plan, &mut noted, log, cursor, lit);
+    let moved = note(&s.plan, &mut noted, log, cursor, lit);
     Outcome {
         state: GraphDivision { noted: noted, ..s },
-        cursor: c,
+        cursor: moved,
         answer: Answer::Noted,
     }
 }

@@ -30,14 +30,14 @@ use Rattle.refusals.specs.Refusals.{litNumber, propagateRefusal}
 use Rattle.refusals.specs.Calls.{litGiven, tableRoom, refusedOr}
 use Rattle.refusals.proofs.Accepted.{propagate-accepted}
 use Rattle.refusals.proofs.Calls.{propagate-call}
 use Rattle.graph_division.specs.declared.GraphDivision.{GraphDivision}
 use Rattle.graph_division.specs.declared.Answer.the-variants as answer
 use Rattle.graph_division.specs.Calls.{withNoted, withJudged, notedIn, adding, accepting, handingOn, settledBy, settled, propagated}
 use Rattle.graph_division.specs.Outcomes.{answerFor, answerOf}
-use Rattle.graph_division.proofs.Represents.{planIn, Represents, SimulatesCalled, noted-represents, called-by, refused-called}
-use Rattle.graph_division.proofs.Noted.{tried-out-is}
-use Rattle.graph_division.proofs.Looked.{clash-still, unset-most, looked-count, offered-listed}
-use Rattle.graph_division.proofs.Notifying.{judgedIn, Analyzed, analyzed}
+use Rattle.simulation.proofs.Represents.{planIn, Represents, SimulatesCalled, noted-represents, called-by, refused-called}
+use Rattle.simulation.proofs.Noted.{tried-out-is}
+use Rattle.simulation.proofs.Looked.{clash-still, unset-most, looked-count, offered-listed}
+use Rattle.simulation.proofs.Notifying.{judgedIn, Analyzed, analyzed}
 
 module _ (s : GraphDivision) (log : List ℕ) (c : Cursor) (w : World) (r : Represents s log c w) (lit : ℤ) (t list : List ℕ) where
   abbrev ws : List ℕ

@@ -32,22 +32,22 @@ use Rattle.calls.specs.Calls.{World}
 use Rattle.calls.proofs.Marks.{call-marked}
 use Rattle.refusals.specs.Refusals.{stateBad, tableStateBad, initializeRefusal, propagateRefusal, undoRefusal, fetchRefusal}
 use Rattle.refusals.specs.Calls.{litGiven}
 use Rattle.graph_division.specs.declared.GraphDivision.{GraphDivision}
 use Rattle.graph_division.specs.declared.Outcome.{Outcome}
 use Rattle.graph_division.specs.declared.Built.{Built}
 use Rattle.graph_division.specs.declared.Answer.the-variants as answer
 use Rattle.graph_division.specs.New.{built}
 use Rattle.graph_division.specs.Calls.{Called, called, refuse, propagated, undone, Fetched, fetched, lastFetched, reasonFetched}
 use Rattle.graph_division.specs.Initialize.{initialized}
 use Rattle.graph_division.specs.Runs.{Request, initialize, propagate, undo, calcReason, calcLast, tableOf, listOf, Kept, kept, logFor, Reply, replied, repliedCalled, repliedFetched, reply, keeping, after, roomFor, callOf, callsOf}
 use Rattle.graph_division.specs.Outcomes.{answerFor, answerOf}
-use Rattle.graph_division.proofs.Represents.{planIn, Represents, Simulates, SimulatesCalled}
-use Rattle.graph_division.proofs.Rooms.{state-room, table-room, fetch-room}
-use Rattle.graph_division.proofs.Undoing.{undo-simulated}
-use Rattle.graph_division.proofs.Propagating.{propagate-simulated}
-use Rattle.graph_division.proofs.Starting.{initialize-simulated}
-use Rattle.graph_division.proofs.Fetching.{listIn, SimulatesFetched, last-simulated, reason-simulated}
-use Rattle.graph_division.proofs.Building.{new-represents}
+use Rattle.simulation.proofs.Represents.{planIn, Represents, Simulates, SimulatesCalled}
+use Rattle.simulation.proofs.Rooms.{state-room, table-room, fetch-room}
+use Rattle.simulation.proofs.Undoing.{undo-simulated}
+use Rattle.simulation.proofs.Propagating.{propagate-simulated}
+use Rattle.simulation.proofs.Starting.{initialize-simulated}
+use Rattle.simulation.proofs.Fetching.{listIn, SimulatesFetched, last-simulated, reason-simulated}
+use Rattle.simulation.proofs.Building.{new-represents}
 
 or-true : (b : Bool) → (b || true) ≡ true
 or-true true = refl

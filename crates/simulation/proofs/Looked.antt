@@ -64,11 +64,6 @@ tab-take zero l h = refl
 tab-take (suc n) [] h = absurd (omega arith)
 tab-take (suc n) (x ∷ xs) h = ap (λ (r : List ℕ). x ∷ r) (tab-take n xs (omega arith))
 
-pub tab-length : (f : ℕ → ℕ) (n : ℕ) → length (tab f n) ≡ n
-unfolding tab
-tab-length f zero = refl
-tab-length f (suc n) = ap suc (tab-length (λ i. f (suc i)) n)
-
 -- a list that stands whole at the start of another is no longer
 pub taken-short : (m l : List ℕ) → take (length m) l ≡ m → length m ≤ length l
 taken-short m l e = let f : length m ≡ min (length m) (length l) = ap length (sym e) ∙ length-take (length m) l in omega arith

@@ -47,12 +47,13 @@ use Rattle.refusals.specs.Refusals.{litNumber, literalRefusal, fetchRefusal}
 use Rattle.refusals.specs.Calls.{litGiven, fetchRoom, refusedOr}
 use Rattle.refusals.proofs.Accepted.{KnownLit, literal-accepted, fetch-accepted}
 use Rattle.refusals.proofs.Calls.{last-call, reason-call}
 use Rattle.graph_division.specs.declared.GraphDivision.{GraphDivision}
 use Rattle.graph_division.specs.declared.Answer.the-variants as answer
 use Rattle.graph_division.specs.Calls.{Fetched, fetched, copied, reasonGiven, isNone, lastFetched, recordedFor, listFor, giving, reasonFetched}
 use Rattle.graph_division.specs.Outcomes.{answerFor, answerOf}
-use Rattle.graph_division.proofs.Represents.{planIn, Represents}
-use Rattle.graph_division.proofs.Looked.{tab-take, tab-length}
+use Rattle.simulation.proofs.Represents.{planIn, Represents}
+use Rattle.graph_division.proofs.Saved.{tab-length}
+use Rattle.simulation.proofs.Looked.{tab-take}
 
 -- the list of an answer
 unfoldable pub listIn : calls.Answer → List ℕ

@@ -57,19 +57,19 @@ use Rattle.refusals.proofs.Entered.{entered-is}
 use Rattle.refusals.proofs.Standing.{taken-is}
 use Rattle.refusals.proofs.Known.{known-place, place-knows}
 use Rattle.refusals.proofs.Tables.{table-len-is}
 use Rattle.graph_division.specs.declared.GraphDivision.{GraphDivision}
 use Rattle.graph_division.specs.declared.Answer.{Answer}
 use Rattle.graph_division.specs.declared.Answer.the-variants as answer
 use Rattle.graph_division.specs.Calls.{Called, called, refuse}
 use Rattle.graph_division.specs.Initialize.{notedAt, notedUpTo, takenOver, entering, goneThrough, finished, taking, endedBy, begun, initialized}
 use Rattle.graph_division.specs.Outcomes.{answerFor, answerOf}
-use Rattle.graph_division.proofs.Represents.{planIn, Represents, SimulatesCalled, called-by, refused-called}
-use Rattle.graph_division.proofs.Noted.{note-noted}
-use Rattle.graph_division.proofs.Notifying.{changed, judgedIn, Analyzed, analyzed}
-use Rattle.graph_division.proofs.LastPass.{lastFrom, unset-looked}
-use Rattle.graph_division.proofs.Entered.{entered-iter}
-use Rattle.graph_division.proofs.Merging.{merged-length, recorded-merged, recorded-none}
-use Rattle.graph_division.proofs.Looked.{clash-still, tab-take, Listed, unset, unset-most, looked-count, offered-listed}
+use Rattle.simulation.proofs.Represents.{planIn, Represents, SimulatesCalled, called-by, refused-called}
+use Rattle.simulation.proofs.Noted.{note-noted}
+use Rattle.simulation.proofs.Notifying.{changed, judgedIn, Analyzed, analyzed}
+use Rattle.simulation.proofs.LastPass.{lastFrom, unset-looked}
+use Rattle.simulation.proofs.Entered.{entered-iter}
+use Rattle.simulation.proofs.Merging.{merged-length, recorded-merged, recorded-none}
+use Rattle.simulation.proofs.Looked.{clash-still, tab-take, Listed, unset, unset-most, looked-count, offered-listed}
 
 -- two lists stored one after the other
 sets-after : (l a b : List ℕ) (n : ℕ) → sets (sets l n a) (n + length a) b ≡ sets l n (a ++ b)

@@ -35,10 +35,10 @@ use Rattle.calls.specs.Look.{Looked, looked}
 use Rattle.calls.specs.Calls.{World}
 use Rattle.calls.proofs.View.{saw}
 use Rattle.calls.proofs.Fetchable.{each-map, each-append}
 use Rattle.graph_division.specs.declared.GraphDivision.{GraphDivision}
-use Rattle.graph_division.proofs.Represents.{planIn, Represents}
-use Rattle.graph_division.proofs.Recording.{recorded-length, recorded-newest}
-use Rattle.graph_division.proofs.Looked.{fine-left, tab-take, taken-short}
+use Rattle.simulation.proofs.Represents.{planIn, Represents}
+use Rattle.simulation.proofs.Recording.{recorded-length, recorded-newest}
+use Rattle.simulation.proofs.Looked.{fine-left, tab-take, taken-short}
 
 -- the state with all that a notification changes
 abbrev pub changed : GraphDivision → List ℕ → Reasons → List ℕ → ℕ → Bool → GraphDivision
