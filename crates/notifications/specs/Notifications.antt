@@ -6,7 +6,6 @@ use mathlib.Core.List.{List, [], _∷_}
 use Prim.Native.Nat.{ℕ, _+_, _*_, _/_, _%_}
 use lib.ListN.{getD, set}
 use Rattle.base.specs.Iter.{iter, pick}
-use Rattle.undo_log.specs.declared.Cursor.{Cursor}
 use Rattle.plan.specs.Words.{variablesOf, uniqueLitAt}
 use Rattle.noting.specs.Note.{noting, note}
 use Rattle.noting.specs.Undo.{recordsOf}
