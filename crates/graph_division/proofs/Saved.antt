@@ -1,5 +1,5 @@
 -- `initialize` reads which literals are true in a copy of the table's first 4096 entries, all that its literals have, and restores the table from it.
-use mathlib.Core.Path.{_≡_, refl, sym, ap, ap₂, _∙_}
+use mathlib.Core.Path.{_≡_, refl, sym, ap, _∙_}
 use mathlib.Core.Logic.{inr, ⊎-elim}
 use mathlib.Core.Bool.{Bool, true, false, _&&_}
 use mathlib.Core.List.{List}
@@ -23,9 +23,9 @@ use Rattle.calls.specs.Table.{codeOf, coded, trueIn, enter}
 use Rattle.sweep.specs.Sweep.{Handed, handing, handed, handedAt, handedOn}
 use Rattle.judge.specs.declared.Judgement.{Judgement}
 use Rattle.judge.specs.declared.Judgement.the-variants.{Fine, Clash, Stopped}
-use Rattle.judge.specs.Judge.{Judged, judgeWords}
+use Rattle.judge.specs.Judge.{Judged}
 use Rattle.notifications.specs.declared.Progress.{Progress}
-use Rattle.notifications.specs.Notifications.{litAt, Way, isFine, stopping, fineBy, joinedBy, isDue, joined, notified, notifiedAt, notifiedAll, Ending, onceMoreBy, onceMore, lastPass}
+use Rattle.notifications.specs.Notifications.{litAt, Way, isFine, stopping, fineBy, joinedBy, isDue, joined, notified, notifiedAt, notifiedAll, Ending, onceMoreBy, onceMore, lastPass, ended, goneThrough}
 use Rattle.graph_division.specs.Initialize.{savedTable, restoredTable, notedAt, notedUpTo}
 
 pub tab-length : (f : ℕ → ℕ) (n : ℕ) → length (tab f n) ≡ n
@@ -45,10 +45,6 @@ module _ (f : ℕ → ℕ) (l : List ℕ) where
       ap (λ (j : ℕ). getD (set (filled 0 n f l) (0 + n) (f n)) j 0) k ∙ getD-set-same (filled 0 n f l) (0 + n) (f n) 0 (omega (arith, filled-length 0 f l n)) ∙ ap f (sym e))
       (λ (k : i < n). getD-set-other (filled 0 n f l) (0 + n) i (f n) 0 (λ (e : i ≡ 0 + n). omega arith) ∙ stored-at n i k r)
       (eq-or-lt-of-le {n = i} {m = n} (omega arith))
-
-pub saved-length : (t : List ℕ) → length (savedTable t) ≡ 4096
-unfolding savedTable
-saved-length t = tab-length (λ i. getD t i 0) 4096
 
 pub saved-tab : (t : List ℕ) → filled 0 4096 (λ i. getD t i 0) (replicate 4096 0) ≡ savedTable t
 unfolding savedTable
@@ -108,7 +104,7 @@ module _ (ws : List ℕ) (ends : List (List ℕ)) (p : ProperWords ws ends) (t :
   unfolding notedUpTo notedAt
   noted-saved past x h = iter-same _ _ past x (λ i y k. ap (λ (b : Bool). pick b (note ws (litAt ws i) y) y) (true-saved t (uniqueLitAt ws i) (small i (omega arith))))
 
-  pub notified-saved : (log : List ℕ) (used : ℕ) (w : Way) → notifiedAll ws ends (savedTable t) log used w ≡ notifiedAll ws ends t log used w
+  notified-saved : (log : List ℕ) (used : ℕ) (w : Way) → notifiedAll ws ends (savedTable t) log used w ≡ notifiedAll ws ends t log used w
   unfolding notifiedAll notifiedAt isDue
   notified-saved log used w = iter-same _ _ (2 * variablesOf ws) w
       (λ i (y : Way) k. ap (λ (b : Bool). pick (isFine (y .progress .judgement) && b) (notified ws ends log used i y) y) (true-saved t (uniqueLitAt ws i) (small i k)))
@@ -119,7 +115,7 @@ module _ (ws : List ℕ) (ends : List (List ℕ)) (p : ProperWords ws ends) (t :
       (λ i (y : Handed) k z. pick-ind (λ (x : Handed). Rest t (x .table)) _ _ _ (λ _. handed-rest t (uniqueLitAt ws i) y (small i k) z) (λ _. z))
 
   -- after n turns
-  abbrev Kept : ℕ → Way → Type 0
+  abbrev pub Kept : ℕ → Way → Type 0
   Kept n w = (w .progress .past ≤ n) × Rest t (w .table)
 
   joined-kept : (q : ℕ) (w : Way) (j : Judged) (k : Judgement) → Kept q w → Kept (suc q) (joinedBy ws (q + 1) w j k)
@@ -134,7 +130,7 @@ module _ (ws : List ℕ) (ends : List (List ℕ)) (p : ProperWords ws ends) (t :
       (λ _. pick-ind (Kept (suc q)) _ _ _ (λ _. (omega arith, r)) (λ _. joined-kept q _ _ _ (h, r)))
       (λ _. (omega arith, r))
 
-  pub all-kept : (log : List ℕ) (used : ℕ) (w : Way) → Kept 0 w → Kept (2 * variablesOf ws) (notifiedAll ws ends t log used w)
+  all-kept : (log : List ℕ) (used : ℕ) (w : Way) → Kept 0 w → Kept (2 * variablesOf ws) (notifiedAll ws ends t log used w)
   unfolding notifiedAll
   all-kept log used w k = iter-ind Kept (notifiedAt ws ends t log used) w (2 * variablesOf ws) k (λ i x _ z. turn-kept log used i x z)
 
@@ -146,6 +142,19 @@ module _ (ws : List ℕ) (ends : List (List ℕ)) (noted : List ℕ) (x : Progre
   once-past j (Clash n) = refl
   once-past j (Stopped n) = refl
 
-  pub last-past : lastPass ws ends noted x words proposals left .progress .past ≡ x .past
+  last-past : lastPass ws ends noted x words proposals left .progress .past ≡ x .past
   unfolding lastPass onceMore
   last-past = pick-ind (λ (y : Ending). y .progress .past ≡ x .past) _ _ _ (λ _. once-past _ _) (λ _. refl)
+
+-- ---- all
+module _ (ws : List ℕ) (ends : List (List ℕ)) (p : ProperWords ws ends) (t log : List ℕ) (used : ℕ) (w : Way) where
+  pub gone-saved : goneThrough ws ends (savedTable t) log used w ≡ goneThrough ws ends t log used w
+  unfolding goneThrough
+  gone-saved = ap (λ (v : Way). ended v (lastPass ws ends (v .noted) (v .progress) (v .words) (v .proposals) (v .left))) (notified-saved ws ends p t log used w)
+
+  pub gone-kept : Kept ws ends p t 0 w → Kept ws ends p t (2 * variablesOf ws) (goneThrough ws ends t log used w)
+  unfolding goneThrough ended
+  gone-kept k =
+      let v = notifiedAll ws ends t log used w in
+      let (h, r) = all-kept ws ends p t log used w k in
+      (omega (arith, last-past ws ends (v .noted) (v .progress) (v .words) (v .proposals) (v .left)), r)

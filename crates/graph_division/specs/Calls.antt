@@ -1,6 +1,6 @@
 -- The calls on the propagator's state, on any input. A call that is refused leaves the state, the cursor and all that it was lent.
 use mathlib.Core.Bool.{Bool, true, false}
-use mathlib.Core.List.{List, []}
+use mathlib.Core.List.{List}
 use Prim.Native.Nat.{ℕ, _/_}
 use lib.Dec.{eqb, ltb}
 use lib.IntN.{ℤ, pos}

@@ -16,7 +16,7 @@ use Rattle.refusals.specs.Refusals.{initializeRefusal}
 use Rattle.judge.specs.declared.Judgement.{Judgement}
 use Rattle.judge.specs.declared.Judgement.the-variants.{Fine, Clash, Stopped}
 use Rattle.notifications.specs.declared.Progress.{Progress}
-use Rattle.notifications.specs.Notifications.{litAt, progress, Way, way, Ending, notifiedAll, lastPass}
+use Rattle.notifications.specs.Notifications.{litAt, progress, Way, way, goneThrough}
 use Rattle.graph_division.specs.declared.GraphDivision.{GraphDivision}
 use Rattle.graph_division.specs.declared.Answer.{Answer}
 use Rattle.graph_division.specs.declared.Answer.the-variants as answer
@@ -69,16 +69,12 @@ module _ (s : GraphDivision) (c : Cursor) (t log : List ℕ) where
   unfoldable pub entering : Way
   entering = way (progress Fine 0 (s .«last_len») 0) (s .noted) t (replicate 8704 0) (replicate 8704 0) (replicate 8704 0) (s .last)
 
-  -- all are, up to a conflict or a refusal
-  unfoldable pub goneThrough : Way
-  goneThrough = notifiedAll (s .plan) (s .edges .ends) t log (c .used) entering
-
-  -- and then
-  unfoldable pub finished : Ending
-  finished = let w = goneThrough in lastPass (s .plan) (s .edges .ends) (w .noted) (w .progress) (w .words) (w .proposals) (w .left)
+  -- all are, up to a conflict or a refusal, and the last pass is made
+  unfoldable pub finished : Way
+  finished = goneThrough (s .plan) (s .edges .ends) t log (c .used) entering
 
   unfoldable pub begun : List ℕ → Called
-  begun list = let y = finished in endedBy s c t log (y .words) (y .left) (y .progress) (y .progress .judgement) t (goneThrough .table) (goneThrough .list) list
+  begun list = let w = finished in endedBy s c t log (w .words) (w .left) (w .progress) (w .progress .judgement) t (w .table) (w .list) list
 
   -- `initialize`
   unfoldable pub initialized : List ℕ → Called

@@ -7,9 +7,8 @@ use crate::calc_reason::copy;
 use crate::propagate::no_words;
 use judge::Judgement;
 use notifications::Progress;
-use notifications::last_pass;
+use notifications::go_through;
 use notifications::lit_at;
-use notifications::notify_all;
 use undo_log::Cursor;
 ghost use mathlib.Core.Path.{_≡_};
 ghost use mathlib.Core.List.{[]};
@@ -219,13 +218,7 @@ fn begin(
     let mut proposals = no_words();
     let mut left = s.last;
     let len = s.last_len;
-    let start = Progress {
-        judgement: Judgement::Fine,
-        handed: 0,
-        len: len,
-        past: 0,
-    };
-    let x = notify_all(
+    let x = go_through(
         &s.plan,
         edges,
         &entry,
@@ -237,16 +230,7 @@ fn begin(
         &mut words,
         &mut proposals,
         &mut left,
-        start,
-    );
-    let y = last_pass(
-        &s.plan,
-        edges,
-        &noted,
-        &mut words,
-        &mut proposals,
-        &mut left,
-        x,
+        len,
     );
     finish(
         s,
@@ -258,7 +242,7 @@ fn begin(
         &handed,
         &words,
         left,
-        y,
+        x,
     )
 }
 

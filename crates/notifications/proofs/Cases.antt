@@ -1,5 +1,5 @@
 -- The returns of the functions, by cases.
-use mathlib.Core.Path.{_≡_, refl, sym, ap, ap₂, _∙_}
+use mathlib.Core.Path.{_≡_, refl, sym, ap, _∙_}
 use mathlib.Core.Bool.{Bool, true, false, _&&_}
 use mathlib.Core.List.{List, [], _∷_}
 use Prim.Native.Nat.{ℕ, _+_, _*_, _/_}
@@ -10,12 +10,12 @@ use Rattle.plan.specs.Words.{uniqueLitAt}
 use Rattle.noting.specs.Undo.{recordsOf}
 use Rattle.noting.specs.Standing.{standing, hasVariable}
 use Rattle.calls.specs.Table.{trueIn}
-use Rattle.sweep.specs.Sweep.{Handed, handing, proposedAt, handedOn}
+use Rattle.sweep.specs.Sweep.{handing, proposedAt, handedOn}
 use Rattle.judge.specs.declared.Judgement.{Judgement}
 use Rattle.judge.specs.declared.Judgement.the-variants.{Fine, Clash, Stopped}
 use Rattle.judge.specs.Judge.{Judged, judgedOf, judgeWords}
 use Rattle.notifications.specs.declared.Progress.{Progress}
-use Rattle.notifications.specs.Notifications.{litAt, triedOut, mergedAt, merged, progress, Way, way, isFine, stopping, fineBy, joinedBy, isDue, joined, notified, notifiedAt, Ending, ending, onceMoreBy, onceMore, lastPass}
+use Rattle.notifications.specs.Notifications.{litAt, triedOut, mergedAt, merged, progress, Way, way, isFine, stopping, fineBy, joinedBy, isDue, joined, notified, notifiedAll, Ending, ending, onceMoreBy, onceMore, lastPass, ended, goneThrough}
 
 -- ---- what is recorded
 module _ (proposals words v w : List ℕ) (p x y : ℕ) where
@@ -102,3 +102,10 @@ module _ (ws : List ℕ) (ends : List (List ℕ)) (noted : List ℕ) (x : Progre
   pub last-stopped : (n : ℕ) → r ≡ Stopped n → ending (progress (Stopped n) (x .handed) (x .len) (x .past)) words p l ≡ onceMore ws ends noted x words proposals left
   unfolding onceMoreBy stopping
   last-stopped n f = by-last (Stopped n) f
+
+-- ---- all
+module _ (ws : List ℕ) (ends : List (List ℕ)) (t log : List ℕ) (used : ℕ) (w v : Way) (y : Ending) where
+  pub through-all : v ≡ notifiedAll ws ends t log used w → y ≡ lastPass ws ends (v .noted) (v .progress) (v .words) (v .proposals) (v .left) →
+      ended v y ≡ goneThrough ws ends t log used w
+  unfolding goneThrough
+  through-all e f = ap (ended v) f ∙ ap (λ (u : Way). ended u (lastPass ws ends (u .noted) (u .progress) (u .words) (u .proposals) (u .left))) e

@@ -6,7 +6,6 @@ use mathlib.Core.List.{List, [], _∷_}
 use Prim.Native.Nat.{ℕ, _+_, _*_, _/_, _%_}
 use lib.ListN.{getD, set}
 use Rattle.base.specs.Iter.{iter, pick}
-use Rattle.undo_log.specs.declared.Cursor.{Cursor}
 use Rattle.plan.specs.Words.{variablesOf, uniqueLitAt}
 use Rattle.noting.specs.Note.{noting, note}
 use Rattle.noting.specs.Undo.{recordsOf}
@@ -117,3 +116,13 @@ module _ (ws : List ℕ) (ends : List (List ℕ)) (noted : List ℕ) where
 
   unfoldable pub lastPass : Progress → List ℕ → List ℕ → List ℕ → Ending
   lastPass x words proposals left = pick (isFine (x .judgement)) (onceMore x words proposals left) (ending x words proposals left)
+
+-- with what the last pass changed
+unfoldable pub ended : Way → Ending → Way
+ended w y = way (y .progress) (w .noted) (w .table) (w .list) (y .words) (y .proposals) (y .left)
+
+-- all notifications, up to a conflict or a refusal, and then the last pass
+unfoldable pub goneThrough : List ℕ → List (List ℕ) → List ℕ → List ℕ → ℕ → Way → Way
+goneThrough ws ends t log used w =
+    let v = notifiedAll ws ends t log used w in
+    ended v (lastPass ws ends (v .noted) (v .progress) (v .words) (v .proposals) (v .left))

@@ -7,7 +7,8 @@ use judge::Judgement;
 use undo_log::Cursor;
 ghost use mathlib.Core.Path.{_≡_};
 ghost use Prim.Native.Nat.{_<_};
-ghost use Rattle.notifications.specs.Notifications.{litAt, triedOut, way, ending, isFine, isDue, joined, notified, notifiedAt, notifiedAll, onceMore, lastPass};
+ghost use Rattle.judge.specs.declared.Judgement.the-variants.{Fine};
+ghost use Rattle.notifications.specs.Notifications.{litAt, triedOut, way, ending, isFine, isDue, joined, notified, notifiedAt, notifiedAll, onceMore, lastPass, progress, goneThrough};
 
 // How far the notifications have come.
 pub struct Progress {
@@ -183,7 +184,7 @@ fn notify_at(
 }
 
 // In rising order the plan's literals that are true in the table on entry.
-pub fn notify_all(
+fn notify_all(
     plan: &[u32; 15241],
     edges: [[u8; 2]; 128],
     entry: &[u8],
@@ -258,7 +259,7 @@ fn analyze_once_more(
 }
 
 // The last pass, unless there was a conflict or a refusal before it.
-pub fn last_pass(
+fn last_pass(
     plan: &[u32; 15241],
     edges: [[u8; 2]; 128],
     noted: &[u32; 384],
@@ -274,4 +275,44 @@ pub fn last_pass(
         return analyze_once_more(plan, edges, noted, words, proposals, left, x);
     }
     x
+}
+
+// All notifications and the last pass, where the list last left has `len` entries.
+pub fn go_through(
+    plan: &[u32; 15241],
+    edges: [[u8; 2]; 128],
+    entry: &[u8],
+    log: &[u64],
+    used: usize,
+    noted: &mut [u32; 384],
+    table: &mut [u8],
+    list: &mut [u32],
+    words: &mut [u64],
+    proposals: &mut [u64],
+    left: &mut [u32],
+    len: usize,
+) -> Progress
+    ensures { λ r. ⌜ way r (now (noted .exit)) (now (table .exit)) (now (list .exit)) (now (words .exit)) (now (proposals .exit)) (now (left .exit)) ≡ goneThrough (now (plan .entry)) edges (now (entry .entry)) (now (log .entry)) used (way (progress Fine 0 len 0) (now (noted .entry)) (now (table .entry)) (now (list .entry)) (now (words .entry)) (now (proposals .entry)) (now (left .entry))) ⌝ }
+{
+    let start = Progress {
+        judgement: Judgement::Fine,
+        handed: 0,
+        len: len,
+        past: 0,
+    };
+    let x = notify_all(
+        plan,
+        edges,
+        entry,
+        log,
+        used,
+        noted,
+        table,
+        list,
+        words,
+        proposals,
+        left,
+        start,
+    );
+    last_pass(plan, edges, noted, words, proposals, left, x)
 }

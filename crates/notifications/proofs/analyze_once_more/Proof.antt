@@ -1,4 +1,3 @@
-use mathlib.Core.Path.{_≡_, refl, sym, ap, ap₂, _∙_}
 use Rattle.notifications.proofs.Cases.{last-fine, last-clash, last-stopped}
 use borrow.Author.Needs.{needs}
 use Rattle.notifications.proofs.analyze_once_more.Statement.{statement}

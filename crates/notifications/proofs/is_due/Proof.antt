@@ -1,6 +1,4 @@
-use mathlib.Core.Path.{_≡_, refl, sym, ap, ap₂, _∙_}
-use mathlib.Core.Bool.{Bool, true, false, _&&_}
-use Rattle.notifications.specs.Notifications.{isDue}
+use mathlib.Core.Path.{sym, _∙_}
 use Rattle.notifications.proofs.Cases.{due-yes, due-no}
 use borrow.Author.Needs.{needs}
 use Rattle.notifications.proofs.is_due.Statement.{statement}

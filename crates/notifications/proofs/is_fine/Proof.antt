@@ -1,4 +1,4 @@
-use mathlib.Core.Path.{_≡_, refl, sym, ap, ap₂, _∙_}
+use mathlib.Core.Path.{sym, ap}
 use Rattle.notifications.specs.Notifications.{isFine}
 use borrow.Author.Needs.{needs}
 use Rattle.notifications.proofs.is_fine.Statement.{statement}

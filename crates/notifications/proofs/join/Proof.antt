@@ -1,4 +1,3 @@
-use mathlib.Core.Path.{_≡_, refl, sym, ap, ap₂, _∙_}
 use Rattle.notifications.proofs.Cases.{join-fine, join-clash, join-stopped}
 use borrow.Author.Needs.{needs}
 use Rattle.notifications.proofs.join.Statement.{statement}

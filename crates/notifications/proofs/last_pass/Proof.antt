@@ -1,4 +1,4 @@
-use mathlib.Core.Path.{_≡_, refl, sym, ap, ap₂, _∙_}
+use mathlib.Core.Path.{sym, _∙_}
 use Rattle.base.proofs.Loop.{pick-yes, pick-no}
 use Rattle.notifications.specs.Notifications.{lastPass}
 use borrow.Author.Needs.{needs}

@@ -1,4 +1,4 @@
-use mathlib.Core.Path.{_≡_, refl, sym, ap, ap₂, _∙_}
+use mathlib.Core.Path.{ap}
 use Rattle.notifications.specs.Notifications.{litAt}
 use Prim.Native.Nat.{ℕ, _%_}
 use borrow.Author.Needs.{needs}

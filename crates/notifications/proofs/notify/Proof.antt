@@ -1,5 +1,4 @@
 use native.Mathlib.Omega.{arith}
-use mathlib.Core.Path.{_≡_, refl, sym, ap, ap₂, _∙_}
 use Rattle.notifications.proofs.Cases.{notify-stopped, notify-tried}
 use borrow.Author.Needs.{needs}
 use Rattle.notifications.proofs.notify.Statement.{statement}

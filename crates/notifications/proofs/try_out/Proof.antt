@@ -1,4 +1,4 @@
-use mathlib.Core.Path.{_≡_, refl, sym, ap, ap₂, _∙_}
+use mathlib.Core.Path.{ap}
 use Rattle.noting.specs.Note.{Noting}
 use borrow.Author.Needs.{needs}
 use Rattle.notifications.proofs.try_out.Statement.{statement}

@@ -1,6 +1,5 @@
-use mathlib.Core.Path.{_≡_, refl, sym, ap, ap₂, _∙_}
+use mathlib.Core.Path.{sym, ap}
 use lib.ListN.{set}
-use Prim.Native.Nat.{ℕ}
 use lib.Seq.{set-out}
 use borrow.Author.Needs.{needs}
 use Rattle.graph_division.proofs.initialize.restore_entry.Statement.{statement}

@@ -1,4 +1,3 @@
-use mathlib.Core.Path.{_≡_, refl, sym, ap, ap₂, _∙_}
 use mathlib.Core.List.{[]}
 use Rattle.graph_division.specs.Calls.{outcome, called}
 use Rattle.graph_division.specs.Initialize.{takenOver}

@@ -1,4 +1,4 @@
-use mathlib.Core.Path.{_≡_, refl, sym, ap, ap₂, _∙_}
+use mathlib.Core.Path.{sym, _∙_}
 use Rattle.notifications.proofs.Cases.{merge-at-yes}
 use Rattle.base.proofs.Loop.{pick-no}
 use Rattle.notifications.specs.Notifications.{mergedAt}
