@@ -39,6 +39,7 @@ use Rattle.judge.specs.declared.Judgement.{Judgement}
 use Rattle.judge.specs.declared.Judgement.the-variants.{Fine, Clash, Stopped}
 use Rattle.judge.proofs.Conflicts.{list-taken}
 use Rattle.judge.proofs.Known.{each-known}
+use Rattle.notifications.specs.Notifications as notifications
 use Rattle.notifications.specs.Notifications.{litAt, triedOut, merged, Way, way, progress, isFine, stopping, fineBy, joinedBy, isDue, joined, notified, notifiedAt, notifiedAll, Ending, ending, onceMoreBy, onceMore, lastPass}
 use Rattle.calls.specs.Table.{codeOf, coded, trueIn, entered}
 use Rattle.calls.specs.Look.{Looked, looked, offers}
@@ -61,7 +62,7 @@ use Rattle.graph_division.specs.declared.GraphDivision.{GraphDivision}
 use Rattle.graph_division.specs.declared.Answer.{Answer}
 use Rattle.graph_division.specs.declared.Answer.the-variants as answer
 use Rattle.graph_division.specs.Calls.{Called, called, refuse}
-use Rattle.graph_division.specs.Initialize.{notedAt, notedUpTo, takenOver, entering, goneThrough, finished, taking, endedBy, begun, initialized}
+use Rattle.graph_division.specs.Initialize.{notedAt, notedUpTo, takenOver, entering, finished, taking, endedBy, begun, initialized}
 use Rattle.graph_division.specs.Outcomes.{answerFor, answerOf}
 use Rattle.simulation.proofs.Represents.{planIn, Represents, SimulatesCalled, called-by, refused-called}
 use Rattle.simulation.proofs.Noted.{note-noted}
@@ -495,7 +496,7 @@ module _ (s : GraphDivision) (log : List ℕ) (c : Cursor) (w : World) (r : Repr
         ∙ entered-iter d (uniqueLitAt ws) (λ p. trueIn t (uniqueLitAt ws p)) places (calls.entry w t)
 
     begun-simulated : tableBad ws t ≡ false → SimulatesCalled s list (begun s c t log list) (calls.finishBy d w t gone (gone .judgement))
-    unfolding begun finished goneThrough notifiedAll
+    unfolding begun finished notifications.goneThrough notifications.ended notifiedAll
     begun-simulated good =
         called-by s list refl (ap (λ (a : calls.Going). calls.finishBy d w t a (a .judgement)) gone-is) (all-ended _ _ (same-all good places (omega arith)))
 
