@@ -2,10 +2,10 @@
 // builder accepts, every noted literal is one of its plan, and no literal is noted twice or together with its negation.
 use std::io::Write;
 
-struct Rng(u64);
+pub struct Rng(u64);
 
 impl Rng {
-    fn new(seed: u64) -> Rng {
+    pub fn new(seed: u64) -> Rng {
         let mut r = Rng(seed.wrapping_mul(0x9e3779b97f4a7c15) ^ 0x2545f4914f6cdd1d);
         for _ in 0..8 {
             r.next();
@@ -14,7 +14,7 @@ impl Rng {
     }
 
     // splitmix64
-    fn next(&mut self) -> u64 {
+    pub fn next(&mut self) -> u64 {
         self.0 = self.0.wrapping_add(0x9e3779b97f4a7c15);
         let mut z = self.0;
         z = (z ^ (z >> 30)).wrapping_mul(0xbf58476d1ce4e5b9);
@@ -22,11 +22,11 @@ impl Rng {
         z ^ (z >> 31)
     }
 
-    fn below(&mut self, n: usize) -> usize {
+    pub fn below(&mut self, n: usize) -> usize {
         (self.next() % n as u64) as usize
     }
 
-    fn chance(&mut self, percent: usize) -> bool {
+    pub fn chance(&mut self, percent: usize) -> bool {
         self.below(100) < percent
     }
 }
@@ -131,7 +131,7 @@ fn domain(r: &mut Rng, most: usize, size: usize, with: bool, spread: usize) -> V
     d
 }
 
-fn block(r: &mut Rng, out: &mut impl Write) {
+pub fn block(r: &mut Rng, out: &mut impl Write) {
     let s = style(r);
     let n = if s.vertices == 64 { 64 - r.below(2) * r.below(40) } else { r.below(s.vertices + 1) };
     let m = if n == 0 { 0 } else if s.edges == 128 { 128 - r.below(2) * r.below(90) } else { r.below(s.edges + 1) };

@@ -2,7 +2,7 @@
 // program analysis_cases; a line that starts with `#` is a remark. Blocks that the builder refuses are not for this driver: the Rust's `new` tests less.
 //   oracle                          blocks from standard input, the answers to standard output
 //   oracle compare BLOCKS ANSWERS   the answers of another program to the blocks of a file, block by block
-// The source is included from a copy in which one search is changed (the script `oracle` says which).
+// The source is included from a copy in which one search is changed (tests/rust/compile says which).
 #![allow(dead_code)]
 use std::fmt::Write;
 use std::panic::{catch_unwind, AssertUnwindSafe};
@@ -13,10 +13,7 @@ mod sat;
 mod graph_division {
     include!(env!("GRAPH_DIVISION_COPY"));
 
-    // The first entry of a sorted list with this pair: the lowest edge.
-    fn first_match(groups: &[((usize, usize), usize)], pair: &(usize, usize)) -> Result<usize, ()> {
-        groups.iter().position(|x| x.0 == *pair).ok_or(())
-    }
+    include!("../rust/first_match.rs");
 
     impl GraphDivision {
         pub fn note(&mut self, lit: Lit) {

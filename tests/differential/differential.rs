@@ -1,0 +1,546 @@
+// Compares the program `yard` with the Rust's `GraphDivision` on random sessions: plans, then values of the table, initialise, notify, undo
+// and fetch, refused calls among them. Every line that the program writes is compared: verdicts, handed-on literals, reasons, lists
+// and refusals; the table shows in what is handed on and in which proposals are false.
+//   differential run YARD SEED CALLS   sessions until CALLS calls were made; the first that differs is made shorter and printed
+//   differential answers               the answers to the sessions of standard input, each ended by a line `---`
+//   differential sessions SEED COUNT   prints COUNT sessions
+// What the Rust does not test (refusals 8 to 11, 15) is tested here, by document 01's text; refusals 12, 13, 14 and 16 are where the Rust
+// panics. After a refusal the Rust's state is built again from the calls that were accepted.
+#![allow(dead_code)]
+use std::io::{Read, Write};
+use std::panic::{catch_unwind, AssertUnwindSafe};
+use std::process::{Command, Stdio};
+
+#[path = "../rust/sat.rs"]
+mod sat;
+
+#[path = "../analysis/generate.rs"]
+mod generate;
+
+mod graph_division {
+    include!(env!("GRAPH_DIVISION_COPY"));
+    include!("../rust/first_match.rs");
+
+    impl GraphDivision {
+        pub fn lits(&self) -> &[Lit] {
+            &self.unique_lits
+        }
+
+        pub fn last(&self) -> &[Lit] {
+            &self.inconsistency_reason
+        }
+
+        pub fn has_reason(&self, lit: Lit) -> bool {
+            let i = self.unique_lits.binary_search(&lit).unwrap();
+            !matches!(self.propagation_reasons[i], Reason::NotPropagated)
+        }
+    }
+}
+
+use generate::Rng;
+use graph_division::{GraphDivision, GraphDivisionOptions};
+use sat::{CustomPropagator, Lit, SolverManipulator};
+
+// The table, and what was handed on.
+struct Solver {
+    table: Vec<u8>,
+    handed: Vec<Lit>,
+}
+
+fn code(lit: Lit, current: bool) -> u8 {
+    1 + (lit.0 & 1) as u8 + 2 * current as u8
+}
+
+unsafe impl SolverManipulator for Solver {
+    unsafe fn value(&self, lit: Lit) -> Option<bool> {
+        let c = self.table[lit.0 as usize / 2];
+        if c == 0 { None } else { Some((c % 2 == 1) == (lit.0 % 2 == 0)) }
+    }
+    unsafe fn add_watch(&mut self, _lit: Lit) {}
+    unsafe fn enqueue(&mut self, lit: Lit) -> bool {
+        if self.value(lit).is_none() {
+            self.table[lit.0 as usize / 2] = code(lit, true);
+            self.handed.push(lit);
+        }
+        true
+    }
+    unsafe fn decision_level_of_literal(&self, _lit: Lit) -> i32 {
+        unreachable!()
+    }
+    unsafe fn is_current_level(&self, lit: Lit) -> bool {
+        self.table[lit.0 as usize / 2] >= 3
+    }
+}
+
+#[derive(Clone)]
+enum Op {
+    Initialize,
+    Propagate(Lit, i32),
+    Undo(Lit),
+}
+
+// A plan's lines, split into fields.
+#[derive(Default)]
+struct Plan {
+    opts: (bool, bool),
+    weights: Vec<i32>,
+    domains: Vec<Vec<i32>>,
+    dom_lits: Vec<Vec<Lit>>,
+    edges: Vec<(usize, usize)>,
+    edge_lits: Vec<Lit>,
+}
+
+impl Plan {
+    fn take(&mut self, letter: &str, f: &[i32]) -> bool {
+        match letter {
+            "O" => self.opts = (f[0] == 1, f[1] == 1),
+            "P" => {
+                let k = f[1] as usize;
+                self.weights.push(f[0]);
+                self.domains.push(f[2..2 + k].to_vec());
+                self.dom_lits.push(if k == 0 { vec![] } else { f[2 + k..].iter().map(|&l| Lit(l)).collect() });
+            }
+            "G" => {
+                self.edges.push((f[0] as usize, f[1] as usize));
+                self.edge_lits.push(Lit(f[2]));
+            }
+            _ => return false,
+        }
+        true
+    }
+
+    fn build(&self) -> GraphDivision {
+        let opts = GraphDivisionOptions { disallow_adjacent_same_size_regions: self.opts.0, allow_extra_walls: self.opts.1 };
+        GraphDivision::new(&self.domains, &self.dom_lits, &self.weights, &self.edges, &self.edge_lits, &opts)
+    }
+}
+
+// The Rust with document 01's tests before it.
+struct Session {
+    plan: Plan,
+    d: GraphDivision,
+    table: Vec<u8>,
+    standing: Vec<Lit>,
+    done: bool,
+    // What was accepted, with the table that it was lent.
+    accepted: Vec<(Op, Vec<u8>)>,
+}
+
+enum Outcome {
+    Consistent(Vec<Lit>),
+    Conflict,
+    Panicked(String),
+}
+
+fn attempt(d: &mut GraphDivision, op: &Op, solver: &mut Solver) -> Result<bool, String> {
+    catch_unwind(AssertUnwindSafe(|| match op {
+        Op::Initialize => d.initialize(solver),
+        Op::Propagate(l, pending) => d.propagate(solver, *l, *pending),
+        Op::Undo(l) => {
+            d.undo(solver, *l);
+            true
+        }
+    }))
+    .map_err(|e| match (e.downcast_ref::<String>(), e.downcast_ref::<&str>()) {
+        (Some(s), _) => s.clone(),
+        (_, Some(s)) => s.to_string(),
+        _ => String::new(),
+    })
+}
+
+// The refusal at which the Rust panics so.
+fn refusal(text: &str) -> i32 {
+    if text == "assertion failed: self.lower_bound[i] <= self.upper_bound[i]" {
+        12
+    } else if text.ends_with(&format!("the index is {}", usize::MAX)) {
+        13
+    } else if text == "assertion failed: cur_level" {
+        14
+    } else if text == "assertion failed: prev[v].is_some()" {
+        16
+    } else {
+        panic!("the Rust panics: {text}")
+    }
+}
+
+fn say(letter: &str, lits: &[Lit]) -> String {
+    let mut s = letter.to_string();
+    for l in lits {
+        s += &format!("\t{}", l.0);
+    }
+    s + "\n"
+}
+
+impl Session {
+    fn new(plan: Plan) -> Session {
+        let d = plan.build();
+        Session { plan, d, table: vec![0; 4096], standing: vec![], done: false, accepted: vec![] }
+    }
+
+    fn known(&self, lit: i32) -> bool {
+        (0..8192).contains(&lit) && self.d.lits().binary_search(&Lit(lit)).is_ok()
+    }
+
+    fn stands(&self, lit: Lit) -> bool {
+        self.standing.iter().any(|s| s.0 / 2 == lit.0 / 2)
+    }
+
+    fn again(&mut self) {
+        self.d = self.plan.build();
+        for (op, table) in &self.accepted {
+            let mut solver = Solver { table: table.clone(), handed: vec![] };
+            attempt(&mut self.d, op, &mut solver).expect("a call that was accepted");
+        }
+    }
+
+    // The call on the Rust. A refusal leaves the table as it was.
+    fn call(&mut self, op: Op) -> Outcome {
+        let before = self.table.clone();
+        let mut solver = Solver { table: before.clone(), handed: vec![] };
+        match attempt(&mut self.d, &op, &mut solver) {
+            Ok(ok) => {
+                self.table = solver.table;
+                self.accepted.push((op, before));
+                if ok { Outcome::Consistent(solver.handed) } else { Outcome::Conflict }
+            }
+            Err(text) => {
+                self.again();
+                Outcome::Panicked(text)
+            }
+        }
+    }
+
+    fn initialize(&mut self) -> String {
+        if self.done {
+            return "E\t8\n".into();
+        }
+        let solver = Solver { table: self.table.clone(), handed: vec![] };
+        let entered: Vec<Lit> = self.d.lits().iter().copied().filter(|&l| unsafe { solver.value(l) } == Some(true)).collect();
+        // 10 is tested literal by literal: those before a literal that stands are notified first.
+        let first = entered.iter().position(|&l| self.stands(l));
+        if let Some(k) = first {
+            return self.initialize_up_to(&entered[..k]);
+        }
+        match self.call(Op::Initialize) {
+            Outcome::Consistent(handed) => {
+                self.standing.extend(&entered);
+                self.done = true;
+                say("C", &handed)
+            }
+            Outcome::Conflict => {
+                // Up to and with the first whose own analysis is a conflict: counted on a copy.
+                let (op, table) = self.accepted.pop().unwrap();
+                let mut copy = Session::new(std::mem::take(&mut self.plan));
+                copy.accepted = std::mem::take(&mut self.accepted);
+                copy.again();
+                let mut solver = Solver { table: table.clone(), handed: vec![] };
+                for &l in &entered {
+                    self.standing.push(l);
+                    if !attempt(&mut copy.d, &Op::Propagate(l, 0), &mut solver).unwrap() {
+                        break;
+                    }
+                }
+                self.plan = copy.plan;
+                self.accepted = copy.accepted;
+                self.accepted.push((op, table));
+                "X\n".into()
+            }
+            Outcome::Panicked(text) => format!("E\t{}\n", refusal(&text)),
+        }
+    }
+
+    // The literals before one that stands: a conflict or a refusal of theirs comes first, else it is 10.
+    fn initialize_up_to(&mut self, lits: &[Lit]) -> String {
+        let before = self.table.clone();
+        let many = self.accepted.len();
+        let mut solver = Solver { table: before.clone(), handed: vec![] };
+        let mut answer = "E\t10\n".to_string();
+        for (i, &l) in lits.iter().enumerate() {
+            let lent = solver.table.clone();
+            match attempt(&mut self.d, &Op::Propagate(l, 0), &mut solver) {
+                Ok(ok) => {
+                    self.accepted.push((Op::Propagate(l, 0), lent));
+                    if !ok {
+                        self.standing.extend(&lits[..=i]);
+                        self.table = solver.table;
+                        return "X\n".into();
+                    }
+                }
+                Err(text) => {
+                    answer = format!("E\t{}\n", refusal(&text));
+                    break;
+                }
+            }
+        }
+        self.accepted.truncate(many);
+        self.table = before;
+        self.again();
+        answer
+    }
+
+    fn propagate(&mut self, lit: i32, pending: i32) -> String {
+        let before = self.table.clone();
+        if (0..8192).contains(&lit) && self.table[lit as usize / 2] == 0 {
+            self.table[lit as usize / 2] = code(Lit(lit), true);
+        }
+        let refused = if !self.known(lit) {
+            9
+        } else if self.stands(Lit(lit)) {
+            10
+        } else {
+            match self.call(Op::Propagate(Lit(lit), pending)) {
+                Outcome::Panicked(text) => refusal(&text),
+                out => {
+                    self.standing.push(Lit(lit));
+                    return match out {
+                        Outcome::Consistent(_) if pending != 0 => "L\n".into(),
+                        Outcome::Consistent(handed) => say("C", &handed),
+                        _ => "X\n".into(),
+                    };
+                }
+            }
+        };
+        self.table = before;
+        format!("E\t{refused}\n")
+    }
+
+    fn undo(&mut self, lit: i32) -> String {
+        if !self.known(lit) {
+            return "E\t9\n".into();
+        }
+        if self.standing.last() != Some(&Lit(lit)) {
+            return "E\t11\n".into();
+        }
+        self.call(Op::Undo(Lit(lit)));
+        self.standing.pop();
+        self.table[lit as usize / 2] = 0;
+        "C\n".into()
+    }
+
+    fn reason(&mut self, lit: i32) -> String {
+        if !self.known(lit) {
+            return "E\t9\n".into();
+        }
+        if !self.d.has_reason(Lit(lit)) {
+            return "E\t15\n".into();
+        }
+        let mut solver = Solver { table: vec![], handed: vec![] };
+        match catch_unwind(AssertUnwindSafe(|| self.d.calc_reason(&mut solver, Some(Lit(lit)), None))) {
+            Ok(list) => say("R", &list),
+            Err(_) => "E\t16\n".into(),
+        }
+    }
+
+    fn line(&mut self, letter: &str, f: &[&str]) -> String {
+        let n = |i: usize| f[i].parse::<i32>().expect("a number");
+        match letter {
+            "V" => {
+                self.table[n(0) as usize] = n(1) as u8;
+                String::new()
+            }
+            "I" => self.initialize(),
+            "N" => self.propagate(n(0), n(1)),
+            "U" => self.undo(n(0)),
+            "R" if f[0] == "-" => say("R", self.d.last()),
+            "R" => self.reason(n(0)),
+            _ => panic!("a line of a session: {letter}"),
+        }
+    }
+}
+
+fn answers(text: &str) -> String {
+    let mut plan = Some(Plan::default());
+    let mut session = None;
+    let mut out = String::new();
+    for line in text.lines() {
+        let mut fields = line.split('\t');
+        let letter = fields.next().unwrap();
+        let f: Vec<&str> = fields.collect();
+        if session.is_none() {
+            let numbers: Vec<i32> = f.iter().map_while(|x| x.parse().ok()).collect();
+            if plan.as_mut().unwrap().take(letter, &numbers) {
+                continue;
+            }
+            session = Some(Session::new(plan.take().unwrap()));
+        }
+        out += &session.as_mut().unwrap().line(letter, &f);
+    }
+    out
+}
+
+// The plan of a random block, and calls on it. The literals are mostly the plan's, undone mostly the newest.
+fn session(r: &mut Rng) -> String {
+    let mut block = vec![];
+    generate::block(r, &mut block);
+    // A plan without literals has little to ask; most of these are left out.
+    while !block.windows(2).any(|w| w == b"G\t") && !r.chance(5) {
+        block.clear();
+        generate::block(r, &mut block);
+    }
+    let block = String::from_utf8(block).unwrap();
+    let mut plan = Plan::default();
+    let mut text = String::new();
+    let mut wanted: Vec<i32> = vec![];
+    for line in block.lines() {
+        let mut fields = line.split('\t');
+        let letter = fields.next().unwrap();
+        let f: Vec<i32> = fields.map_while(|x| x.parse().ok()).collect();
+        if plan.take(letter, &f) {
+            text += line;
+            text.push('\n');
+        } else if letter == "N" {
+            wanted.push(f[0]);
+        }
+    }
+    let mut s = Session::new(plan);
+    let lits: Vec<i32> = s.d.lits().iter().map(|l| l.0).collect();
+    let steps = 10 + r.below(if lits.len() > 400 { 60 } else { 300 });
+    let begins = r.below(3);
+    for k in 0..steps {
+        let any = |r: &mut Rng| if lits.is_empty() || r.chance(2) { r.below(8300) as i32 - 50 } else { lits[r.below(lits.len())] };
+        let line = match r.below(100) {
+            _ if k == 0 && begins == 0 => "I".to_string(),
+            0..=5 => {
+                let v = if lits.is_empty() || r.chance(3) { r.below(4096) as i32 } else { any(r).clamp(0, 8191) / 2 };
+                format!("V\t{v}\t{}", r.below(5))
+            }
+            6..=8 => "I".to_string(),
+            9..=30 => {
+                let newest = s.standing.last().map_or(any(r), |l| l.0);
+                format!("U\t{}", if r.chance(93) { newest } else { any(r) })
+            }
+            31..=37 => "R\t-".to_string(),
+            38..=48 => format!("R\t{}", any(r)),
+            _ => {
+                let mut l = wanted.pop().filter(|_| r.chance(70)).unwrap_or_else(|| any(r));
+                // Mostly one that does not stand yet.
+                for _ in 0..8 {
+                    if s.stands(Lit(l)) && r.chance(80) {
+                        l = any(r);
+                    }
+                }
+                // A literal that is false in the table is notified by its negation, mostly.
+                if (0..8192).contains(&l) && r.chance(85) && unsafe { Solver { table: s.table.clone(), handed: vec![] }.value(Lit(l)) } == Some(false) {
+                    l ^= 1;
+                }
+                format!("N\t{l}\t{}", if r.chance(80) { 0 } else { r.below(5) as i32 - 2 })
+            }
+        };
+        let mut fields = line.split('\t');
+        let letter = fields.next().unwrap();
+        let f: Vec<&str> = fields.collect();
+        s.line(letter, &f);
+        text += &line;
+        text.push('\n');
+    }
+    text
+}
+
+fn ask(yard: &str, text: &str) -> String {
+    let mut child = Command::new(yard).stdin(Stdio::piped()).stdout(Stdio::piped()).spawn().expect("the program yard");
+    child.stdin.take().unwrap().write_all(text.as_bytes()).expect("the session");
+    let mut out = String::new();
+    child.stdout.take().unwrap().read_to_string(&mut out).expect("the answers");
+    child.wait().expect("the program's end");
+    out
+}
+
+fn calls_in(text: &str) -> usize {
+    text.lines().filter(|l| matches!(l.as_bytes()[0], b'I' | b'N' | b'U' | b'R')).count()
+}
+
+// Lines are left out one at a time, as long as the answers still differ, until none can be.
+fn shorter(yard: &str, text: &str) -> String {
+    let mut lines: Vec<&str> = text.lines().collect();
+    loop {
+        let many = lines.len();
+        let mut i = many;
+        while i > 0 {
+            i -= 1;
+            if matches!(lines[i].as_bytes()[0], b'O' | b'P' | b'G') {
+                continue;
+            }
+            let mut fewer = lines.clone();
+            fewer.remove(i);
+            let t = fewer.join("\n") + "\n";
+            let right = catch_unwind(AssertUnwindSafe(|| answers(&t)));
+            if matches!(right, Ok(a) if a != ask(yard, &t)) {
+                lines = fewer;
+            }
+        }
+        if lines.len() == many {
+            return lines.join("\n") + "\n";
+        }
+    }
+}
+
+fn run(yard: &str, seed: u64, calls: usize) -> bool {
+    let mut r = Rng::new(seed);
+    let (mut sessions, mut made, mut failed) = (0, 0, 0);
+    let mut answered = [0usize; 256];
+    let mut refused = [0usize; 20];
+    while made < calls {
+        let text = session(&mut r);
+        let right = answers(&text);
+        let found = ask(yard, &text);
+        sessions += 1;
+        made += calls_in(&text);
+        for l in right.lines() {
+            answered[l.as_bytes()[0] as usize] += 1;
+            if let Some(n) = l.strip_prefix("E\t") {
+                refused[n.parse::<usize>().unwrap()] += 1;
+            }
+        }
+        if right != found {
+            failed += 1;
+            if failed <= 3 {
+                let t = shorter(yard, &text);
+                println!("session {sessions} of seed {seed}:\n{t}the Rust:\n{}yard:\n{}", answers(&t), ask(yard, &t));
+            }
+        }
+    }
+    print!("seed {seed}: {sessions} sessions, {made} calls;");
+    for c in "CXLRE".bytes() {
+        print!(" {} {}", c as char, answered[c as usize]);
+    }
+    print!("; of E");
+    for (n, k) in refused.iter().enumerate().filter(|x| *x.1 > 0) {
+        print!(" {n}: {k}");
+    }
+    println!("\n{} passed, {failed} failed", sessions - failed);
+    failed == 0
+}
+
+fn main() {
+    std::panic::set_hook(Box::new(|p| {
+        let text = p.to_string();
+        if text.contains("the Rust panics") || text.contains("differential.rs") {
+            eprintln!("{text}");
+        }
+    }));
+    let words: Vec<String> = std::env::args().skip(1).collect();
+    let words: Vec<&str> = words.iter().map(|w| w.as_str()).collect();
+    match words[..] {
+        ["run", yard, seed, calls] => {
+            if !run(yard, seed.parse().expect("a seed"), calls.parse().expect("how many calls")) {
+                std::process::exit(1);
+            }
+        }
+        ["answers"] => {
+            let text = std::io::read_to_string(std::io::stdin()).expect("the sessions");
+            for s in text.split_terminator("---\n") {
+                print!("{}---\n", answers(s));
+            }
+        }
+        ["sessions", seed, count] => {
+            let mut r = Rng::new(seed.parse().expect("a seed"));
+            for _ in 0..count.parse().expect("how many sessions") {
+                print!("{}---\n", session(&mut r));
+            }
+        }
+        _ => {
+            eprintln!("usage: differential run YARD SEED CALLS | answers | sessions SEED COUNT");
+            std::process::exit(2);
+        }
+    }
+}
