@@ -1,0 +1,198 @@
+use mathlib.Core.Path.{_≡_, refl, sym, ap, ap₂, _∙_}
+use mathlib.Core.List.{List}
+use Prim.Native.Nat.{ℕ}
+use mir.Syntax.{w32}
+use mir.Facts.{toZ-ofZ}
+use borrow.Author.Needs.{needs, sfits-of}
+use Rattle.text.specs.declared.Line.{Line}
+use Rattle.desk.specs.Print.{printing}
+use Rattle.desk.specs.Obey.{desk, held, holding, writing, valued, notified, takenBack, reasonAsked, lastAsked, obeyed}
+use Rattle.desk.proofs.Answering.{silent}
+use borrow.Author.Needs.{needs}
+use Rattle.desk.proofs.obey_read.Statement.{statement}
+use Rattle.desk.proofs.obey_read.Tie as tie
+
+enum-known-read : tie.Need-enum-known-read
+enum-known-read c = search needs
+
+cast-store : tie.Need-cast-store
+cast-store c = search needs
+
+store-requires : tie.Need-store-requires
+store-requires c κs = search needs
+
+enum-known-read-2 : tie.Need-enum-known-read-2
+enum-known-read-2 c = search needs
+
+notify-requires : tie.Need-notify-requires
+notify-requires c κs = search needs
+
+enum-known-read-3 : tie.Need-enum-known-read-3
+enum-known-read-3 c = search needs
+
+take-back-requires : tie.Need-take-back-requires
+take-back-requires c κs = search needs
+
+enum-known-read-4 : tie.Need-enum-known-read-4
+enum-known-read-4 c = search needs
+
+ask-reason-requires : tie.Need-ask-reason-requires
+ask-reason-requires c κs = search needs
+
+enum-told : tie.Need-enum-told
+enum-told c = search needs
+
+ask-last-requires : tie.Need-ask-last-requires
+ask-last-requires c κs = search needs
+
+enum-told-2 : tie.Need-enum-told-2
+enum-told-2 c = search needs
+
+enum-told-3 : tie.Need-enum-told-3
+enum-told-3 c = search needs
+
+enum-told-4 : tie.Need-enum-told-4
+enum-told-4 c = search needs
+
+enum-told-5 : tie.Need-enum-told-5
+enum-told-5 c = search needs
+
+enum-told-6 : tie.Need-enum-told-6
+enum-told-6 c = search needs
+
+same-length : tie.Need-same-length
+same-length c = search needs
+
+returns : tie.Need-returns
+unfolding obeyed valued writing
+returns c = ap (λ (t : List ℕ). held (record { state = (c .before .before .before .before .before .before .before .before .before .before .args .s); cursor = (c .before .before .before .before .before .before .before .before .before .before .args .cursor); printed = 0 }) t ((c .before .before .before .before .before .before .before .before .before .before .args .log) .now) ((c .before .before .before .before .before .before .before .before .before .before .args .out) .now)) (c .before .before .store .ensures)
+    ∙ silent ((c .before .before .before .before .before .before .before .before .before .before .args .s)) ((c .before .before .before .before .before .before .before .before .before .before .args .cursor)) _ ((c .before .before .before .before .before .before .before .before .before .before .args .log) .now) ((c .before .before .before .before .before .before .before .before .before .before .args .out) .now)
+    ∙ sym (ap (λ (r : Line). writing (obeyed r (desk ((c .before .before .before .before .before .before .before .before .before .before .args .s)) ((c .before .before .before .before .before .before .before .before .before .before .args .cursor)) ((c .before .before .before .before .before .before .before .before .before .before .args .table) .now) ((c .before .before .before .before .before .before .before .before .before .before .args .log) .now))) ((c .before .before .before .before .before .before .before .before .before .before .args .out) .now)) (c .before .before .before .before .before .read .given .1))
+
+same-length-2 : tie.Need-same-length-2
+same-length-2 c = search needs
+
+same-length-3 : tie.Need-same-length-3
+same-length-3 c = search needs
+
+same-length-4 : tie.Need-same-length-4
+same-length-4 c = search needs
+
+returns-2 : tie.Need-returns-2
+unfolding obeyed valued writing
+returns-2 c =
+    let a = (c .before .before .before .before .before .before .before .before .before .before .before .before .before .before .before .before .args) in
+    let k = (c .before .before .before .before .before .before .before .before .before .before .known-told2 .given) in
+    let r = (c .before .before .before .before .before .before .before .before .before .before .before .read2 .given .0) in
+    (c .before .before .before .before .before .before .notify .ensures)
+    ∙ (λ i. writing (notified (desk (a .s) (a .cursor) (a .table .now) (a .log .now)) (toZ-ofZ {w = w32} {z = r .0} (sfits-of (k .0 .1)) i) (toZ-ofZ {w = w32} {z = r .1 .0} (sfits-of (k .1 .0 .1)) i)) (a .out .now))
+    ∙ sym (ap (λ (r : Line). writing (obeyed r (desk ((c .before .before .before .before .before .before .before .before .before .before .before .before .before .before .before .before .args .s)) ((c .before .before .before .before .before .before .before .before .before .before .before .before .before .before .before .before .args .cursor)) ((c .before .before .before .before .before .before .before .before .before .before .before .before .before .before .before .before .args .table) .now) ((c .before .before .before .before .before .before .before .before .before .before .before .before .before .before .before .before .args .log) .now))) ((c .before .before .before .before .before .before .before .before .before .before .before .before .before .before .before .before .args .out) .now)) (c .before .before .before .before .before .before .before .before .before .before .before .read2 .given .1))
+
+same-length-5 : tie.Need-same-length-5
+same-length-5 c = search needs
+
+same-length-6 : tie.Need-same-length-6
+same-length-6 c = search needs
+
+same-length-7 : tie.Need-same-length-7
+same-length-7 c = search needs
+
+returns-3 : tie.Need-returns-3
+unfolding obeyed valued writing
+returns-3 c =
+    let a = (c .before .before .before .before .before .before .before .before .before .before .before .before .before .before .args) in
+    let k = (c .before .before .before .before .before .before .before .before .known-told3 .given) in
+    let r = (c .before .before .before .before .before .before .before .before .before .read3 .given .0) in
+    (c .before .before .before .before .take-back .ensures)
+    ∙ (λ i. writing (takenBack (desk (a .s) (a .cursor) (a .table .now) (a .log .now)) (toZ-ofZ {w = w32} {z = r .0} (sfits-of (k .0 .1)) i)) (a .out .now))
+    ∙ sym (ap (λ (r : Line). writing (obeyed r (desk ((c .before .before .before .before .before .before .before .before .before .before .before .before .before .before .args .s)) ((c .before .before .before .before .before .before .before .before .before .before .before .before .before .before .args .cursor)) ((c .before .before .before .before .before .before .before .before .before .before .before .before .before .before .args .table) .now) ((c .before .before .before .before .before .before .before .before .before .before .before .before .before .before .args .log) .now))) ((c .before .before .before .before .before .before .before .before .before .before .before .before .before .before .args .out) .now)) (c .before .before .before .before .before .before .before .before .before .read3 .given .1))
+
+same-length-8 : tie.Need-same-length-8
+same-length-8 c = search needs
+
+same-length-9 : tie.Need-same-length-9
+same-length-9 c = search needs
+
+returns-4 : tie.Need-returns-4
+unfolding obeyed valued writing
+returns-4 c =
+    let a = (c .before .before .before .before .before .before .before .before .before .before .before .args) in
+    let k = (c .before .before .before .before .before .known-told4 .given) in
+    let r = (c .before .before .before .before .before .before .read4 .given .0) in
+    ap (holding (desk (a .s) (a .cursor) (a .table .now) (a .log .now))) ((c .before .before .ask-reason .ensures) ∙ (λ i. printing (reasonAsked (a .s) (a .cursor) (a .log .now) (toZ-ofZ {w = w32} {z = r .0} (sfits-of (k .0 .1)) i)) (a .out .now)))
+    ∙ sym (ap (λ (r : Line). writing (obeyed r (desk ((c .before .before .before .before .before .before .before .before .before .before .before .args .s)) ((c .before .before .before .before .before .before .before .before .before .before .before .args .cursor)) ((c .before .before .before .before .before .before .before .before .before .before .before .args .table) .now) ((c .before .before .before .before .before .before .before .before .before .before .before .args .log) .now))) ((c .before .before .before .before .before .before .before .before .before .before .before .args .out) .now)) (c .before .before .before .before .before .before .read4 .given .1))
+
+same-length-10 : tie.Need-same-length-10
+same-length-10 c = search needs
+
+same-length-11 : tie.Need-same-length-11
+same-length-11 c = search needs
+
+returns-5 : tie.Need-returns-5
+unfolding obeyed valued writing
+returns-5 c =
+    let a = (c .before .before .before .before .before .before .before .before .before .before .args) in
+    ap (holding (desk (a .s) (a .cursor) (a .table .now) (a .log .now))) (c .before .before .ask-last .ensures)
+    ∙ sym (ap (λ (r : Line). writing (obeyed r (desk ((c .before .before .before .before .before .before .before .before .before .before .args .s)) ((c .before .before .before .before .before .before .before .before .before .before .args .cursor)) ((c .before .before .before .before .before .before .before .before .before .before .args .table) .now) ((c .before .before .before .before .before .before .before .before .before .before .args .log) .now))) ((c .before .before .before .before .before .before .before .before .before .before .args .out) .now)) (c .before .before .before .before .before .enum-told .given .1))
+
+returns-6 : tie.Need-returns-6
+unfolding obeyed valued writing
+returns-6 c = silent ((c .before .before .before .before .before .args .s)) ((c .before .before .before .before .before .args .cursor)) ((c .before .before .before .before .before .args .table) .now) ((c .before .before .before .before .before .args .log) .now) ((c .before .before .before .before .before .args .out) .now) ∙ sym (ap (λ (r : Line). writing (obeyed r (desk ((c .before .before .before .before .before .args .s)) ((c .before .before .before .before .before .args .cursor)) ((c .before .before .before .before .before .args .table) .now) ((c .before .before .before .before .before .args .log) .now))) ((c .before .before .before .before .before .args .out) .now)) (c .enum-told2 .given .1))
+
+returns-7 : tie.Need-returns-7
+unfolding obeyed valued writing
+returns-7 c = silent ((c .before .before .before .before .before .args .s)) ((c .before .before .before .before .before .args .cursor)) ((c .before .before .before .before .before .args .table) .now) ((c .before .before .before .before .before .args .log) .now) ((c .before .before .before .before .before .args .out) .now) ∙ sym (ap (λ (r : Line). writing (obeyed r (desk ((c .before .before .before .before .before .args .s)) ((c .before .before .before .before .before .args .cursor)) ((c .before .before .before .before .before .args .table) .now) ((c .before .before .before .before .before .args .log) .now))) ((c .before .before .before .before .before .args .out) .now)) (c .enum-told3 .given .1))
+
+returns-8 : tie.Need-returns-8
+unfolding obeyed valued writing
+returns-8 c = silent ((c .before .before .before .before .before .args .s)) ((c .before .before .before .before .before .args .cursor)) ((c .before .before .before .before .before .args .table) .now) ((c .before .before .before .before .before .args .log) .now) ((c .before .before .before .before .before .args .out) .now) ∙ sym (ap (λ (r : Line). writing (obeyed r (desk ((c .before .before .before .before .before .args .s)) ((c .before .before .before .before .before .args .cursor)) ((c .before .before .before .before .before .args .table) .now) ((c .before .before .before .before .before .args .log) .now))) ((c .before .before .before .before .before .args .out) .now)) (c .enum-told4 .given .1))
+
+returns-9 : tie.Need-returns-9
+unfolding obeyed valued writing
+returns-9 c = silent ((c .before .before .before .before .before .args .s)) ((c .before .before .before .before .before .args .cursor)) ((c .before .before .before .before .before .args .table) .now) ((c .before .before .before .before .before .args .log) .now) ((c .before .before .before .before .before .args .out) .now) ∙ sym (ap (λ (r : Line). writing (obeyed r (desk ((c .before .before .before .before .before .args .s)) ((c .before .before .before .before .before .args .cursor)) ((c .before .before .before .before .before .args .table) .now) ((c .before .before .before .before .before .args .log) .now))) ((c .before .before .before .before .before .args .out) .now)) (c .enum-told5 .given .1))
+
+returns-10 : tie.Need-returns-10
+unfolding obeyed valued writing
+returns-10 c = silent ((c .before .before .before .before .before .args .s)) ((c .before .before .before .before .before .args .cursor)) ((c .before .before .before .before .before .args .table) .now) ((c .before .before .before .before .before .args .log) .now) ((c .before .before .before .before .before .args .out) .now) ∙ sym (ap (λ (r : Line). writing (obeyed r (desk ((c .before .before .before .before .before .args .s)) ((c .before .before .before .before .before .args .cursor)) ((c .before .before .before .before .before .args .table) .now) ((c .before .before .before .before .before .args .log) .now))) ((c .before .before .before .before .before .args .out) .now)) (c .enum-told6 .given .1))
+
+pub obey-read-spec : {M : Type 1} → statement M
+obey-read-spec =
+    tie.close
+    (tie.spec
+    enum-known-read
+    cast-store
+    store-requires
+    enum-known-read-2
+    notify-requires
+    enum-known-read-3
+    take-back-requires
+    enum-known-read-4
+    ask-reason-requires
+    enum-told
+    ask-last-requires
+    enum-told-2
+    enum-told-3
+    enum-told-4
+    enum-told-5
+    enum-told-6
+    same-length
+    returns
+    same-length-2
+    same-length-3
+    same-length-4
+    returns-2
+    same-length-5
+    same-length-6
+    same-length-7
+    returns-3
+    same-length-8
+    same-length-9
+    returns-4
+    same-length-10
+    same-length-11
+    returns-5
+    returns-6
+    returns-7
+    returns-8
+    returns-9
+    returns-10)
