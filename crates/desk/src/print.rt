@@ -27,7 +27,7 @@ fn print_first(letter: u8, values: &[u32], n: usize, out: &mut [u8]) -> usize
     count_of(write_answer(letter, &values[0..n], out, 0))
 }
 
-fn print_refusal(number: u32, out: &mut [u8]) -> usize
+pub fn print_refusal(number: u32, out: &mut [u8]) -> usize
     ensures { λ r. ⌜ written r (now (out .exit)) ≡ printing (answerLine 69 (number ∷ [])) (now (out .entry)) ⌝ }
 {
     let numbers = [number; 1];
