@@ -50,7 +50,8 @@ use Rattle.refusals.proofs.Calls.{last-call, reason-call}
 use Rattle.graph_division.specs.declared.GraphDivision.{GraphDivision}
 use Rattle.graph_division.specs.declared.Answer.the-variants as answer
 use Rattle.graph_division.specs.Calls.{Fetched, fetched, copied, reasonGiven, isNone, lastFetched, recordedFor, listFor, giving, reasonFetched}
-use Rattle.graph_division.proofs.Represents.{planIn, Represents, answerFor, answerOf}
+use Rattle.graph_division.specs.Outcomes.{answerFor, answerOf}
+use Rattle.graph_division.proofs.Represents.{planIn, Represents}
 use Rattle.graph_division.proofs.Looked.{tab-take, tab-length}
 
 -- the list of an answer

@@ -3,9 +3,16 @@ pub mod Represents
 pub mod Undoing
 pub mod Noted
 pub mod Recording
+pub mod Merging
+pub mod Entered
+pub mod LastPass
 pub mod Looked
+pub mod Notifying
 pub mod Propagating
+pub mod Starting
 pub mod Fetching
 pub mod Building
 pub mod Rooms
 pub mod Running
+pub mod Saved
+pub mod Begun

@@ -1,7 +1,7 @@
 -- The state, log and cursor that a world of crate calls stands for, and what a call on the one has to do with the call on the other.
-use mathlib.Core.Path.{_≡_, refl}
+use mathlib.Core.Path.{_≡_, refl, sym, subst}
 use mathlib.Core.List.{List}
-use Prim.Native.Nat.{ℕ, _+_, _*_, _<_, _≤_}
+use Prim.Native.Nat.{ℕ, _+_, _*_, _<_, _≤_, zero-le}
 use lib.ListN.{length}
 use lib.Seq.{sets}
 use Rattle.base.specs.Lists.{tab}
@@ -21,9 +21,8 @@ use Rattle.calls.specs.Calls as calls
 use Rattle.calls.specs.Calls.{World}
 use Rattle.graph_division.specs.declared.GraphDivision.{GraphDivision}
 use Rattle.graph_division.specs.declared.Outcome.{Outcome}
-use Rattle.graph_division.specs.declared.Answer.{Answer}
-use Rattle.graph_division.specs.declared.Answer.the-variants as answer
-use Rattle.graph_division.specs.Calls.{Called, refuse, withNoted}
+use Rattle.graph_division.specs.Calls.{Called, called, refuse, withNoted}
+use Rattle.graph_division.specs.Outcomes.{answerFor, answerOf}
 
 -- the plan of a state
 abbrev pub planIn : GraphDivision → Plan
@@ -46,18 +45,6 @@ pub record Represents (s : GraphDivision) (log : List ℕ) (c : Cursor) (w : Wor
   pub last : tab (word (s .last)) (s .«last_len») ≡ w .last
   pub done : s .initialized ≡ w .done
 
--- what the code answers for an answer of the definition, where n literals are handed on
-unfoldable pub answerFor : calls.Answer → ℕ → Answer
-answerFor calls.consistent n = answer.Consistent n
-answerFor calls.conflicting n = answer.Conflict
-answerFor calls.noted n = answer.Noted
-answerFor calls.undone n = answer.Undone
-answerFor (calls.refused m) n = answer.Refused m
-answerFor (calls.reason ls) n = answer.Reason (length ls)
-
-unfoldable pub answerOf : calls.Outcome → Answer
-answerOf o = answerFor (o .answer) (length (o .handed))
-
 -- a call from state s has outcome y and leaves the log; the definition's is o
 pub record Simulates (s : GraphDivision) (y : Outcome) (log : List ℕ) (o : calls.Outcome) : Type 0 where
   pub answer : y .answer ≡ answerOf o
@@ -71,6 +58,10 @@ pub record SimulatesCalled (s : GraphDivision) (before : List ℕ) (x : Called) 
   pub call : Simulates s (x .outcome) (x .log) o
   pub table : x .table ≡ o .table
   pub list : x .list ≡ sets before 0 (o .handed)
+  pub fits : length (o .handed) ≤ length before
+
+pub called-by : (s : GraphDivision) (list : List ℕ) {y z : Called} {o q : calls.Outcome} → y ≡ z → o ≡ q → SimulatesCalled s list z q → SimulatesCalled s list y o
+called-by s list {z = z} {o = o} a b h = subst (λ (y : Called). SimulatesCalled s list y o) (sym a) (subst (SimulatesCalled s list z) (sym b) h)
 
 module _ (s : GraphDivision) (log : List ℕ) (c : Cursor) (w : World) (r : Represents s log c w) where
   -- nothing changes but what is noted
@@ -95,3 +86,7 @@ module _ (s : GraphDivision) (log : List ℕ) (c : Cursor) (w : World) (r : Repr
   pub refused-simulates : (n : ℕ) (t : List ℕ) → Simulates s (refuse n s c) log (calls.refuse n w t)
   unfolding refuse calls.refuse answerOf answerFor
   refused-simulates n t = record { answer = refl; represents = r; plan = refl; edges = refl }
+
+  pub refused-called : (n : ℕ) (t list : List ℕ) → SimulatesCalled s list (called (refuse n s c) t list log) (calls.refuse n w t)
+  unfolding calls.refuse
+  refused-called n t list = record { call = refused-simulates n t; table = refl; list = refl; fits = zero-le }

@@ -1,102 +1,303 @@
 -- The calls in their order, from a state that is built: each is the definition's call after the definition's calls before it.
-use mathlib.Core.Path.{_≡_, refl, ap₂, subst, _∙_}
-use mathlib.Core.Bool.{Bool, true, false, not}
-use mathlib.Core.List.{List, [], _∷_}
-use Prim.Native.Nat.{ℕ}
+use mathlib.Core.Path.{_≡_, refl, sym, ap, ap₂, subst, _∙_}
+use mathlib.Core.Bool.{Bool, true, false, not, _||_}
+use mathlib.Core.List.{List, [], _∷_, _++_}
+use Prim.Native.Nat.{ℕ, _+_, _*_, _<_, _≤_, min}
+use native.Mathlib.Omega.{arith}
 use lib.IntN.{ℤ, pos}
-use lib.ListN.{length}
+use lib.Dec.{eqb}
+use lib.ListN.{length, getD, take, drop, length-take, length-append, take-append-drop, List·getD-append, replicate, length-replicate}
+use lib.Seq.{sets, take-append-seam}
+use borrow.Author.Tests.{le-ltb}
+use Rattle.base.specs.Iter.{pick}
 use Rattle.base.specs.Range.{inRange}
+use Rattle.base.proofs.Loop.{pick-yes, pick-no, tested}
 use Rattle.edge_table.specs.declared.EdgeTable.{EdgeTable}
 use Rattle.undo_log.specs.declared.Cursor.{Cursor}
+use Rattle.division.specs.Plan.{Plan}
+use Rattle.plan.specs.Check.{planBad}
+use Rattle.plan.specs.Words.{slotsOf}
 use Rattle.plan.specs.Plan.{planOf}
-use Rattle.noting.specs.Buffers.{logShort, listShort, reasonShort}
+use Rattle.noting.specs.Note.{noting}
+use Rattle.noting.specs.Replay.{logBad}
+use Rattle.noting.specs.Buffers.{tableBad, logShort, listShort, reasonShort}
 use Rattle.noting.proofs.Appending.{cursorAt}
+use Rattle.noting.proofs.Valid.{Valid, standingOf}
+use Rattle.judge.proofs.Conflicts.{list-taken}
+use Rattle.noting.proofs.Replaying.{log-fits}
+use Rattle.noting.proofs.Preserved.{standing-other, passes-other}
+use Rattle.calls.specs.Table.{badTable}
 use Rattle.calls.specs.Calls as calls
 use Rattle.calls.specs.Calls.{World}
+use Rattle.calls.proofs.Marks.{call-marked}
+use Rattle.refusals.specs.Refusals.{stateBad, tableStateBad, initializeRefusal, propagateRefusal, undoRefusal, fetchRefusal}
 use Rattle.refusals.specs.Calls.{litGiven}
 use Rattle.graph_division.specs.declared.GraphDivision.{GraphDivision}
+use Rattle.graph_division.specs.declared.Outcome.{Outcome}
+use Rattle.graph_division.specs.declared.Built.{Built}
+use Rattle.graph_division.specs.declared.Answer.the-variants as answer
 use Rattle.graph_division.specs.New.{built}
-use Rattle.graph_division.specs.Calls.{propagated, undone, lastFetched, reasonFetched}
+use Rattle.graph_division.specs.Calls.{Called, called, refuse, propagated, undone, Fetched, fetched, lastFetched, reasonFetched}
+use Rattle.graph_division.specs.Initialize.{initialized}
+use Rattle.graph_division.specs.Runs.{Request, initialize, propagate, undo, calcReason, calcLast, tableOf, listOf, Kept, kept, logFor, Reply, replied, repliedCalled, repliedFetched, reply, keeping, after, roomFor, callOf, callsOf}
+use Rattle.graph_division.specs.Outcomes.{answerFor, answerOf}
 use Rattle.graph_division.proofs.Represents.{planIn, Represents, Simulates, SimulatesCalled}
 use Rattle.graph_division.proofs.Rooms.{state-room, table-room, fetch-room}
 use Rattle.graph_division.proofs.Undoing.{undo-simulated}
 use Rattle.graph_division.proofs.Propagating.{propagate-simulated}
-use Rattle.graph_division.proofs.Fetching.{SimulatesFetched, last-simulated, reason-simulated}
+use Rattle.graph_division.proofs.Starting.{initialize-simulated}
+use Rattle.graph_division.proofs.Fetching.{listIn, SimulatesFetched, last-simulated, reason-simulated}
 use Rattle.graph_division.proofs.Building.{new-represents}
 
--- a call with what it is lent but for the log
-pub data Given : Type 0 where
-  propagate : (lit pending : ℤ) (table list : List ℕ) → Given
-  undo : (lit : ℤ) → Given
-  reasonFor : (lit : ℤ) (buffer : List ℕ) → Given
-  lastLeft : (buffer : List ℕ) → Given
+or-true : (b : Bool) → (b || true) ≡ true
+or-true true = refl
+or-true false = refl
 
--- the definition's call
-unfoldable pub callOf : List ℕ → Given → calls.Call
-callOf ws (propagate lit pending t list) = calls.propagate (not (listShort ws (length list))) t (litGiven lit) (not (inRange (pos 0) pending))
-callOf ws (undo lit) = calls.undo true (litGiven lit)
-callOf ws (reasonFor lit b) = calls.calcReason (not (reasonShort ws (length b))) (litGiven lit)
-callOf ws (lastLeft b) = calls.calcLast (not (reasonShort ws (length b)))
+-- a call that is lent no table leaves none
+no-table : (d : Plan) (w : World) (c : calls.Call) → calls.tableOf c ≡ [] → calls.call d c w .table ≡ []
+no-table d w c e = empty (calls.call d c w .table) (call-marked d w c .long ∙ ap length e)
+  where
+    empty : (l : List ℕ) → length l ≡ 0 → l ≡ []
+    empty [] z = refl
+    empty (x ∷ l) z = absurd (omega arith)
 
-unfoldable pub callsOf : List ℕ → List Given → List calls.Call
-callsOf ws [] = []
-callsOf ws (g ∷ gs) = callOf ws g ∷ callsOf ws gs
+-- with any log that is long enough and begins with the records, state and cursor stand for the world
+pub record RepresentsKept (k : Kept) (w : World) : Type 0 where
+  pub used : length (k .records) ≡ k .cursor .used
+  -- there is such a log
+  pub rest : List ℕ
+  pub represents : Represents (k .state) (logFor k rest) (k .cursor) w
 
--- what is kept from call to call
-pub record Kept : Type 0 where
-  pub state : GraphDivision
-  pub log : List ℕ
-  pub cursor : Cursor
-
-abbrev pub kept : GraphDivision → List ℕ → Cursor → Kept
-kept s log c = record { state = s; log = log; cursor = c }
-
-unfoldable pub step : Given → Kept → Kept
-step (propagate lit pending t list) h =
-    let x = propagated (h .state) (h .cursor) lit pending t list (h .log) in
-    kept (x .outcome .state) (x .log) (x .outcome .cursor)
-step (undo lit) h =
-    let y = undone (h .state) (h .cursor) lit (h .log) in
-    kept (y .state) (h .log) (y .cursor)
-step (reasonFor lit b) h = h
-step (lastLeft b) h = h
-
-unfoldable pub steps : List Given → Kept → Kept
-steps [] h = h
-steps (g ∷ gs) h = steps gs (step g h)
-
-abbrev pub RepresentsKept : Kept → World → Type 0
-RepresentsKept h w = Represents (h .state) (h .log) (h .cursor) w
-
--- each call as one of the definition's
-module _ (h : Kept) (w : World) (r : RepresentsKept h w) where
+module _ (k : Kept) (w : World) (r : RepresentsKept k w) where
   abbrev s : GraphDivision
-  s = h .state
+  s = k .state
 
-  pub propagate-is : (lit pending : ℤ) (t list : List ℕ) →
-      SimulatesCalled s list (propagated s (h .cursor) lit pending t list (h .log)) (calls.call (planIn s) (callOf (s .plan) (propagate lit pending t list)) w)
-  unfolding calls.call callOf
-  propagate-is lit pending t list =
-      subst (λ (b : Bool). SimulatesCalled s list (propagated s (h .cursor) lit pending t list (h .log)) (calls.onPropagate (planIn s) w b t (litGiven lit) (not (inRange (pos 0) pending))))
-      (table-room s (h .log) (h .cursor) w r (length list)) (propagate-simulated s (h .log) (h .cursor) w r lit t list pending)
+  -- what follows the records does not matter
+  pub with-tail : (tail : List ℕ) → logShort (s .plan) (length (logFor k tail)) ≡ false → Represents s (logFor k tail) (k .cursor) w
+  with-tail tail long =
+      let q = r .represents in
+      let same : (i : ℕ) → i < k .cursor .used → getD (logFor k tail) i 0 ≡ getD (logFor k (r .rest)) i 0 =
+      λ i h. List·getD-append (k .records) tail 0 i (omega (arith, r .used)) ∙ sym (List·getD-append (k .records) (r .rest) 0 i (omega (arith, r .used))) in
+      record {
+        proper = q .proper;
+        words = q .words;
+        places = q .places;
+        valid = record {
+          words = q .valid .words;
+          passes = passes-other (s .plan) (s .edges .ends) (q .proper) (s .noted) (logFor k (r .rest)) (logFor k tail) (k .cursor) (omega (arith, r .used, length-append (k .records) tail)) same (q .valid .passes);
+          long = long;
+        };
+        standing = q .standing ∙ sym (standing-other (logFor k (r .rest)) (logFor k tail) (k .cursor .used) same);
+        reasons = q .reasons;
+        within = q .within;
+        room = q .room;
+        fits = q .fits;
+        last = q .last;
+        done = q .done;
+      }
 
-  pub undo-is : (lit : ℤ) → Simulates s (undone s (h .cursor) lit (h .log)) (h .log) (calls.call (planIn s) (callOf (s .plan) (undo lit)) w)
-  unfolding calls.call callOf
-  undo-is lit =
-      subst (λ (b : Bool). Simulates s (undone s (h .cursor) lit (h .log)) (h .log) (calls.onUndo (planIn s) w b (litGiven lit))) (state-room s (h .log) (h .cursor) w r)
-      (undo-simulated s (h .log) (h .cursor) w r lit)
+-- what is kept after a call whose state, log and cursor stand for a world
+keeps-represents : (s : GraphDivision) (log : List ℕ) (c : Cursor) (w : World) → Represents s log c w → RepresentsKept (kept s c (take (c .used) log)) w
+keeps-represents s log c w r =
+    let fit = log-fits (s .plan) (s .edges .ends) (r .proper) (s .noted) log c (r .valid .passes) in
+    record {
+      used = length-take (c .used) log ∙ min-is (c .used) (length log) fit;
+      rest = drop (c .used) log;
+      represents = subst (λ (m : List ℕ). Represents s m c w) (sym (take-append-drop (c .used) log)) r;
+    }
+  where
+    min-is : (a b : ℕ) → a ≤ b → min a b ≡ a
+    min-is a b h = omega arith
 
-  pub reason-is : (lit : ℤ) (b : List ℕ) → SimulatesFetched s (h .log) (h .cursor) b (reasonFetched s (h .cursor) (h .log) lit b) (calls.call (planIn s) (callOf (s .plan) (reasonFor lit b)) w)
-  unfolding calls.call callOf
-  reason-is lit b =
-      subst (λ (x : Bool). SimulatesFetched s (h .log) (h .cursor) b (reasonFetched s (h .cursor) (h .log) lit b) (calls.onCalcReason (planIn s) w x (litGiven lit)))
-      (fetch-room s (h .log) (h .cursor) w r (length b)) (reason-simulated s (h .log) (h .cursor) w r b lit)
+-- the literals that the definition's call hands on, or its reason
+unfoldable pub valuesFor : Request → calls.Outcome → List ℕ
+valuesFor (initialize t list tail) o = o .handed
+valuesFor (propagate lit pending t list tail) o = o .handed
+valuesFor (undo lit tail) o = []
+valuesFor (calcReason lit b tail) o = listIn (o .answer)
+valuesFor (calcLast b tail) o = listIn (o .answer)
 
-  pub last-is : (b : List ℕ) → SimulatesFetched s (h .log) (h .cursor) b (lastFetched s (h .cursor) (h .log) b) (calls.call (planIn s) (callOf (s .plan) (lastLeft b)) w)
-  unfolding calls.call callOf
-  last-is b =
-      subst (λ (x : Bool). SimulatesFetched s (h .log) (h .cursor) b (lastFetched s (h .cursor) (h .log) b) (calls.onCalcLast w x)) (fetch-room s (h .log) (h .cursor) w r (length b))
-      (last-simulated s (h .log) (h .cursor) w r b)
+-- reply y to a request is that of the definition's call, with outcome o
+pub record Replies (k : Kept) (q : Request) (y : Reply) (o : calls.Outcome) : Type 0 where
+  pub answer : y .answer ≡ answerOf o
+  pub keeps : RepresentsKept (keeping y) (o .world)
+  -- the plan stays
+  pub plan : y .state .plan ≡ k .state .plan
+  pub edges : y .state .edges ≡ k .state .edges
+  pub table : y .table ≡ o .table
+  -- they stand from the start of the list or of the reason buffer on; all else of it stays
+  pub list : y .list ≡ sets (listOf q) 0 (valuesFor q o)
+  -- and they fit
+  pub whole : take (length (valuesFor q o)) (y .list) ≡ valuesFor q o
+
+module _ (k : Kept) (w : World) (r : RepresentsKept k w) where
+  abbrev d : Plan
+  d = planIn (k .state)
+
+  -- what a refused call keeps is what was kept
+  keeping-same : (tail : List ℕ) → kept (k .state) (k .cursor) (take (k .cursor .used) (logFor k tail)) ≡ k
+  keeping-same tail = ap (λ (l : List ℕ). kept (k .state) (k .cursor) l) (ap (λ (n : ℕ). take n (logFor k tail)) (sym (r .used)) ∙ take-append-seam (k .records) tail)
+
+  -- a call that is lent a log that is too short
+  module _ (tail : List ℕ) (short : logShort (k .state .plan) (length (logFor k tail)) ≡ true) where
+    bad : stateBad (k .state .plan) (k .state .edges .ends) (k .state .noted) (logFor k tail) (k .cursor) ≡ true
+    unfolding stateBad
+    bad = ap (λ (b : Bool). planBad (k .state .plan) (k .state .edges .ends) || (b || logBad (k .state .plan) (k .state .noted) (logFor k tail) (k .cursor))) short ∙ or-true (planBad (k .state .plan) (k .state .edges .ends))
+
+    no-room : (b : Bool) → roomFor (k .state .plan) (length (logFor k tail)) b ≡ false
+    unfolding roomFor
+    no-room b = ap (λ (x : Bool). not (x || b)) short
+
+    refused-here : (q : Request) → valuesFor q (calls.refuse 7 w (tableOf q)) ≡ [] → Replies k q (replied (refuse 7 (k .state) (k .cursor)) (tableOf q) (listOf q) (logFor k tail)) (calls.refuse 7 w (tableOf q))
+    unfolding replied refuse keeping calls.refuse answerOf answerFor
+    refused-here q none = record {
+      answer = refl;
+      keeps = subst (λ (h : Kept). RepresentsKept h w) (sym (keeping-same tail)) r;
+      plan = refl;
+      edges = refl;
+      table = refl;
+      list = ap (sets (listOf q) 0) (sym none);
+      whole = subst (λ (l : List ℕ). take (length l) (listOf q) ≡ l) (sym none) refl;
+    }
+
+    -- is refused, in the definition too
+    turned-away : (q : Request) → valuesFor q (calls.refuse 7 w (tableOf q)) ≡ [] → (y : Reply) → y ≡ replied (refuse 7 (k .state) (k .cursor)) (tableOf q) (listOf q) (logFor k tail) → (o : calls.Outcome) → o ≡ calls.refuse 7 w (tableOf q) → Replies k q y o
+    turned-away q none y e o f = subst (λ (z : Reply). Replies k q z o) (sym e) (subst (Replies k q (replied (refuse 7 (k .state) (k .cursor)) (tableOf q) (listOf q) (logFor k tail))) (sym f) (refused-here q none))
+
+    seven : (n : ℕ) → n ≡ 7 → eqb n 0 ≡ false
+    seven n e = ap (λ (m : ℕ). eqb m 0) e
+
+    short-initialize : (t list : List ℕ) → Replies k (initialize t list tail) (reply k (initialize t list tail)) (calls.call d (callOf k (initialize t list tail)) w)
+    unfolding reply callOf calls.call repliedCalled initialized initializeRefusal tableStateBad tableOf listOf valuesFor calls.onInitialize calls.refuse
+    short-initialize t list =
+        let n : initializeRefusal (k .state .plan) (k .state .edges .ends) (k .state .noted) t (length list) (logFor k tail) (k .cursor) (k .state .initialized) ≡ 7 = pick-yes _ _ (ap (λ (b : Bool). b || (listShort (k .state .plan) (length list) || tableBad (k .state .plan) t)) bad) in
+        turned-away (initialize t list tail) refl _
+        (ap repliedCalled (pick-no _ _ (seven _ n) ∙ ap (λ (m : ℕ). called (refuse m (k .state) (k .cursor)) t list (logFor k tail)) n)) _
+        (pick-yes _ _ (ap (λ (b : Bool). not b || badTable d t) (no-room (listShort (k .state .plan) (length list)))))
+
+    short-propagate : (lit pending : ℤ) (t list : List ℕ) → Replies k (propagate lit pending t list tail) (reply k (propagate lit pending t list tail)) (calls.call d (callOf k (propagate lit pending t list tail)) w)
+    unfolding reply callOf calls.call repliedCalled propagated propagateRefusal tableStateBad tableOf listOf valuesFor calls.onPropagate calls.refuse
+    short-propagate lit pending t list =
+        let n : propagateRefusal (k .state .plan) (k .state .edges .ends) (k .state .noted) t (length list) (logFor k tail) (k .cursor) lit ≡ 7 = pick-yes _ _ (ap (λ (b : Bool). b || (listShort (k .state .plan) (length list) || tableBad (k .state .plan) t)) bad) in
+        turned-away (propagate lit pending t list tail) refl _
+        (ap repliedCalled (pick-no _ _ (seven _ n) ∙ ap (λ (m : ℕ). called (refuse m (k .state) (k .cursor)) t list (logFor k tail)) n)) _
+        (pick-yes _ _ (ap (λ (b : Bool). not b || badTable d t) (no-room (listShort (k .state .plan) (length list)))))
+
+    short-undo : (lit : ℤ) → Replies k (undo lit tail) (reply k (undo lit tail)) (calls.call d (callOf k (undo lit tail)) w)
+    unfolding reply callOf calls.call undone undoRefusal tableOf listOf valuesFor calls.onUndo calls.refuse
+    short-undo lit =
+        let n : undoRefusal (k .state .plan) (k .state .edges .ends) (k .state .noted) (logFor k tail) (k .cursor) lit ≡ 7 = pick-yes _ _ bad in
+        turned-away (undo lit tail) refl _
+        (ap (λ (y : Outcome). replied y [] [] (logFor k tail)) (pick-no _ _ (seven _ n) ∙ ap (λ (m : ℕ). refuse m (k .state) (k .cursor)) n)) _
+        (pick-yes _ _ (ap (λ (b : Bool). not (not b)) short))
+
+    fetch-seven : (n : ℕ) → fetchRefusal (k .state .plan) (k .state .edges .ends) (k .state .noted) n (logFor k tail) (k .cursor) ≡ 7
+    unfolding fetchRefusal
+    fetch-seven n = pick-yes _ _ (ap (λ (b : Bool). b || reasonShort (k .state .plan) n) bad)
+
+    short-reason : (lit : ℤ) (b : List ℕ) → Replies k (calcReason lit b tail) (reply k (calcReason lit b tail)) (calls.call d (callOf k (calcReason lit b tail)) w)
+    unfolding reply callOf calls.call repliedFetched reasonFetched tableOf listOf valuesFor listIn calls.onCalcReason calls.refuse replied refuse
+    short-reason lit b =
+        let n = fetch-seven (length b) in
+        turned-away (calcReason lit b tail) refl _
+        (ap (repliedFetched k (logFor k tail)) (pick-no _ _ (seven _ n) ∙ ap (λ (m : ℕ). fetched (answer.Refused m) b) n)) _
+        (pick-yes _ _ (ap not (no-room (reasonShort (k .state .plan) (length b)))))
+
+    short-last : (b : List ℕ) → Replies k (calcLast b tail) (reply k (calcLast b tail)) (calls.call d (callOf k (calcLast b tail)) w)
+    unfolding reply callOf calls.call repliedFetched lastFetched tableOf listOf valuesFor listIn calls.onCalcLast calls.refuse replied refuse
+    short-last b =
+        let n = fetch-seven (length b) in
+        turned-away (calcLast b tail) refl _
+        (ap (repliedFetched k (logFor k tail)) (pick-no _ _ (seven _ n) ∙ ap (λ (m : ℕ). fetched (answer.Refused m) b) n)) _
+        (pick-yes _ _ (ap not (no-room (reasonShort (k .state .plan) (length b)))))
+
+  -- a call that is lent a log that is long enough is the definition's, by its own theorem
+  module _ (tail : List ℕ) (long : logShort (k .state .plan) (length (logFor k tail)) ≡ false) where
+    abbrev rep : Represents (k .state) (logFor k tail) (k .cursor) w
+    rep = with-tail k w r tail long
+
+    room-is : (b : Bool) → roomFor (k .state .plan) (length (logFor k tail)) b ≡ not b
+    unfolding roomFor
+    room-is b = ap (λ (x : Bool). not (x || b)) long
+
+    by-called : (t list : List ℕ) (q : Request) (x : Called) (o : calls.Outcome) → listOf q ≡ list → valuesFor q o ≡ o .handed → SimulatesCalled (k .state) list x o → Replies k q (repliedCalled x) o
+    unfolding repliedCalled replied keeping
+    by-called t list q x o e f h = record {
+      answer = h .call .answer;
+      keeps = keeps-represents (x .outcome .state) (x .log) (x .outcome .cursor) (o .world) (h .call .represents);
+      plan = h .call .plan;
+      edges = h .call .edges;
+      table = h .table;
+      list = h .list ∙ ap₂ (λ (a b : List ℕ). sets a 0 b) (sym e) (sym f);
+      whole = subst (λ (l : List ℕ). take (length l) (x .list) ≡ l) (sym f) (ap (take (length (o .handed))) (h .list) ∙ list-taken (o .handed) list (h .fits));
+    }
+
+    by-fetched : (b : List ℕ) (q : Request) (x : Fetched) (o : calls.Outcome) → listOf q ≡ b → valuesFor q o ≡ listIn (o .answer) → o .table ≡ [] → SimulatesFetched (k .state) (logFor k tail) (k .cursor) b x o → Replies k q (repliedFetched k (logFor k tail) x) o
+    unfolding repliedFetched keeping
+    by-fetched b q x o e f t h = record {
+      answer = h .answer;
+      keeps = keeps-represents (k .state) (logFor k tail) (k .cursor) (o .world) (h .represents);
+      plan = refl;
+      edges = refl;
+      table = sym t;
+      list = h .buffer ∙ ap₂ (λ (x y : List ℕ). sets x 0 y) (sym e) (sym f);
+      whole = subst (λ (l : List ℕ). take (length l) (x .buffer) ≡ l) (sym f) (h .whole);
+    }
+
+    long-initialize : (t list : List ℕ) → Replies k (initialize t list tail) (reply k (initialize t list tail)) (calls.call d (callOf k (initialize t list tail)) w)
+    unfolding reply callOf calls.call listOf valuesFor
+    long-initialize t list =
+        by-called t list (initialize t list tail) _ _ refl refl
+        (subst (λ (b : Bool). SimulatesCalled (k .state) list (initialized (k .state) (k .cursor) t (logFor k tail) list) (calls.onInitialize d w b t))
+        (table-room (k .state) (logFor k tail) (k .cursor) w rep (length list) ∙ sym (room-is (listShort (k .state .plan) (length list))))
+        (initialize-simulated (k .state) (logFor k tail) (k .cursor) w rep t list))
+
+    long-propagate : (lit pending : ℤ) (t list : List ℕ) → Replies k (propagate lit pending t list tail) (reply k (propagate lit pending t list tail)) (calls.call d (callOf k (propagate lit pending t list tail)) w)
+    unfolding reply callOf calls.call listOf valuesFor
+    long-propagate lit pending t list =
+        by-called t list (propagate lit pending t list tail) _ _ refl refl
+        (subst (λ (b : Bool). SimulatesCalled (k .state) list (propagated (k .state) (k .cursor) lit pending t list (logFor k tail)) (calls.onPropagate d w b t (litGiven lit) (not (inRange (pos 0) pending))))
+        (table-room (k .state) (logFor k tail) (k .cursor) w rep (length list) ∙ sym (room-is (listShort (k .state .plan) (length list))))
+        (propagate-simulated (k .state) (logFor k tail) (k .cursor) w rep lit t list pending))
+
+    long-undo : (lit : ℤ) → Replies k (undo lit tail) (reply k (undo lit tail)) (calls.call d (callOf k (undo lit tail)) w)
+    unfolding reply callOf calls.call calls.tableOf listOf valuesFor replied keeping
+    long-undo lit =
+        let h = subst (λ (b : Bool). Simulates (k .state) (undone (k .state) (k .cursor) lit (logFor k tail)) (logFor k tail) (calls.onUndo d w b (litGiven lit)))
+        (state-room (k .state) (logFor k tail) (k .cursor) w rep ∙ sym (ap not long)) (undo-simulated (k .state) (logFor k tail) (k .cursor) w rep lit) in
+        record {
+          answer = h .answer;
+          keeps = keeps-represents _ (logFor k tail) _ _ (h .represents);
+          plan = h .plan;
+          edges = h .edges;
+          table = sym (no-table d w (calls.undo (not (logShort (k .state .plan) (length (logFor k tail)))) (litGiven lit)) refl);
+          list = refl;
+          whole = refl;
+        }
+
+    long-reason : (lit : ℤ) (b : List ℕ) → Replies k (calcReason lit b tail) (reply k (calcReason lit b tail)) (calls.call d (callOf k (calcReason lit b tail)) w)
+    unfolding reply callOf calls.call calls.tableOf listOf valuesFor
+    long-reason lit b =
+        by-fetched b (calcReason lit b tail) _ _ refl refl (no-table d w (calls.calcReason (roomFor (k .state .plan) (length (logFor k tail)) (reasonShort (k .state .plan) (length b))) (litGiven lit)) refl)
+        (subst (λ (x : Bool). SimulatesFetched (k .state) (logFor k tail) (k .cursor) b (reasonFetched (k .state) (k .cursor) (logFor k tail) lit b) (calls.onCalcReason d w x (litGiven lit)))
+        (fetch-room (k .state) (logFor k tail) (k .cursor) w rep (length b) ∙ sym (room-is (reasonShort (k .state .plan) (length b))))
+        (reason-simulated (k .state) (logFor k tail) (k .cursor) w rep b lit))
+
+    long-last : (b : List ℕ) → Replies k (calcLast b tail) (reply k (calcLast b tail)) (calls.call d (callOf k (calcLast b tail)) w)
+    unfolding reply callOf calls.call calls.tableOf listOf valuesFor
+    long-last b =
+        by-fetched b (calcLast b tail) _ _ refl refl (no-table d w (calls.calcLast (roomFor (k .state .plan) (length (logFor k tail)) (reasonShort (k .state .plan) (length b)))) refl)
+        (subst (λ (x : Bool). SimulatesFetched (k .state) (logFor k tail) (k .cursor) b (lastFetched (k .state) (k .cursor) (logFor k tail) b) (calls.onCalcLast w x))
+        (fetch-room (k .state) (logFor k tail) (k .cursor) w rep (length b) ∙ sym (room-is (reasonShort (k .state .plan) (length b))))
+        (last-simulated (k .state) (logFor k tail) (k .cursor) w rep b))
+
+  -- the reply to any request is that of the definition's call
+  pub reply-is : (q : Request) → Replies k q (reply k q) (calls.call d (callOf k q) w)
+  reply-is (initialize t list tail) = tested (logShort (k .state .plan) (length (logFor k tail))) (λ e. short-initialize tail e t list) (λ e. long-initialize tail e t list)
+  reply-is (propagate lit pending t list tail) = tested (logShort (k .state .plan) (length (logFor k tail))) (λ e. short-propagate tail e lit pending t list) (λ e. long-propagate tail e lit pending t list)
+  reply-is (undo lit tail) = tested (logShort (k .state .plan) (length (logFor k tail))) (λ e. short-undo tail e lit) (λ e. long-undo tail e lit)
+  reply-is (calcReason lit b tail) = tested (logShort (k .state .plan) (length (logFor k tail))) (λ e. short-reason tail e lit b) (λ e. long-reason tail e lit b)
+  reply-is (calcLast b tail) = tested (logShort (k .state .plan) (length (logFor k tail))) (λ e. short-last tail e b) (λ e. long-last tail e b)
 
 -- from h to k, the world then; the plan stays
 pub record Leads (h k : Kept) (w : World) : Type 0 where
@@ -104,27 +305,33 @@ pub record Leads (h k : Kept) (w : World) : Type 0 where
   pub plan : k .state .plan ≡ h .state .plan
   pub edges : k .state .edges ≡ h .state .edges
 
-step-leads : (g : Given) (h : Kept) (w : World) → RepresentsKept h w → Leads h (step g h) (calls.call (planIn (h .state)) (callOf (h .state .plan) g) w .world)
-unfolding step
-step-leads (propagate lit pending t list) h w r = let x = propagate-is h w r lit pending t list .call in record { represents = x .represents; plan = x .plan; edges = x .edges }
-step-leads (undo lit) h w r = let x = undo-is h w r lit in record { represents = x .represents; plan = x .plan; edges = x .edges }
-step-leads (reasonFor lit b) h w r = record { represents = reason-is h w r lit b .represents; plan = refl; edges = refl }
-step-leads (lastLeft b) h w r = record { represents = last-is h w r b .represents; plan = refl; edges = refl }
+pub after-leads : (qs : List Request) (k : Kept) (w : World) → RepresentsKept k w → Leads k (after k qs) (calls.after (planIn (k .state)) w (callsOf k qs))
+unfolding after calls.after callsOf keeping
+after-leads [] k w r = record { represents = r; plan = refl; edges = refl }
+after-leads (q ∷ qs) k w r =
+    let h = keeping (reply k q) in
+    let a = reply-is k w r q in
+    let v = calls.call (planIn (k .state)) (callOf k q) w .world in
+    let i = after-leads qs h v (a .keeps) in
+    let e : calls.after (planIn (h .state)) v (callsOf h qs) ≡ calls.after (planIn (k .state)) v (callsOf h qs) =
+    ap₂ (λ (ws : List ℕ) (es : EdgeTable). calls.after (planOf ws (es .ends)) v (callsOf h qs)) (a .plan) (a .edges) in
+    record { represents = subst (RepresentsKept (after h qs)) e (i .represents); plan = i .plan ∙ a .plan; edges = i .edges ∙ a .edges }
 
-pub steps-lead : (gs : List Given) (h : Kept) (w : World) → RepresentsKept h w → Leads h (steps gs h) (calls.after (planIn (h .state)) w (callsOf (h .state .plan) gs))
-unfolding steps calls.after callsOf
-steps-lead [] h w r = record { represents = r; plan = refl; edges = refl }
-steps-lead (g ∷ gs) h w r =
-    let k = step g h in
-    let a = step-leads g h w r in
-    let v = calls.call (planIn (h .state)) (callOf (h .state .plan) g) w .world in
-    let i = steps-lead gs k v (a .represents) in
-    let e : calls.after (planIn (k .state)) v (callsOf (k .state .plan) gs) ≡ calls.after (planIn (h .state)) v (callsOf (h .state .plan) gs) =
-    ap₂ (λ (ws : List ℕ) (es : EdgeTable). calls.after (planOf ws (es .ends)) v (callsOf ws gs)) (a .plan) (a .edges) in
-    record { represents = subst (RepresentsKept (steps gs k)) e (i .represents); plan = i .plan ∙ a .plan; edges = i .edges ∙ a .edges }
+-- a state that is built, with nothing in the log
+abbrev pub fresh : Built → Kept
+fresh b = kept (b .state) (cursorAt 0 0) []
 
--- after any calls on a state that is built, with any log that is long enough: the world is that of the definition's run
-pub run-represents : (vs : List ℤ) (n : ℕ) (es : List ℤ) (m : ℕ) (a b : Bool) → built vs n es m a b .refusal ≡ 0 → (log : List ℕ) → logShort (built vs n es m a b .state .plan) (length log) ≡ false → (gs : List Given) →
-    Leads (kept (built vs n es m a b .state) log (cursorAt 0 0)) (steps gs (kept (built vs n es m a b .state) log (cursorAt 0 0))) (calls.run (planIn (built vs n es m a b .state)) (callsOf (built vs n es m a b .state .plan) gs))
+enough : (ws : List ℕ) → logShort ws (length (replicate {A = ℕ} (2 * slotsOf ws) 0)) ≡ false
+unfolding logShort
+enough ws = le-ltb _ (2 * slotsOf ws) (omega (arith, length-replicate {A = ℕ} (2 * slotsOf ws) 0))
+
+pub fresh-represents : (vs : List ℤ) (n : ℕ) (es : List ℤ) (m : ℕ) (a b : Bool) → built vs n es m a b .refusal ≡ 0 → RepresentsKept (fresh (built vs n es m a b)) calls.built
+fresh-represents vs n es m a b z =
+    let ws = built vs n es m a b .state .plan in
+    record { used = refl; rest = replicate (2 * slotsOf ws) 0; represents = new-represents vs n es m a b z _ (enough ws) }
+
+-- after any list of calls on a state that is built, the world is that of the definition's run
+pub run-represents : (vs : List ℤ) (n : ℕ) (es : List ℤ) (m : ℕ) (a b : Bool) → built vs n es m a b .refusal ≡ 0 → (qs : List Request) →
+    Leads (fresh (built vs n es m a b)) (after (fresh (built vs n es m a b)) qs) (calls.run (planIn (built vs n es m a b .state)) (callsOf (fresh (built vs n es m a b)) qs))
 unfolding calls.run
-run-represents vs n es m a b z log long gs = steps-lead gs (kept (built vs n es m a b .state) log (cursorAt 0 0)) calls.built (new-represents vs n es m a b z log long)
+run-represents vs n es m a b z qs = after-leads qs (fresh (built vs n es m a b)) calls.built (fresh-represents vs n es m a b z)

@@ -21,7 +21,8 @@ use Rattle.graph_division.specs.declared.GraphDivision.{GraphDivision}
 use Rattle.graph_division.specs.declared.Outcome.{Outcome}
 use Rattle.graph_division.specs.declared.Answer.the-variants as answer
 use Rattle.graph_division.specs.Calls.{outcome, withNoted, undone}
-use Rattle.graph_division.proofs.Represents.{planIn, Represents, answerFor, answerOf, Simulates, noted-represents, refused-simulates}
+use Rattle.graph_division.specs.Outcomes.{answerFor, answerOf}
+use Rattle.graph_division.proofs.Represents.{planIn, Represents, Simulates, noted-represents, refused-simulates}
 
 -- outcomes that are equal to ones that simulate
 pub simulates-by : (s : GraphDivision) (log : List ℕ) {y z : Outcome} {o q : calls.Outcome} → y ≡ z → o ≡ q → Simulates s z log q → Simulates s y log o

@@ -1,6 +1,6 @@
 -- The calls on the propagator's state, on any input. A call that is refused leaves the state, the cursor and all that it was lent.
 use mathlib.Core.Bool.{Bool, true, false}
-use mathlib.Core.List.{List, [], _∷_}
+use mathlib.Core.List.{List, []}
 use Prim.Native.Nat.{ℕ, _/_}
 use lib.Dec.{eqb, ltb}
 use lib.IntN.{ℤ, pos}
@@ -26,6 +26,7 @@ use Rattle.sweep.specs.Sweep.{Handed, handing, handedOn}
 use Rattle.judge.specs.declared.Judgement.{Judgement}
 use Rattle.judge.specs.declared.Judgement.the-variants.{Fine, Clash, Stopped}
 use Rattle.judge.specs.Judge.{Judged, judgeWords}
+use Rattle.notifications.specs.Notifications as notifications
 use Rattle.graph_division.specs.declared.GraphDivision.{GraphDivision}
 use Rattle.graph_division.specs.declared.Outcome.{Outcome}
 use Rattle.graph_division.specs.declared.Answer.{Answer}
@@ -78,7 +79,7 @@ module _ (s : GraphDivision) (c : Cursor) where
 
   -- the words noted, tried out with no log
   unfoldable pub triedOut : ℕ → List ℕ
-  triedOut l = note (s .plan) l (noting (s .noted) (0 ∷ []) (record { used = 0; standing = 0 })) .noted
+  triedOut l = notifications.triedOut (s .plan) l (s .noted)
 
   -- "A non-zero pending number, negative included, only notes the literal."
   unfoldable pub adding : ℕ → List ℕ → List ℕ → List ℕ → Called

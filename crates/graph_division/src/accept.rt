@@ -5,11 +5,10 @@ use crate::Outcome;
 use noting::note::note;
 use undo_log::Cursor;
 ghost use mathlib.Core.Path.{_≡_};
-ghost use mathlib.Core.List.{_∷_, []};
-ghost use Rattle.noting.specs.Note.{noting, note};
+ghost use mathlib.Core.List.{[]};
 ghost use Rattle.judge.specs.declared.Judgement.the-variants.{Fine};
 ghost use Rattle.judge.specs.Judge.{judgedOf};
-ghost use Rattle.graph_division.specs.Calls.{outcome, called, refuse, withNoted, triedOut, adding, accepting};
+ghost use Rattle.graph_division.specs.Calls.{called, refuse, adding, accepting};
 
 pub(crate) fn refuse(s: GraphDivision, cursor: Cursor, number: u32) -> Outcome
     ensures { λ r. ⌜ r ≡ refuse number s cursor ⌝ }
@@ -19,18 +18,6 @@ pub(crate) fn refuse(s: GraphDivision, cursor: Cursor, number: u32) -> Outcome
         cursor: cursor,
         answer: Answer::Refused { number: number },
     }
-}
-
-// The words noted with literal `lit`, tried out with no log.
-pub(crate) fn tried_out(plan: &[u32; 15241], noted: &mut [u32; 384], lit: u16)
-    ensures { λ _. ⌜ now (noted .exit) ≡ note (now (plan .entry)) lit (noting (now (noted .entry)) (0 ∷ []) (record { used = 0; standing = 0 })) .noted ⌝ }
-{
-    let mut none = [0u64; 1];
-    let start = Cursor {
-        used: 0,
-        standing: 0,
-    };
-    note(plan, noted, &mut none, start, lit);
 }
 
 // The literal is noted and nothing is analyzed.

@@ -34,7 +34,7 @@ fn push(buffer: &mut [u32], at: usize, x: u32) -> usize
 }
 
 // The first n words of the list, as many as there is room for.
-fn copy(list: &[u32], n: usize, buffer: &mut [u32])
+pub(crate) fn copy(list: &[u32], n: usize, buffer: &mut [u32])
     ensures { λ _. ⌜ now (buffer .exit) ≡ written (tab (word (now (list .entry))) n) (outOf (now (buffer .entry)) 0) .text ⌝ }
 {
     let mut at = 0;

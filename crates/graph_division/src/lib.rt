@@ -1,6 +1,7 @@
 // The propagator's state, and how it is built.
 pub mod accept;
 pub mod calc_reason;
+pub mod initialize;
 pub mod propagate;
 pub mod undo;
 

@@ -5,14 +5,14 @@ use crate::Outcome;
 use crate::accept::accept;
 use crate::accept::add;
 use crate::accept::refuse;
-use crate::accept::tried_out;
 use judge::Judgement;
+use notifications::try_out;
 use undo_log::Cursor;
 ghost use mathlib.Core.Path.{_≡_};
 ghost use lib.ListN.{replicate};
 ghost use Rattle.graph_division.specs.Calls.{called, settled, propagated};
 
-fn no_words() -> [u64; 8704]
+pub(crate) fn no_words() -> [u64; 8704]
     ensures { λ r. ⌜ r ≡ replicate 8704 0 ⌝ }
 {
     [0u64; 8704]
@@ -32,7 +32,7 @@ fn settle(
     let held = s.edges;
     let edges = edge_table::table_of(held);
     let mut noted = s.noted;
-    tried_out(&s.plan, &mut noted, lit);
+    try_out(&s.plan, &mut noted, lit);
     let mut proposals = no_words();
     let mut left = crate::no_list();
     let found = judge::judge(&s.plan, edges, &noted, table, &mut proposals, &mut left);

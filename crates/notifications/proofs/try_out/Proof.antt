@@ -1,8 +1,8 @@
 use mathlib.Core.Path.{_≡_, refl, sym, ap, ap₂, _∙_}
 use Rattle.noting.specs.Note.{Noting}
 use borrow.Author.Needs.{needs}
-use Rattle.graph_division.proofs.accept.tried_out.Statement.{statement}
-use Rattle.graph_division.proofs.accept.tried_out.Tie as tie
+use Rattle.notifications.proofs.try_out.Statement.{statement}
+use Rattle.notifications.proofs.try_out.Tie as tie
 
 slice-aggregate-note : tie.Need-slice-aggregate-note
 slice-aggregate-note c = search needs
@@ -13,5 +13,5 @@ note-requires c κs = search needs
 returns : tie.Need-returns
 returns c = ap (λ (x : Noting). x .noted) (c .before .note .ensures)
 
-pub tried-out-spec : {M : Type 1} → statement M
-tried-out-spec = tie.close (tie.spec slice-aggregate-note note-requires returns)
+pub try-out-spec : {M : Type 1} → statement M
+try-out-spec = tie.close (tie.spec slice-aggregate-note note-requires returns)

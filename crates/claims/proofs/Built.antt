@@ -1,0 +1,52 @@
+-- The three conditions of the order, on any plan that builds.
+use mathlib.Core.Path.{_≡_, refl}
+use mathlib.Core.Bool.{Bool, true, false}
+use mathlib.Core.List.{List}
+use Prim.Native.Nat.{ℕ}
+use lib.IntN.{ℤ}
+use Rattle.division.specs.Plan.{Plan, Proper, Plain}
+use Rattle.plan.proofs.Abstract.{proper-plan}
+use Rattle.builder.specs.Given.{Given}
+use Rattle.builder.proofs.Built.{new-proper}
+use Rattle.calls.specs.Calls as calls
+use Rattle.graph_division.specs.New.{built}
+use Rattle.graph_division.specs.Runs.{Kept}
+use Rattle.graph_division.proofs.Represents.{planIn}
+use Rattle.graph_division.proofs.Running.{fresh, fresh-represents}
+use Rattle.claims.specs.Conditions.{Condition1, Condition2, Condition3}
+use Rattle.claims.proofs.Replying.{At}
+use Rattle.claims.proofs.Lists as lists
+
+module _ (vs : List ℤ) (n : ℕ) (es : List ℤ) (m : ℕ) (sameSize extraWalls : Bool) (z : built vs n es m sameSize extraWalls .refusal ≡ 0) where
+  abbrev start : Kept
+  start = fresh (built vs n es m sameSize extraWalls)
+
+  abbrev d : Plan
+  d = planIn (start .state)
+
+  at-start : At d start calls.built
+  at-start = record { represents = fresh-represents vs n es m sameSize extraWalls z; plan = refl }
+
+  -- the plan is the one that was given, number by number
+  pub given-built : Given vs n es m sameSize extraWalls (start .state .plan) (start .state .edges .ends)
+  unfolding built
+  given-built = new-proper vs n es m sameSize extraWalls z .2
+
+  pub proper-built : Proper d
+  unfolding built
+  proper-built = proper-plan _ _ (new-proper vs n es m sameSize extraWalls z .0)
+
+  -- under either option
+  pub condition-1 : Condition1 start d
+  condition-1 = lists.condition-1 d start at-start
+
+  pub condition-2 : Condition2 start d
+  condition-2 = lists.condition-2 d start at-start proper-built
+
+-- "Both options off, on any plan that builds"
+module _ (vs : List ℤ) (n : ℕ) (es : List ℤ) (m : ℕ) (z : built vs n es m false false .refusal ≡ 0) where
+  plain-built : Plain (d vs n es m false false z)
+  plain-built = record { sizes = given-built vs n es m false false z .sameSize; walls = given-built vs n es m false false z .extraWalls }
+
+  pub condition-3 : Condition3 (start vs n es m false false z) (d vs n es m false false z)
+  condition-3 = lists.condition-three _ _ (at-start vs n es m false false z) (proper-built vs n es m false false z) plain-built

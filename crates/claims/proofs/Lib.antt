@@ -1,0 +1,4 @@
+pub mod Replying
+pub mod Refusing
+pub mod Lists
+pub mod Built

@@ -1,0 +1,128 @@
+-- On any state, log, cursor and buffers, damaged ones included: a refused call leaves everything, and a state that is none is refused.
+use mathlib.Core.Path.{_≡_, refl, sym, ap, _∙_}
+use mathlib.Core.Bool.{Bool, true, false, not, _||_}
+use mathlib.Core.List.{List, [], _∷_}
+use Prim.Native.Nat.{ℕ}
+use native.Mathlib.Omega.{arith}
+use lib.IntN.{ℤ, pos}
+use lib.Dec.{eqb, ltb}
+use lib.ListN.{length}
+use Rattle.base.specs.Iter.{pick}
+use Rattle.base.specs.Range.{inRange}
+use Rattle.base.proofs.Loop.{pick-yes, pick-no, tested}
+use Rattle.walks.specs.declared.Listed.{Listed}
+use Rattle.walks.specs.declared.Listed.the-variants.{Past, Missing}
+use Rattle.noting.specs.Buffers.{tableBad, listShort, reasonShort}
+use Rattle.refusals.specs.Refusals.{litNumber, literalRefusal, stateBad, tableStateBad, initializeRefusal, propagateRefusal, undoRefusal, fetchRefusal}
+use Rattle.judge.specs.declared.Judgement.{Judgement}
+use Rattle.judge.specs.declared.Judgement.the-variants.{Fine, Clash, Stopped}
+use Rattle.judge.specs.Judge.{Judged, judgeWords}
+use Rattle.graph_division.specs.declared.Outcome.{Outcome}
+use Rattle.graph_division.specs.declared.Answer.{Answer}
+use Rattle.graph_division.specs.declared.Answer.the-variants.{Consistent, Conflict, Noted, Undone, Reason, Refused}
+use Rattle.graph_division.specs.Calls.{Called, called, refuse, adding, accepting, handingOn, settledBy, settled, propagated, undone, Fetched, fetched, copied, reasonGiven, isNone, listFor, recordedFor, giving, reasonFetched, lastFetched}
+use Rattle.graph_division.specs.Initialize.{taking, takenOver, finished, begunBy, begun, initialized}
+use Rattle.graph_division.specs.Runs.{Request, initialize, propagate, undo, calcReason, calcLast, tableOf, listOf, tailOf, Kept, logFor, Reply, replied, repliedCalled, repliedFetched, reply}
+use Rattle.claims.specs.Conditions.{turnedAwayWith}
+
+unfoldable kindOf : Answer → ℕ
+kindOf (Consistent n) = 0
+kindOf Conflict = 1
+kindOf Noted = 2
+kindOf Undone = 3
+kindOf (Reason n) = 4
+kindOf (Refused n) = 5
+
+unfoldable numberIn : Answer → ℕ
+numberIn (Consistent n) = n
+numberIn Conflict = 0
+numberIn Noted = 0
+numberIn Undone = 0
+numberIn (Reason n) = n
+numberIn (Refused n) = n
+
+-- any reply that is turned away is turned away with the number that it answers
+Unchanged : Kept → Request → Reply → Type 0
+Unchanged k q y = (n : ℕ) → y .answer ≡ Refused n → y ≡ turnedAwayWith k q n
+
+module _ (k : Kept) (q : Request) where
+  away : (m : ℕ) (y : Reply) → y ≡ turnedAwayWith k q m → Unchanged k q y
+  unfolding Unchanged turnedAwayWith replied refuse numberIn
+  away m y e n f = e ∙ ap (turnedAwayWith k q) (ap numberIn (ap (λ (z : Reply). z .answer) (sym e) ∙ f))
+
+  -- one that answers anything else is not
+  other : (y : Reply) (a : Answer) → y .answer ≡ a → (kindOf a ≡ 5 → ⊥) → Unchanged k q y
+  unfolding Unchanged kindOf
+  other y a e h n f = absurd (h (ap kindOf (sym e ∙ f)))
+
+  by-test : (b : Bool) (x y : Called) → Unchanged k q (repliedCalled x) → Unchanged k q (repliedCalled y) → Unchanged k q (repliedCalled (pick b x y))
+  unfolding pick
+  by-test true x y g h = g
+  by-test false x y g h = h
+
+  by-fetch : (log : List ℕ) (b : Bool) (x y : Fetched) → Unchanged k q (repliedFetched k log x) → Unchanged k q (repliedFetched k log y) → Unchanged k q (repliedFetched k log (pick b x y))
+  unfolding pick
+  by-fetch log true x y g h = g
+  by-fetch log false x y g h = h
+
+module _ (k : Kept) where
+  begun-unchanged : (t list tail : List ℕ) (j : Judgement) → Unchanged k (initialize t list tail) (repliedCalled (begunBy (k .state) (k .cursor) t (logFor k tail) j list))
+  unfolding begunBy taking takenOver repliedCalled replied turnedAwayWith tableOf listOf tailOf kindOf
+  begun-unchanged t list tail Fine = other k (initialize t list tail) _ (Consistent _) refl (λ e. omega arith)
+  begun-unchanged t list tail (Clash n) = other k (initialize t list tail) _ Conflict refl (λ e. omega arith)
+  begun-unchanged t list tail (Stopped n) = away k (initialize t list tail) n _ refl
+
+  settled-unchanged : (lit pending : ℤ) (t list tail : List ℕ) (l : ℕ) (x : Judged) (j : Judgement) → Unchanged k (propagate lit pending t list tail) (repliedCalled (settledBy (k .state) (k .cursor) l x j t list (logFor k tail)))
+  unfolding settledBy handingOn accepting repliedCalled replied turnedAwayWith tableOf listOf tailOf kindOf
+  settled-unchanged lit pending t list tail l x Fine = other k (propagate lit pending t list tail) _ (Consistent _) refl (λ e. omega arith)
+  settled-unchanged lit pending t list tail l x (Clash n) = other k (propagate lit pending t list tail) _ Conflict refl (λ e. omega arith)
+  settled-unchanged lit pending t list tail l x (Stopped n) = away k (propagate lit pending t list tail) n _ refl
+
+  given-unchanged : (lit : ℤ) (b tail l : List ℕ) (x : Listed) → Unchanged k (calcReason lit b tail) (repliedFetched k (logFor k tail) (reasonGiven l x b))
+  unfolding reasonGiven copied repliedFetched replied refuse turnedAwayWith tableOf listOf tailOf kindOf
+  given-unchanged lit b tail l (Past n) = other k (calcReason lit b tail) _ (Reason n) refl (λ e. omega arith)
+  given-unchanged lit b tail l Missing = away k (calcReason lit b tail) 16 _ refl
+
+  -- a call that is refused leaves the state, the cursor and all that it was lent
+  refused-initialize : (t list tail : List ℕ) → Unchanged k (initialize t list tail) (reply k (initialize t list tail))
+  unfolding reply initialized begun turnedAwayWith tableOf listOf tailOf repliedCalled
+  refused-initialize t list tail = by-test k (initialize t list tail) _ _ _ (begun-unchanged t list tail (finished (k .state) (k .cursor) t (logFor k tail) .progress .judgement)) (away k (initialize t list tail) _ _ refl)
+
+  refused-propagate : (lit pending : ℤ) (t list tail : List ℕ) → Unchanged k (propagate lit pending t list tail) (reply k (propagate lit pending t list tail))
+  unfolding reply propagated settled adding turnedAwayWith tableOf listOf tailOf repliedCalled replied kindOf
+  refused-propagate lit pending t list tail =
+      let q = propagate lit pending t list tail in
+      by-test k q _ _ _
+      (by-test k q _ _ _ (settled-unchanged lit pending t list tail _ _ _) (other k q _ Noted refl (λ e. omega arith)))
+      (away k q _ _ refl)
+
+  refused-undo : (lit : ℤ) (tail : List ℕ) → Unchanged k (undo lit tail) (reply k (undo lit tail))
+  unfolding reply undone turnedAwayWith tableOf listOf tailOf replied kindOf
+  refused-undo lit tail = tested (eqb (undoRefusal (k .state .plan) (k .state .edges .ends) (k .state .noted) (logFor k tail) (k .cursor) lit) 0)
+      (λ e. other k (undo lit tail) _ Undone (ap (λ (y : Outcome). y .answer) (pick-yes _ _ e)) (λ z. omega arith))
+      (λ e. away k (undo lit tail) _ _ (ap (λ (y : Outcome). replied y [] [] (logFor k tail)) (pick-no _ _ e)))
+
+  refused-reason : (lit : ℤ) (b tail : List ℕ) → Unchanged k (calcReason lit b tail) (reply k (calcReason lit b tail))
+  unfolding reply reasonFetched giving turnedAwayWith tableOf listOf tailOf repliedFetched replied refuse
+  refused-reason lit b tail =
+      let q = calcReason lit b tail in
+      by-fetch k q _ _ _ _
+      (by-fetch k q _ _ _ _ (by-fetch k q _ _ _ _ (away k q 15 _ refl) (given-unchanged lit b tail _ _)) (away k q _ _ refl))
+      (away k q _ _ refl)
+
+  refused-last : (b tail : List ℕ) → Unchanged k (calcLast b tail) (reply k (calcLast b tail))
+  unfolding reply lastFetched copied turnedAwayWith tableOf listOf tailOf repliedFetched replied refuse kindOf
+  refused-last b tail =
+      let q = calcLast b tail in
+      by-fetch k q _ _ _ _
+      (by-fetch k q _ _ _ _ (away k q 7 _ refl) (other k q _ (Reason _) refl (λ e. omega arith)))
+      (away k q _ _ refl)
+
+  -- a call that is refused leaves the state, the cursor and all that it was lent
+  pub refused-unchanged : (q : Request) (n : ℕ) → reply k q .answer ≡ Refused n → reply k q ≡ turnedAwayWith k q n
+  unfolding Unchanged
+  refused-unchanged (initialize t list tail) = refused-initialize t list tail
+  refused-unchanged (propagate lit pending t list tail) = refused-propagate lit pending t list tail
+  refused-unchanged (undo lit tail) = refused-undo lit tail
+  refused-unchanged (calcReason lit b tail) = refused-reason lit b tail
+  refused-unchanged (calcLast b tail) = refused-last b tail

@@ -1,0 +1,144 @@
+-- The conditions of the order, over any list of requests to a propagator from a state that is freshly built, refused ones included.
+use Prim.Native.Nat.{ℕ}
+use mathlib.Core.Path.{_≡_}
+use mathlib.Core.Logic.{_↔_}
+use mathlib.Core.Bool.{Bool, true, false}
+use mathlib.Core.List.{List, [], _∷_, _++_}
+use lib.IntN.{ℤ, pos}
+use lib.ListN.{take}
+use Rattle.base.specs.Iter.{pick}
+use Rattle.base.specs.Lists.{Every}
+use Rattle.sat.specs.Literal.{Holds}
+use Rattle.division.specs.Plan.{Plan}
+use Rattle.division.specs.Division.{Valid, Describes}
+use Rattle.division.specs.Reasons as abstract
+use Rattle.division.specs.Analysis.{Proposal}
+use Rattle.division.specs.Noting.{In}
+use Rattle.division.specs.Runs.{reasonOf}
+use Rattle.division.proofs.Proposed.{Each}
+use Rattle.refusals.specs.Calls.{litGiven}
+use Rattle.calls.specs.Table.{codeOf, unsetIn, entered}
+use Rattle.calls.specs.Marks.{sign}
+use Rattle.calls.specs.Calls as calls
+use Rattle.calls.specs.Calls.{World}
+use Rattle.calls.specs.Refusals.{Applies, First}
+use Rattle.calls.specs.Truths.{Walked, Recorded, Analyzes, Backed}
+use Rattle.calls.specs.Claim.{addUpTo, tail, Covers}
+use Rattle.graph_division.specs.declared.Answer.{Answer}
+use Rattle.graph_division.specs.declared.Answer.the-variants.{Consistent, Conflict, Noted, Undone, Reason, Refused}
+use Rattle.graph_division.specs.Calls.{refuse}
+use Rattle.graph_division.specs.Runs.{Request, initialize, propagate, undo, calcReason, calcLast, tableOf, listOf, tailOf, Kept, logFor, Reply, replied, reply, keeping, after, callOf, callsOf}
+use Rattle.graph_division.specs.Outcomes.{answerOf}
+
+unfoldable pub accepted : Answer → Bool
+accepted (Consistent handed) = true
+accepted Conflict = true
+accepted Noted = true
+accepted Undone = true
+accepted (Reason len) = true
+accepted (Refused number) = false
+
+unfoldable pub isConsistent : Answer → Bool
+isConsistent (Consistent handed) = true
+isConsistent Conflict = false
+isConsistent Noted = false
+isConsistent Undone = false
+isConsistent (Reason len) = false
+isConsistent (Refused number) = false
+
+-- Document 01, "Undo log": "For condition 3 the standing literals follow from the calls": "an accepted notification adds its literal, an
+-- accepted undo takes the newest away; an accepted initialise adds, in rising order, the plan's literals true in the table on entry, up to
+-- and with the first, if any, whose own analysis is a conflict"; the newest first
+unfoldable pub counts : Plan → Request → List ℕ → List ℕ
+counts d (initialize t list rest) ls = addUpTo d ls t (entered d t)
+counts d (propagate lit pending t list rest) ls = litGiven lit ∷ ls
+counts d (undo lit rest) ls = tail ls
+counts d (calcReason lit b rest) ls = ls
+counts d (calcLast b rest) ls = ls
+
+-- "every other call, refused ones included, leaves them"
+unfoldable pub counted : Plan → Kept → List Request → List ℕ → List ℕ
+counted d k [] ls = ls
+counted d k (q ∷ qs) ls = counted d (keeping (reply k q)) qs (pick (accepted (reply k q .answer)) (counts d q ls) ls)
+
+-- Document 01, "Value table": "A handed-on literal is one that was unset; its entry becomes 3 or 4."
+pub record HandsOn (k : Kept) (q : Request) (l : ℕ) : Type 0 where
+  pub unset : unsetIn (tableOf q) l ≡ true
+  pub set : codeOf (reply k q .table) l ≡ sign l
+
+-- a refused call or a fetch
+pub data Quiet (k : Kept) : Request → Type 0 where
+  aReason : (lit : ℤ) (b rest : List ℕ) → Quiet k (calcReason lit b rest)
+  aLast : (b rest : List ℕ) → Quiet k (calcLast b rest)
+  turnedAway : (q : Request) → accepted (reply k q .answer) ≡ false → Quiet k q
+
+pub data AllQuiet : Kept → List Request → Type 0 where
+  done : {k : Kept} → AllQuiet k []
+  next : {k : Kept} {q : Request} {qs : List Request} → Quiet k q → AllQuiet (keeping (reply k q)) qs → AllQuiet k (q ∷ qs)
+
+-- the reply to a call that is refused: the number, and the state, the cursor and all that it was lent as before
+unfoldable pub turnedAwayWith : Kept → Request → ℕ → Reply
+turnedAwayWith k q n = replied (refuse n (k .state) (k .cursor)) (tableOf q) (listOf q) (logFor k (tailOf q))
+
+-- the literals that a fetch gives: the first len of the reason buffer
+abbrev pub fetchedBy : Reply → ℕ → List ℕ
+fetchedBy r len = take len (r .list)
+
+-- the world of the definitions of crate calls after a list of requests
+abbrev pub worldAfter : Plan → Kept → List Request → World
+worldAfter d start before = calls.run d (callsOf start before)
+
+-- Condition 1, of the calls; that of building is crate builder's. A list of requests `before`, then request q.
+pub record Condition1 (start : Kept) (d : Plan) : Type 0 where
+  -- "Every call to which document 01 assigns no refusal number is accepted": none of the table's rows applies
+  pub accepts : (before : List Request) (q : Request) →
+      (accepted (reply (after start before) q .answer) ≡ true) ↔ ((n : ℕ) → Applies d (worldAfter d start before) (callOf (after start before) q) n → ⊥)
+  -- "gives the one answer fixed there"
+  pub answers : (before : List Request) (q : Request) → reply (after start before) q .answer ≡ answerOf (calls.call d (callOf (after start before) q) (worldAfter d start before))
+  -- "Every other call is refused with the number that 01 assigns": the first whose row applies
+  pub refuses : (before : List Request) (q : Request) (n : ℕ) →
+      (reply (after start before) q .answer ≡ Refused n) ↔ First d (worldAfter d start before) (callOf (after start before) q) n
+  -- "and the state and every lent buffer then hold what they held before"
+  pub unchanged : (before : List Request) (q : Request) (n : ℕ) → reply (after start before) q .answer ≡ Refused n → reply (after start before) q ≡ turnedAwayWith (after start before) q n
+
+-- Condition 2, "The comments on CustomPropagator in sat.rs, as 01 reads them", of what the calls give
+pub record Condition2 (start : Kept) (d : Plan) : Type 0 where
+  -- the literals of a consistent answer are those handed on, in their order
+  pub began : (before : List Request) (t list rest : List ℕ) (n : ℕ) → reply (after start before) (initialize t list rest) .answer ≡ Consistent n →
+      take n (reply (after start before) (initialize t list rest) .list) ≡ calls.call d (callOf (after start before) (initialize t list rest)) (worldAfter d start before) .handed
+  pub notified : (before : List Request) (lit pending : ℤ) (t list rest : List ℕ) (n : ℕ) → reply (after start before) (propagate lit pending t list rest) .answer ≡ Consistent n →
+      take n (reply (after start before) (propagate lit pending t list rest) .list) ≡ calls.call d (callOf (after start before) (propagate lit pending t list rest)) (worldAfter d start before) .handed
+  -- and the table shows each, of any call: a literal of the definition's is one that was unset and is true then
+  pub shown : (before : List Request) (q : Request) (l : ℕ) → HandsOn (after start before) q l → In (calls.call d (callOf (after start before) q) (worldAfter d start before) .handed) l
+  -- the list that a conflict leaves, fetched straight after it: each literal stands, but a false proposal's negation, which is true in the table
+  pub conflicts : (before : List Request) (q : Request) (b rest : List ℕ) (len : ℕ) →
+      reply (after start before) q .answer ≡ Conflict → reply (keeping (reply (after start before) q)) (calcLast b rest) .answer ≡ Reason len →
+      Backed (counted d start (before ++ (q ∷ [])) []) (reply (after start before) q .table) (fetchedBy (reply (keeping (reply (after start before) q)) (calcLast b rest)) len)
+  -- a fetched reason, whatever was undone since: its literals stand, but those that the reason holds, which stood when it was recorded
+  pub reasons : (before : List Request) (lit : ℤ) (b rest : List ℕ) (len : ℕ) → reply (after start before) (calcReason lit b rest) .answer ≡ Reason len →
+      (r : abstract.Reason) × (reasonOf (litGiven lit) (worldAfter d start before .reasons) ≡ r ∷ []) ×
+      Walked d (counted d start before []) r (fetchedBy (reply (after start before) (calcReason lit b rest)) len)
+  -- and each that a call records is one of an analysis that it made, and what it holds stood there
+  pub recorded : (before : List Request) (q : Request) → (recent : List Proposal) ×
+      (worldAfter d start (before ++ (q ∷ [])) .reasons ≡ recent ++ worldAfter d start before .reasons) ×
+      Each (λ l r. (ms : List ℕ) × Analyzes d (worldAfter d start before) (callOf (after start before) q) ms × Recorded d ms l r) recent
+
+-- "for every list of these calls (initialise, notify, undo, fetch, refused ones included) from the freshly built state, whatever the table
+-- holds at each of them", where start is that state and d its plan
+pub record Condition3 (start : Kept) (d : Plan) : Type 0 where
+  -- "no call answers a conflict whose listed literals", which a fetch straight after it gives, "all hold in some valid division"
+  pub conflicts : (before : List Request) (q : Request) (b rest : List ℕ) (len : ℕ) →
+      reply (after start before) q .answer ≡ Conflict →
+      reply (keeping (reply (after start before) q)) (calcLast b rest) .answer ≡ Reason len →
+      (σ : ℕ → Bool) → Valid d σ → Every (Holds σ) (fetchedBy (reply (keeping (reply (after start before) q)) (calcLast b rest)) len) → ⊥
+  -- "no call hands on a literal that fails in a valid division where its reason, fetched before any later accepted call but a fetch, holds"
+  pub handed : (before : List Request) (q : Request) (amid : List Request) (lit : ℤ) (b rest : List ℕ) (len : ℕ) →
+      HandsOn (after start before) q (litGiven lit) → AllQuiet (keeping (reply (after start before) q)) amid →
+      reply (after (keeping (reply (after start before) q)) amid) (calcReason lit b rest) .answer ≡ Reason len →
+      (σ : ℕ → Bool) → Valid d σ → Every (Holds σ) (fetchedBy (reply (after (keeping (reply (after start before) q)) amid) (calcReason lit b rest)) len) → Holds σ (litGiven lit)
+  -- "an accepted notification with nothing pending, after which every variable has a standing literal, is answered consistent exactly when
+  -- the standing literals describe a valid division"
+  pub exact : (before : List Request) (lit : ℤ) (t list rest : List ℕ) →
+      accepted (reply (after start before) (propagate lit (pos 0) t list rest) .answer) ≡ true →
+      Covers d (counted d start (before ++ (propagate lit (pos 0) t list rest ∷ [])) []) →
+      (isConsistent (reply (after start before) (propagate lit (pos 0) t list rest) .answer) ≡ true) ↔ Describes d (counted d start (before ++ (propagate lit (pos 0) t list rest ∷ [])) [])

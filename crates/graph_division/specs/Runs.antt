@@ -1,0 +1,108 @@
+-- Any list of calls on a propagator's state, refused ones included: each is lent a table, a list or a reason buffer, and a log of its own,
+-- of any length and content, but for the log's part up to the cursor, which is what the calls before it left.
+use mathlib.Core.Bool.{Bool, not, _||_}
+use mathlib.Core.List.{List, [], _∷_, _++_}
+use Prim.Native.Nat.{ℕ}
+use lib.IntN.{ℤ, pos}
+use lib.ListN.{length, take}
+use Rattle.base.specs.Range.{inRange}
+use Rattle.undo_log.specs.declared.Cursor.{Cursor}
+use Rattle.noting.specs.Buffers.{logShort, listShort, reasonShort}
+use Rattle.refusals.specs.Calls.{litGiven}
+use Rattle.calls.specs.Calls as calls
+use Rattle.graph_division.specs.declared.GraphDivision.{GraphDivision}
+use Rattle.graph_division.specs.declared.Outcome.{Outcome}
+use Rattle.graph_division.specs.declared.Answer.{Answer}
+use Rattle.graph_division.specs.Calls.{Called, propagated, undone, Fetched, reasonFetched, lastFetched}
+use Rattle.graph_division.specs.Initialize.{initialized}
+
+-- a call with what it is lent; of the log, the entries from the cursor on
+pub data Request : Type 0 where
+  initialize : (table list tail : List ℕ) → Request
+  propagate : (lit pending : ℤ) (table list tail : List ℕ) → Request
+  undo : (lit : ℤ) (tail : List ℕ) → Request
+  calcReason : (lit : ℤ) (buffer tail : List ℕ) → Request
+  calcLast : (buffer tail : List ℕ) → Request
+
+-- the table that is lent; a call that is lent none has the empty one
+unfoldable pub tableOf : Request → List ℕ
+tableOf (initialize t list tail) = t
+tableOf (propagate lit pending t list tail) = t
+tableOf (undo lit tail) = []
+tableOf (calcReason lit b tail) = []
+tableOf (calcLast b tail) = []
+
+-- the list or the reason buffer
+unfoldable pub listOf : Request → List ℕ
+listOf (initialize t list tail) = list
+listOf (propagate lit pending t list tail) = list
+listOf (undo lit tail) = []
+listOf (calcReason lit b tail) = b
+listOf (calcLast b tail) = b
+
+unfoldable pub tailOf : Request → List ℕ
+tailOf (initialize t list tail) = tail
+tailOf (propagate lit pending t list tail) = tail
+tailOf (undo lit tail) = tail
+tailOf (calcReason lit b tail) = tail
+tailOf (calcLast b tail) = tail
+
+-- what is kept from call to call: the state, the cursor, and the log up to it
+pub record Kept : Type 0 where
+  pub state : GraphDivision
+  pub cursor : Cursor
+  pub records : List ℕ
+
+abbrev pub kept : GraphDivision → Cursor → List ℕ → Kept
+kept s c records = record { state = s; cursor = c; records = records }
+
+-- the log that a call is lent
+abbrev pub logFor : Kept → List ℕ → List ℕ
+logFor k tail = k .records ++ tail
+
+-- what a call answers, and what the state, the cursor and all that it was lent hold then
+pub record Reply : Type 0 where
+  pub answer : Answer
+  pub state : GraphDivision
+  pub cursor : Cursor
+  pub table : List ℕ
+  pub list : List ℕ
+  pub log : List ℕ
+
+unfoldable pub replied : Outcome → List ℕ → List ℕ → List ℕ → Reply
+replied y t list log = record { answer = y .answer; state = y .state; cursor = y .cursor; table = t; list = list; log = log }
+
+unfoldable pub repliedCalled : Called → Reply
+repliedCalled x = replied (x .outcome) (x .table) (x .list) (x .log)
+
+unfoldable pub repliedFetched : Kept → List ℕ → Fetched → Reply
+repliedFetched k log x = record { answer = x .answer; state = k .state; cursor = k .cursor; table = []; list = x .buffer; log = log }
+
+unfoldable pub reply : Kept → Request → Reply
+reply k (initialize t list tail) = repliedCalled (initialized (k .state) (k .cursor) t (logFor k tail) list)
+reply k (propagate lit pending t list tail) = repliedCalled (propagated (k .state) (k .cursor) lit pending t list (logFor k tail))
+reply k (undo lit tail) = replied (undone (k .state) (k .cursor) lit (logFor k tail)) [] [] (logFor k tail)
+reply k (calcReason lit b tail) = repliedFetched k (logFor k tail) (reasonFetched (k .state) (k .cursor) (logFor k tail) lit b)
+reply k (calcLast b tail) = repliedFetched k (logFor k tail) (lastFetched (k .state) (k .cursor) (logFor k tail) b)
+
+unfoldable pub keeping : Reply → Kept
+keeping r = kept (r .state) (r .cursor) (take (r .cursor .used) (r .log))
+
+unfoldable pub after : Kept → List Request → Kept
+after k [] = k
+after k (q ∷ qs) = after (keeping (reply k q)) qs
+
+-- the definition's call for a request: what refusal 7 asks of the lengths of what is lent, but for the table, is the room
+unfoldable pub roomFor : List ℕ → ℕ → Bool → Bool
+roomFor ws n short = not (logShort ws n || short)
+
+unfoldable pub callOf : Kept → Request → calls.Call
+callOf k (initialize t list tail) = calls.initialize (roomFor (k .state .plan) (length (logFor k tail)) (listShort (k .state .plan) (length list))) t
+callOf k (propagate lit pending t list tail) = calls.propagate (roomFor (k .state .plan) (length (logFor k tail)) (listShort (k .state .plan) (length list))) t (litGiven lit) (not (inRange (pos 0) pending))
+callOf k (undo lit tail) = calls.undo (not (logShort (k .state .plan) (length (logFor k tail)))) (litGiven lit)
+callOf k (calcReason lit b tail) = calls.calcReason (roomFor (k .state .plan) (length (logFor k tail)) (reasonShort (k .state .plan) (length b))) (litGiven lit)
+callOf k (calcLast b tail) = calls.calcLast (roomFor (k .state .plan) (length (logFor k tail)) (reasonShort (k .state .plan) (length b)))
+
+unfoldable pub callsOf : Kept → List Request → List calls.Call
+callsOf k [] = []
+callsOf k (q ∷ qs) = callOf k q ∷ callsOf (keeping (reply k q)) qs

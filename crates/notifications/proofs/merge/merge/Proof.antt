@@ -1,0 +1,66 @@
+use mathlib.Core.Path.{_≡_, refl, sym, ap, ap₂, _∙_}
+use Prim.Native.Nat.{ℕ, suc, _+_, _-_, _*_, _/_, _%_, _≤_, _<_}
+use native.Mathlib.Omega.{arith}
+use lib.ListN.{length}
+use Rattle.base.specs.Iter.{iter}
+use Rattle.base.proofs.Loop.{iter-zero, iter-more, iter-done}
+use Rattle.plan.specs.Words.{variablesOf}
+use Rattle.notifications.specs.Notifications.{mergedAt, merged}
+use Rattle.notifications.proofs.Cases.{merged-length}
+use borrow.Author.Needs.{needs}
+use Rattle.notifications.proofs.merge.merge.Statement.{statement}
+use Rattle.notifications.proofs.merge.merge.Tie as tie
+
+abbrev Inv-loop : tie.InvT-loop
+Inv-loop plan proposals words₀ n p₀ words p = (p ≤ n) × ((n ≡ 2 * variablesOf plan) × (words ≡ iter (mergedAt proposals) p words₀))
+
+abbrev μ-loop : tie.MeasureT-loop
+μ-loop plan proposals words₀ n p₀ words p = n - p
+
+num-variables-requires : tie.Need-num-variables-requires Inv-loop μ-loop
+num-variables-requires c κs = search needs
+
+cast-n : tie.Need-cast-n Inv-loop μ-loop
+cast-n c = omega arith
+
+mul-n : tie.Need-mul-n Inv-loop μ-loop
+mul-n c = omega arith
+
+loop-holds : tie.Need-loop-holds Inv-loop μ-loop
+loop-holds c = (omega arith, (omega arith, iter-zero _ _))
+
+merge-at-requires : tie.Need-merge-at-requires Inv-loop μ-loop
+merge-at-requires c κs = omega arith
+
+add-p : tie.Need-add-p Inv-loop μ-loop
+add-p c = omega arith
+
+loop-less : tie.Need-loop-less Inv-loop μ-loop
+loop-less c = omega arith
+
+loop-again : tie.Need-loop-again Inv-loop μ-loop
+loop-again c = (omega arith, ((c .before .before .before .before .before .loop .inv .1 .0), iter-more _ _ _ _ _ (c .before .before .before .before .before .loop .inv .1 .1) (c .before .before .merge-at .ensures)))
+
+same-length : tie.Need-same-length Inv-loop μ-loop
+same-length c = ap length (c .before .loop .inv .1 .1) ∙ merged-length _ _ (c .before .loop .p)
+
+returns : tie.Need-returns Inv-loop μ-loop
+unfolding merged
+returns c = iter-done _ _ _ _ _ (c .before .loop .inv .1 .1) (omega arith) (omega arith)
+
+pub merge-spec : {M : Type 1} → statement M
+merge-spec =
+    tie.close
+    (tie.spec
+    Inv-loop
+    μ-loop
+    num-variables-requires
+    cast-n
+    mul-n
+    loop-holds
+    merge-at-requires
+    add-p
+    loop-less
+    loop-again
+    same-length
+    returns)
