@@ -18,9 +18,10 @@ use Rattle.judge.specs.declared.Judgement.the-variants.{Fine, Clash, Stopped}
 use Rattle.judge.specs.Judge.{Judged}
 use Rattle.graph_division.specs.declared.GraphDivision.{GraphDivision}
 use Rattle.graph_division.specs.Calls.{Called, called, undone, settledBy, settled, adding, accepting, handingOn, propagated}
+use Rattle.graph_division.specs.Initialize.{initialized}
 use Rattle.graph_division.specs.declared.Outcome.{Outcome}
 use Rattle.desk.specs.Print.{Printed, written, printing, lineOf}
-use Rattle.desk.specs.Obey.{desk, turn, held, holding, writing, isRefused, marked, notified, takenBack}
+use Rattle.desk.specs.Obey.{desk, turn, held, holding, writing, isRefused, marked, begun, notified, takenBack}
 use Rattle.desk.proofs.Printing.{no-bytes}
 
 -- ---- a refused notification leaves the table
@@ -99,6 +100,15 @@ module _ (s : GraphDivision) (c : Cursor) (t log out : List ℕ) (lit : ℤ) (v 
       let T : t′ ≡ pick (isRefused (undone s c lit log .answer)) t (set t (litNumber lit / 2) 0) = f ∙ (λ i. pick ((q ∙ ap (λ (x : Outcome). isRefused (x .answer)) e) i) t (set t (p i) 0)) in
       let W : written n out′ ≡ printing (lineOf (undone s c lit log .answer) (replicate 260 0)) out = g ∙ (λ i. printing (lineOf (e i .answer) (z i)) out) in
       λ i. holding (desk (e i .state) (e i .cursor) (T i) log) (W i)
+
+pub begin-turn : (s : GraphDivision) (c : Cursor) (t log out : List ℕ) (n : ℕ) (o : Outcome) (t′ list₀ list log′ out′ : List ℕ) → list₀ ≡ replicate 4352 0 →
+    called o t′ list log′ ≡ initialized s c t log list₀ → written n out′ ≡ printing (lineOf (o .answer) list) out →
+    held (record { state = o .state; cursor = o .cursor; printed = n }) t′ log′ out′ ≡ writing (begun (desk s c t log)) out
+unfolding writing begun
+begin-turn s c t log out n o t′ list₀ list log′ out′ z e g =
+    let E : called o t′ list log′ ≡ initialized s c t log (replicate 4352 0) = e ∙ ap (initialized s c t log) z in
+    let W = g ∙ ap (λ (x : Called). printing (lineOf (x .outcome .answer) (x .list)) out) E in
+    λ i. holding (desk (E i .outcome .state) (E i .outcome .cursor) (E i .table) (E i .log)) (W i)
 
 pub silent : (s : GraphDivision) (c : Cursor) (t log out : List ℕ) → held (record { state = s; cursor = c; printed = 0 }) t log out ≡ writing (turn (desk s c t log) []) out
 unfolding writing

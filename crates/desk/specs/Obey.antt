@@ -16,6 +16,7 @@ use Rattle.graph_division.specs.declared.Answer.{Answer}
 use Rattle.graph_division.specs.declared.Answer.the-variants.{Consistent, Conflict, Noted, Undone, Reason, Refused}
 use Rattle.graph_division.specs.declared.Outcome.{Outcome}
 use Rattle.graph_division.specs.Calls.{Called, Fetched, propagated, undone, reasonFetched, lastFetched}
+use Rattle.graph_division.specs.Initialize.{initialized}
 use Rattle.desk.specs.declared.Obeyed.{Obeyed}
 use Rattle.desk.specs.Print.{lineOf, Printed, printing}
 
@@ -53,7 +54,13 @@ marked lit t = pick (inRange (pos 8191) lit) (pick (unsetIn t (litNumber lit)) (
 unfoldable pub valued : Desk → ℕ → ℕ → Turn
 valued d v code = turn (desk (d .state) (d .cursor) (set (d .table) v code) (d .log)) []
 
--- N "takes the mark back if refused". The list is as long as the longest that a call may fill.
+-- I. The list is as long as the longest that a call may fill.
+unfoldable pub begun : Desk → Turn
+begun d =
+    let o = initialized (d .state) (d .cursor) (d .table) (d .log) (replicate 4352 0) in
+    turn (desk (o .outcome .state) (o .outcome .cursor) (o .table) (o .log)) (lineOf (o .outcome .answer) (o .list))
+
+-- N "takes the mark back if refused"
 unfoldable pub notified : Desk → ℤ → ℤ → Turn
 notified d lit pending =
     let o = propagated (d .state) (d .cursor) lit pending (marked lit (d .table)) (replicate 4352 0) (d .log) in
@@ -79,7 +86,7 @@ obeyed (N lit pending) d = notified d lit pending
 obeyed (U lit) d = takenBack d lit
 obeyed (R lit) d = turn d (reasonAsked (d .state) (d .cursor) (d .log) lit)
 obeyed RLast d = turn d (lastAsked (d .state) (d .cursor) (d .log))
-obeyed I d = turn d []
+obeyed I d = begun d
 obeyed (O s e) d = turn d []
 obeyed (P w k n) d = turn d []
 obeyed (G u v l) d = turn d []

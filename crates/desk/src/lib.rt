@@ -8,6 +8,7 @@ use graph_division::Answer;
 use graph_division::GraphDivision;
 use graph_division::calc_reason::calc_last;
 use graph_division::calc_reason::calc_reason;
+use graph_division::initialize::initialize;
 use graph_division::propagate::propagate;
 use graph_division::undo::undo;
 use text::Line;
@@ -16,7 +17,7 @@ ghost use mathlib.Core.Path.{_≡_};
 ghost use lib.ListN.{replicate};
 ghost use Rattle.text.specs.Lines.{readLine};
 ghost use Rattle.desk.specs.Print.{written, printing};
-ghost use Rattle.desk.specs.Obey.{desk, held, writing, isRefused, notified, takenBack, reasonAsked, lastAsked, obeyed};
+ghost use Rattle.desk.specs.Obey.{desk, held, writing, isRefused, begun, notified, takenBack, reasonAsked, lastAsked, obeyed};
 
 // What a line leaves, besides what it was lent: the first `printed` bytes of the lent buffer are what it prints.
 pub struct Obeyed {
@@ -47,6 +48,29 @@ fn is_refused(a: Answer) -> bool
         Answer::Undone => false,
         Answer::Reason { len: _ } => false,
         Answer::Refused { number: _ } => true,
+    }
+}
+
+// I.
+fn begin(
+    s: GraphDivision,
+    cursor: Cursor,
+    table: &mut [u8],
+    log: &mut [u64],
+    out: &mut [u8],
+) -> Obeyed
+    ensures { λ r. ⌜ held r (now (table .exit)) (now (log .exit)) (now (out .exit)) ≡ writing (begun (desk s cursor (now (table .entry)) (now (log .entry)))) (now (out .entry)) ⌝ }
+{
+    let mut list = no_list();
+    let o = initialize(s, table, &mut list, log, cursor);
+    let a = o.answer;
+    let n = print(a, &list, out);
+    let state = o.state;
+    let moved = o.cursor;
+    Obeyed {
+        state: state,
+        cursor: moved,
+        printed: n,
     }
 }
 
@@ -152,11 +176,7 @@ fn obey_read(
             cursor: cursor,
             printed: ask_last(s, cursor, log, out),
         },
-        Line::I => Obeyed {
-            state: s,
-            cursor: cursor,
-            printed: 0,
-        },
+        Line::I => begin(s, cursor, table, log, out),
         Line::O {
             same_size: _,
             extra_walls: _,

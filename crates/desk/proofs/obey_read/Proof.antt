@@ -48,6 +48,9 @@ ask-last-requires c κs = search needs
 enum-told-2 : tie.Need-enum-told-2
 enum-told-2 c = search needs
 
+begin-requires : tie.Need-begin-requires
+begin-requires c κs = search needs
+
 enum-told-3 : tie.Need-enum-told-3
 enum-told-3 c = search needs
 
@@ -135,9 +138,20 @@ returns-5 c =
     ap (holding (desk (a .s) (a .cursor) (a .table .now) (a .log .now))) (c .before .before .ask-last .ensures)
     ∙ sym (ap (λ (r : Line). writing (obeyed r (desk ((c .before .before .before .before .before .before .before .before .before .before .args .s)) ((c .before .before .before .before .before .before .before .before .before .before .args .cursor)) ((c .before .before .before .before .before .before .before .before .before .before .args .table) .now) ((c .before .before .before .before .before .before .before .before .before .before .args .log) .now))) ((c .before .before .before .before .before .before .before .before .before .before .args .out) .now)) (c .before .before .before .before .before .enum-told .given .1))
 
+same-length-12 : tie.Need-same-length-12
+same-length-12 c = search needs
+
+same-length-13 : tie.Need-same-length-13
+same-length-13 c = search needs
+
+same-length-14 : tie.Need-same-length-14
+same-length-14 c = search needs
+
 returns-6 : tie.Need-returns-6
 unfolding obeyed valued writing
-returns-6 c = silent ((c .before .before .before .before .before .args .s)) ((c .before .before .before .before .before .args .cursor)) ((c .before .before .before .before .before .args .table) .now) ((c .before .before .before .before .before .args .log) .now) ((c .before .before .before .before .before .args .out) .now) ∙ sym (ap (λ (r : Line). writing (obeyed r (desk ((c .before .before .before .before .before .args .s)) ((c .before .before .before .before .before .args .cursor)) ((c .before .before .before .before .before .args .table) .now) ((c .before .before .before .before .before .args .log) .now))) ((c .before .before .before .before .before .args .out) .now)) (c .enum-told2 .given .1))
+returns-6 c =
+    (c .before .before .before .before .before .before .begin .ensures)
+    ∙ sym (ap (λ (r : Line). writing (obeyed r (desk ((c .before .before .before .before .before .before .before .before .before .before .before .before .before .before .before .args .s)) ((c .before .before .before .before .before .before .before .before .before .before .before .before .before .before .before .args .cursor)) ((c .before .before .before .before .before .before .before .before .before .before .before .before .before .before .before .args .table) .now) ((c .before .before .before .before .before .before .before .before .before .before .before .before .before .before .before .args .log) .now))) ((c .before .before .before .before .before .before .before .before .before .before .before .before .before .before .before .args .out) .now)) (c .before .before .before .before .before .before .before .before .before .before .enum-told2 .given .1))
 
 returns-7 : tie.Need-returns-7
 unfolding obeyed valued writing
@@ -171,6 +185,7 @@ obey-read-spec =
     enum-told
     ask-last-requires
     enum-told-2
+    begin-requires
     enum-told-3
     enum-told-4
     enum-told-5
@@ -191,6 +206,9 @@ obey-read-spec =
     same-length-10
     same-length-11
     returns-5
+    same-length-12
+    same-length-13
+    same-length-14
     returns-6
     returns-7
     returns-8
