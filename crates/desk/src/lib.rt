@@ -14,7 +14,8 @@ use graph_division::undo::undo;
 use text::Line;
 use undo_log::Cursor;
 ghost use mathlib.Core.Path.{_≡_};
-ghost use lib.ListN.{replicate};
+ghost use Prim.Native.Nat.{_≤_};
+ghost use lib.ListN.{length, replicate};
 ghost use Rattle.text.specs.Lines.{readLine};
 ghost use Rattle.desk.specs.Print.{written, printing};
 ghost use Rattle.desk.specs.Obey.{desk, held, writing, isRefused, begun, notified, takenBack, reasonAsked, lastAsked, obeyed};
@@ -59,7 +60,7 @@ fn begin(
     log: &mut [u64],
     out: &mut [u8],
 ) -> Obeyed
-    ensures { λ r. ⌜ held r (now (table .exit)) (now (log .exit)) (now (out .exit)) ≡ writing (begun (desk s cursor (now (table .entry)) (now (log .entry)))) (now (out .entry)) ⌝ }
+    ensures { λ r. ⌜ (held r (now (table .exit)) (now (log .exit)) (now (out .exit)) ≡ writing (begun (desk s cursor (now (table .entry)) (now (log .entry)))) (now (out .entry))) × (length ((begun (desk s cursor (now (table .entry)) (now (log .entry)))) .bytes) ≤ 65536) ⌝ }
 {
     let mut list = no_list();
     let o = initialize(s, table, &mut list, log, cursor);
@@ -84,7 +85,7 @@ fn notify(
     pending: i32,
     out: &mut [u8],
 ) -> Obeyed
-    ensures { λ r. ⌜ held r (now (table .exit)) (now (log .exit)) (now (out .exit)) ≡ writing (notified (desk s cursor (now (table .entry)) (now (log .entry))) lit pending) (now (out .entry)) ⌝ }
+    ensures { λ r. ⌜ (held r (now (table .exit)) (now (log .exit)) (now (out .exit)) ≡ writing (notified (desk s cursor (now (table .entry)) (now (log .entry))) lit pending) (now (out .entry))) × (length ((notified (desk s cursor (now (table .entry)) (now (log .entry))) lit pending) .bytes) ≤ 65536) ⌝ }
 {
     let v = table::variable(lit);
     let old = table::entry(table, v);
@@ -112,7 +113,7 @@ fn take_back(
     lit: i32,
     out: &mut [u8],
 ) -> Obeyed
-    ensures { λ r. ⌜ held r (now (table .exit)) (now (log .entry)) (now (out .exit)) ≡ writing (takenBack (desk s cursor (now (table .entry)) (now (log .entry))) lit) (now (out .entry)) ⌝ }
+    ensures { λ r. ⌜ (held r (now (table .exit)) (now (log .entry)) (now (out .exit)) ≡ writing (takenBack (desk s cursor (now (table .entry)) (now (log .entry))) lit) (now (out .entry))) × (length ((takenBack (desk s cursor (now (table .entry)) (now (log .entry))) lit) .bytes) ≤ 65536) ⌝ }
 {
     let o = undo(s, log, cursor, lit);
     let a = o.answer;
@@ -130,7 +131,7 @@ fn take_back(
 
 // R with a literal, and R with a minus: how many bytes they print.
 fn ask_reason(s: GraphDivision, cursor: Cursor, log: &[u64], lit: i32, out: &mut [u8]) -> usize
-    ensures { λ r. ⌜ written r (now (out .exit)) ≡ printing (reasonAsked s cursor (now (log .entry)) lit) (now (out .entry)) ⌝ }
+    ensures { λ r. ⌜ (written r (now (out .exit)) ≡ printing (reasonAsked s cursor (now (log .entry)) lit) (now (out .entry))) × (length (reasonAsked s cursor (now (log .entry)) lit) ≤ 65536) ⌝ }
 {
     let mut list = no_reason();
     let a = calc_reason(s, log, cursor, lit, &mut list);
@@ -138,7 +139,7 @@ fn ask_reason(s: GraphDivision, cursor: Cursor, log: &[u64], lit: i32, out: &mut
 }
 
 fn ask_last(s: GraphDivision, cursor: Cursor, log: &[u64], out: &mut [u8]) -> usize
-    ensures { λ r. ⌜ written r (now (out .exit)) ≡ printing (lastAsked s cursor (now (log .entry))) (now (out .entry)) ⌝ }
+    ensures { λ r. ⌜ (written r (now (out .exit)) ≡ printing (lastAsked s cursor (now (log .entry))) (now (out .entry))) × (length (lastAsked s cursor (now (log .entry))) ≤ 65536) ⌝ }
 {
     let mut list = no_reason();
     let a = calc_last(s, log, cursor, &mut list);
@@ -153,7 +154,7 @@ fn obey_read(
     read: Line,
     out: &mut [u8],
 ) -> Obeyed
-    ensures { λ r. ⌜ held r (now (table .exit)) (now (log .exit)) (now (out .exit)) ≡ writing (obeyed read (desk s cursor (now (table .entry)) (now (log .entry)))) (now (out .entry)) ⌝ }
+    ensures { λ r. ⌜ (held r (now (table .exit)) (now (log .exit)) (now (out .exit)) ≡ writing (obeyed read (desk s cursor (now (table .entry)) (now (log .entry)))) (now (out .entry))) × (length ((obeyed read (desk s cursor (now (table .entry)) (now (log .entry)))) .bytes) ≤ 65536) ⌝ }
 {
     match read {
         Line::V { variable, code } => {
@@ -207,7 +208,7 @@ fn obey_read(
     }
 }
 
-// One line, without its newline. A line of the plan and a malformed one do nothing: the input's shape keeps both from here.
+// One line, without its newline. What it prints fits a buffer of 65536 bytes. A line of the plan and a malformed one do nothing: the input's shape keeps both from here.
 pub fn obey(
     s: GraphDivision,
     cursor: Cursor,
@@ -216,7 +217,7 @@ pub fn obey(
     line: &[u8],
     out: &mut [u8],
 ) -> Obeyed
-    ensures { λ r. ⌜ held r (now (table .exit)) (now (log .exit)) (now (out .exit)) ≡ writing (obeyed (readLine (now (line .entry))) (desk s cursor (now (table .entry)) (now (log .entry)))) (now (out .entry)) ⌝ }
+    ensures { λ r. ⌜ (held r (now (table .exit)) (now (log .exit)) (now (out .exit)) ≡ writing (obeyed (readLine (now (line .entry))) (desk s cursor (now (table .entry)) (now (log .entry)))) (now (out .entry))) × (length ((obeyed (readLine (now (line .entry))) (desk s cursor (now (table .entry)) (now (log .entry)))) .bytes) ≤ 65536) ⌝ }
 {
     obey_read(s, cursor, table, log, text::read_line(line), out)
 }

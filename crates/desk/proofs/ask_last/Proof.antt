@@ -1,9 +1,8 @@
-use mathlib.Core.Path.{_≡_, refl, sym, ap, ap₂, _∙_}
-use mathlib.Core.List.{List}
-use Prim.Native.Nat.{ℕ}
-use Rattle.graph_division.specs.Calls.{Fetched, reasonFetched, lastFetched, fetched}
-use Rattle.desk.specs.Print.{lineOf, printing}
+use mathlib.Core.Path.{_≡_, refl, sym, ap, ap₂, subst, _∙_}
+use mir.Facts.{toZ-ofZ}
+use Rattle.graph_division.specs.Calls.{reasonFetched, lastFetched}
 use Rattle.desk.specs.Obey.{lastAsked}
+use Rattle.desk.proofs.Answering.{shown-fetched}
 use borrow.Author.Needs.{needs}
 use Rattle.desk.proofs.ask_last.Statement.{statement}
 use Rattle.desk.proofs.ask_last.Tie as tie
@@ -30,8 +29,7 @@ returns : tie.Need-returns
 unfolding lastAsked
 returns c =
     let a = (c .before .before .before .before .before .before .before .before .before .before .before .args) in
-    (c .before .before .print .ensures)
-    ∙ ap (λ (f : Fetched). printing (lineOf (f .answer) (f .buffer)) (a .out .now)) ((c .before .before .before .before .before .before .calc-last .ensures) ∙ ap (lastFetched (a .s) (a .cursor) (a .log .now)) (c .before .before .before .before .before .before .before .before .no-reason .ensures))
+    shown-fetched _ _ (a .out .now) _ _ ((c .before .before .before .before .before .before .calc-last .ensures) ∙ ap (lastFetched (a .s) (a .cursor) (a .log .now)) (c .before .before .before .before .before .before .before .before .no-reason .ensures)) (c .before .before .print .ensures)
 
 pub ask-last-spec : {M : Type 1} → statement M
 ask-last-spec =

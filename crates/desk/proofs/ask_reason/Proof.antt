@@ -1,10 +1,8 @@
-use mathlib.Core.Path.{_≡_, refl, sym, ap, ap₂, _∙_}
-use mathlib.Core.List.{List}
-use Prim.Native.Nat.{ℕ}
+use mathlib.Core.Path.{_≡_, refl, sym, ap, ap₂, subst, _∙_}
 use mir.Facts.{toZ-ofZ}
-use Rattle.graph_division.specs.Calls.{Fetched, reasonFetched, lastFetched, fetched}
-use Rattle.desk.specs.Print.{lineOf, printing}
+use Rattle.graph_division.specs.Calls.{reasonFetched, lastFetched}
 use Rattle.desk.specs.Obey.{reasonAsked}
+use Rattle.desk.proofs.Answering.{shown-fetched}
 use borrow.Author.Needs.{needs}
 use Rattle.desk.proofs.ask_reason.Statement.{statement}
 use Rattle.desk.proofs.ask_reason.Tie as tie
@@ -31,8 +29,7 @@ returns : tie.Need-returns
 unfolding reasonAsked
 returns c =
     let a = (c .before .before .before .before .before .before .before .before .before .before .before .args) in
-    (c .before .before .print .ensures)
-    ∙ ap (λ (f : Fetched). printing (lineOf (f .answer) (f .buffer)) (a .out .now)) ((c .before .before .before .before .before .before .calc-reason .ensures) ∙ (λ i. reasonFetched (a .s) (a .cursor) (a .log .now) (toZ-ofZ (c .before .before .before .before .before .before .before .before .before .before .before .fits .lit) i) ((c .before .before .before .before .before .before .before .before .no-reason .ensures) i)))
+    shown-fetched _ _ (a .out .now) _ _ ((c .before .before .before .before .before .before .calc-reason .ensures) ∙ (λ i. reasonFetched (a .s) (a .cursor) (a .log .now) (toZ-ofZ (c .before .before .before .before .before .before .before .before .before .before .before .fits .lit) i) ((c .before .before .before .before .before .before .before .before .no-reason .ensures) i))) (c .before .before .print .ensures)
 
 pub ask-reason-spec : {M : Type 1} → statement M
 ask-reason-spec =

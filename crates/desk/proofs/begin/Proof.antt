@@ -1,4 +1,4 @@
-use mathlib.Core.Path.{_≡_, refl, sym, ap, ap₂, _∙_}
+use mathlib.Core.Path.{_≡_, refl, sym, ap, ap₂, subst, _∙_}
 use Rattle.desk.proofs.Answering.{begin-turn}
 use borrow.Author.Needs.{needs}
 use Rattle.desk.proofs.begin.Statement.{statement}

@@ -1,10 +1,8 @@
-use mathlib.Core.Path.{_≡_, refl, sym, ap, ap₂, _∙_}
+use mathlib.Core.Path.{_≡_, refl, sym, ap, ap₂, subst, _∙_}
 use Prim.Native.Nat.{ℕ, _/_}
 use mir.Facts.{toZ-ofZ}
 use lib.IntN.{ℤ}
-use lib.ListN.{replicate}
 use Rattle.refusals.specs.Refusals.{litNumber}
-use Rattle.graph_division.specs.Calls.{propagated}
 use Rattle.desk.specs.Obey.{marked}
 use Rattle.desk.proofs.Answering.{notify-turn}
 use borrow.Author.Needs.{needs}

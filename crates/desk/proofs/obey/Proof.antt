@@ -1,6 +1,6 @@
-use mathlib.Core.Path.{_≡_, refl, sym, ap, ap₂, _∙_}
-use Rattle.text.specs.declared.Line.{Line}
-use Rattle.desk.specs.Obey.{desk, writing, obeyed}
+use mathlib.Core.Path.{_≡_, refl, sym, ap, ap₂, subst, _∙_}
+use Rattle.desk.specs.Obey.{desk}
+use Rattle.desk.proofs.Answering.{told-line}
 use borrow.Author.Needs.{needs}
 use Rattle.desk.proofs.obey.Statement.{statement}
 use Rattle.desk.proofs.obey.Tie as tie
@@ -23,7 +23,7 @@ same-length-3 c = search needs
 returns : tie.Need-returns
 returns c =
     let a = (c .before .before .before .before .before .before .before .before .before .before .before .before .before .before .before .args) in
-    (c .before .before .before .before .before .before .obey-read .ensures) ∙ ap (λ (r : Line). writing (obeyed r (desk (a .s) (a .cursor) (a .table .now) (a .log .now))) (a .out .now)) (c .before .before .before .before .before .before .before .before .read-line .ensures)
+    told-line _ (desk (a .s) (a .cursor) (a .table .now) (a .log .now)) (a .out .now) _ _ (sym (c .before .before .before .before .before .before .before .before .read-line .ensures)) (c .before .before .before .before .before .before .obey-read .ensures)
 
 pub obey-spec : {M : Type 1} → statement M
 obey-spec =

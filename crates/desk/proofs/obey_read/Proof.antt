@@ -1,13 +1,11 @@
-use mathlib.Core.Path.{_≡_, refl, sym, ap, ap₂, _∙_}
-use mathlib.Core.List.{List}
+use mathlib.Core.Path.{_≡_, refl, sym, ap, ap₂, subst, _∙_}
+use mathlib.Core.List.{List, []}
 use Prim.Native.Nat.{ℕ}
 use mir.Syntax.{w32}
 use mir.Facts.{toZ-ofZ}
 use borrow.Author.Needs.{needs, sfits-of}
-use Rattle.text.specs.declared.Line.{Line}
-use Rattle.desk.specs.Print.{printing}
-use Rattle.desk.specs.Obey.{desk, held, holding, writing, valued, notified, takenBack, reasonAsked, lastAsked, obeyed}
-use Rattle.desk.proofs.Answering.{silent}
+use Rattle.desk.specs.Obey.{desk, turn, valued, notified, takenBack, reasonAsked, obeyed}
+use Rattle.desk.proofs.Answering.{told-along, told-line, asked, silent}
 use borrow.Author.Needs.{needs}
 use Rattle.desk.proofs.obey_read.Statement.{statement}
 use Rattle.desk.proofs.obey_read.Tie as tie
@@ -67,10 +65,11 @@ same-length : tie.Need-same-length
 same-length c = search needs
 
 returns : tie.Need-returns
-unfolding obeyed valued writing
-returns c = ap (λ (t : List ℕ). held (record { state = (c .before .before .before .before .before .before .before .before .before .before .args .s); cursor = (c .before .before .before .before .before .before .before .before .before .before .args .cursor); printed = 0 }) t ((c .before .before .before .before .before .before .before .before .before .before .args .log) .now) ((c .before .before .before .before .before .before .before .before .before .before .args .out) .now)) (c .before .before .store .ensures)
-    ∙ silent ((c .before .before .before .before .before .before .before .before .before .before .args .s)) ((c .before .before .before .before .before .before .before .before .before .before .args .cursor)) _ ((c .before .before .before .before .before .before .before .before .before .before .args .log) .now) ((c .before .before .before .before .before .before .before .before .before .before .args .out) .now)
-    ∙ sym (ap (λ (r : Line). writing (obeyed r (desk ((c .before .before .before .before .before .before .before .before .before .before .args .s)) ((c .before .before .before .before .before .before .before .before .before .before .args .cursor)) ((c .before .before .before .before .before .before .before .before .before .before .args .table) .now) ((c .before .before .before .before .before .before .before .before .before .before .args .log) .now))) ((c .before .before .before .before .before .before .before .before .before .before .args .out) .now)) (c .before .before .before .before .before .read .given .1))
+unfolding obeyed valued
+returns c =
+    let a = (c .before .before .before .before .before .before .before .before .before .before .args) in
+    told-line _ (desk (a .s) (a .cursor) (a .table .now) (a .log .now)) (a .out .now) _ _ (c .before .before .before .before .before .read .given .1)
+    (told-along _ (a .out .now) _ _ (ap (λ (t : List ℕ). turn (desk (a .s) (a .cursor) t (a .log .now)) []) (c .before .before .store .ensures)) (silent (a .s) (a .cursor) _ (a .log .now) (a .out .now)))
 
 same-length-2 : tie.Need-same-length-2
 same-length-2 c = search needs
@@ -82,14 +81,11 @@ same-length-4 : tie.Need-same-length-4
 same-length-4 c = search needs
 
 returns-2 : tie.Need-returns-2
-unfolding obeyed valued writing
+unfolding obeyed valued
 returns-2 c =
     let a = (c .before .before .before .before .before .before .before .before .before .before .before .before .before .before .before .before .args) in
-    let k = (c .before .before .before .before .before .before .before .before .before .before .known-told2 .given) in
-    let r = (c .before .before .before .before .before .before .before .before .before .before .before .read2 .given .0) in
-    (c .before .before .before .before .before .before .notify .ensures)
-    ∙ (λ i. writing (notified (desk (a .s) (a .cursor) (a .table .now) (a .log .now)) (toZ-ofZ {w = w32} {z = r .0} (sfits-of (k .0 .1)) i) (toZ-ofZ {w = w32} {z = r .1 .0} (sfits-of (k .1 .0 .1)) i)) (a .out .now))
-    ∙ sym (ap (λ (r : Line). writing (obeyed r (desk ((c .before .before .before .before .before .before .before .before .before .before .before .before .before .before .before .before .args .s)) ((c .before .before .before .before .before .before .before .before .before .before .before .before .before .before .before .before .args .cursor)) ((c .before .before .before .before .before .before .before .before .before .before .before .before .before .before .before .before .args .table) .now) ((c .before .before .before .before .before .before .before .before .before .before .before .before .before .before .before .before .args .log) .now))) ((c .before .before .before .before .before .before .before .before .before .before .before .before .before .before .before .before .args .out) .now)) (c .before .before .before .before .before .before .before .before .before .before .before .read2 .given .1))
+    told-line _ (desk (a .s) (a .cursor) (a .table .now) (a .log .now)) (a .out .now) _ _ (c .before .before .before .before .before .before .before .before .before .before .before .read2 .given .1)
+    (told-along _ (a .out .now) _ _ (λ i. notified (desk (a .s) (a .cursor) (a .table .now) (a .log .now)) (toZ-ofZ {w = w32} {z = (c .before .before .before .before .before .before .before .before .before .before .before .read2 .given .0 .0)} (sfits-of ((c .before .before .before .before .before .before .before .before .before .before .known-told2 .given .0 .1))) i) (toZ-ofZ {w = w32} {z = (c .before .before .before .before .before .before .before .before .before .before .before .read2 .given .0 .1 .0)} (sfits-of ((c .before .before .before .before .before .before .before .before .before .before .known-told2 .given .1 .0 .1))) i)) (c .before .before .before .before .before .before .notify .ensures))
 
 same-length-5 : tie.Need-same-length-5
 same-length-5 c = search needs
@@ -101,14 +97,11 @@ same-length-7 : tie.Need-same-length-7
 same-length-7 c = search needs
 
 returns-3 : tie.Need-returns-3
-unfolding obeyed valued writing
+unfolding obeyed valued
 returns-3 c =
     let a = (c .before .before .before .before .before .before .before .before .before .before .before .before .before .before .args) in
-    let k = (c .before .before .before .before .before .before .before .before .known-told3 .given) in
-    let r = (c .before .before .before .before .before .before .before .before .before .read3 .given .0) in
-    (c .before .before .before .before .take-back .ensures)
-    ∙ (λ i. writing (takenBack (desk (a .s) (a .cursor) (a .table .now) (a .log .now)) (toZ-ofZ {w = w32} {z = r .0} (sfits-of (k .0 .1)) i)) (a .out .now))
-    ∙ sym (ap (λ (r : Line). writing (obeyed r (desk ((c .before .before .before .before .before .before .before .before .before .before .before .before .before .before .args .s)) ((c .before .before .before .before .before .before .before .before .before .before .before .before .before .before .args .cursor)) ((c .before .before .before .before .before .before .before .before .before .before .before .before .before .before .args .table) .now) ((c .before .before .before .before .before .before .before .before .before .before .before .before .before .before .args .log) .now))) ((c .before .before .before .before .before .before .before .before .before .before .before .before .before .before .args .out) .now)) (c .before .before .before .before .before .before .before .before .before .read3 .given .1))
+    told-line _ (desk (a .s) (a .cursor) (a .table .now) (a .log .now)) (a .out .now) _ _ (c .before .before .before .before .before .before .before .before .before .read3 .given .1)
+    (told-along _ (a .out .now) _ _ (λ i. takenBack (desk (a .s) (a .cursor) (a .table .now) (a .log .now)) (toZ-ofZ {w = w32} {z = (c .before .before .before .before .before .before .before .before .before .read3 .given .0 .0)} (sfits-of ((c .before .before .before .before .before .before .before .before .known-told3 .given .0 .1))) i)) (c .before .before .before .before .take-back .ensures))
 
 same-length-8 : tie.Need-same-length-8
 same-length-8 c = search needs
@@ -117,13 +110,11 @@ same-length-9 : tie.Need-same-length-9
 same-length-9 c = search needs
 
 returns-4 : tie.Need-returns-4
-unfolding obeyed valued writing
+unfolding obeyed valued
 returns-4 c =
     let a = (c .before .before .before .before .before .before .before .before .before .before .before .args) in
-    let k = (c .before .before .before .before .before .known-told4 .given) in
-    let r = (c .before .before .before .before .before .before .read4 .given .0) in
-    ap (holding (desk (a .s) (a .cursor) (a .table .now) (a .log .now))) ((c .before .before .ask-reason .ensures) ∙ (λ i. printing (reasonAsked (a .s) (a .cursor) (a .log .now) (toZ-ofZ {w = w32} {z = r .0} (sfits-of (k .0 .1)) i)) (a .out .now)))
-    ∙ sym (ap (λ (r : Line). writing (obeyed r (desk ((c .before .before .before .before .before .before .before .before .before .before .before .args .s)) ((c .before .before .before .before .before .before .before .before .before .before .before .args .cursor)) ((c .before .before .before .before .before .before .before .before .before .before .before .args .table) .now) ((c .before .before .before .before .before .before .before .before .before .before .before .args .log) .now))) ((c .before .before .before .before .before .before .before .before .before .before .before .args .out) .now)) (c .before .before .before .before .before .before .read4 .given .1))
+    told-line _ (desk (a .s) (a .cursor) (a .table .now) (a .log .now)) (a .out .now) _ _ (c .before .before .before .before .before .before .read4 .given .1)
+    (asked (a .s) (a .cursor) (a .table .now) (a .log .now) (a .out .now) _ _ _ _ (λ i. reasonAsked (a .s) (a .cursor) (a .log .now) (toZ-ofZ {w = w32} {z = (c .before .before .before .before .before .before .read4 .given .0 .0)} (sfits-of ((c .before .before .before .before .before .known-told4 .given .0 .1))) i)) (c .before .before .ask-reason .ensures))
 
 same-length-10 : tie.Need-same-length-10
 same-length-10 c = search needs
@@ -132,11 +123,11 @@ same-length-11 : tie.Need-same-length-11
 same-length-11 c = search needs
 
 returns-5 : tie.Need-returns-5
-unfolding obeyed valued writing
+unfolding obeyed valued
 returns-5 c =
     let a = (c .before .before .before .before .before .before .before .before .before .before .args) in
-    ap (holding (desk (a .s) (a .cursor) (a .table .now) (a .log .now))) (c .before .before .ask-last .ensures)
-    ∙ sym (ap (λ (r : Line). writing (obeyed r (desk ((c .before .before .before .before .before .before .before .before .before .before .args .s)) ((c .before .before .before .before .before .before .before .before .before .before .args .cursor)) ((c .before .before .before .before .before .before .before .before .before .before .args .table) .now) ((c .before .before .before .before .before .before .before .before .before .before .args .log) .now))) ((c .before .before .before .before .before .before .before .before .before .before .args .out) .now)) (c .before .before .before .before .before .enum-told .given .1))
+    told-line _ (desk (a .s) (a .cursor) (a .table .now) (a .log .now)) (a .out .now) _ _ (c .before .before .before .before .before .enum-told .given .1)
+    (asked (a .s) (a .cursor) (a .table .now) (a .log .now) (a .out .now) _ _ _ _ refl (c .before .before .ask-last .ensures))
 
 same-length-12 : tie.Need-same-length-12
 same-length-12 c = search needs
@@ -148,26 +139,34 @@ same-length-14 : tie.Need-same-length-14
 same-length-14 c = search needs
 
 returns-6 : tie.Need-returns-6
-unfolding obeyed valued writing
+unfolding obeyed valued
 returns-6 c =
-    (c .before .before .before .before .before .before .begin .ensures)
-    ∙ sym (ap (λ (r : Line). writing (obeyed r (desk ((c .before .before .before .before .before .before .before .before .before .before .before .before .before .before .before .args .s)) ((c .before .before .before .before .before .before .before .before .before .before .before .before .before .before .before .args .cursor)) ((c .before .before .before .before .before .before .before .before .before .before .before .before .before .before .before .args .table) .now) ((c .before .before .before .before .before .before .before .before .before .before .before .before .before .before .before .args .log) .now))) ((c .before .before .before .before .before .before .before .before .before .before .before .before .before .before .before .args .out) .now)) (c .before .before .before .before .before .before .before .before .before .before .enum-told2 .given .1))
+    let a = (c .before .before .before .before .before .before .before .before .before .before .before .before .before .before .before .args) in
+    told-line _ (desk (a .s) (a .cursor) (a .table .now) (a .log .now)) (a .out .now) _ _ (c .before .before .before .before .before .before .before .before .before .before .enum-told2 .given .1) (c .before .before .before .before .before .before .begin .ensures)
 
 returns-7 : tie.Need-returns-7
-unfolding obeyed valued writing
-returns-7 c = silent ((c .before .before .before .before .before .args .s)) ((c .before .before .before .before .before .args .cursor)) ((c .before .before .before .before .before .args .table) .now) ((c .before .before .before .before .before .args .log) .now) ((c .before .before .before .before .before .args .out) .now) ∙ sym (ap (λ (r : Line). writing (obeyed r (desk ((c .before .before .before .before .before .args .s)) ((c .before .before .before .before .before .args .cursor)) ((c .before .before .before .before .before .args .table) .now) ((c .before .before .before .before .before .args .log) .now))) ((c .before .before .before .before .before .args .out) .now)) (c .enum-told3 .given .1))
+unfolding obeyed valued
+returns-7 c =
+    let a = (c .before .before .before .before .before .args) in
+    told-line _ (desk (a .s) (a .cursor) (a .table .now) (a .log .now)) (a .out .now) _ _ (c .enum-told3 .given .1) (silent (a .s) (a .cursor) (a .table .now) (a .log .now) (a .out .now))
 
 returns-8 : tie.Need-returns-8
-unfolding obeyed valued writing
-returns-8 c = silent ((c .before .before .before .before .before .args .s)) ((c .before .before .before .before .before .args .cursor)) ((c .before .before .before .before .before .args .table) .now) ((c .before .before .before .before .before .args .log) .now) ((c .before .before .before .before .before .args .out) .now) ∙ sym (ap (λ (r : Line). writing (obeyed r (desk ((c .before .before .before .before .before .args .s)) ((c .before .before .before .before .before .args .cursor)) ((c .before .before .before .before .before .args .table) .now) ((c .before .before .before .before .before .args .log) .now))) ((c .before .before .before .before .before .args .out) .now)) (c .enum-told4 .given .1))
+unfolding obeyed valued
+returns-8 c =
+    let a = (c .before .before .before .before .before .args) in
+    told-line _ (desk (a .s) (a .cursor) (a .table .now) (a .log .now)) (a .out .now) _ _ (c .enum-told4 .given .1) (silent (a .s) (a .cursor) (a .table .now) (a .log .now) (a .out .now))
 
 returns-9 : tie.Need-returns-9
-unfolding obeyed valued writing
-returns-9 c = silent ((c .before .before .before .before .before .args .s)) ((c .before .before .before .before .before .args .cursor)) ((c .before .before .before .before .before .args .table) .now) ((c .before .before .before .before .before .args .log) .now) ((c .before .before .before .before .before .args .out) .now) ∙ sym (ap (λ (r : Line). writing (obeyed r (desk ((c .before .before .before .before .before .args .s)) ((c .before .before .before .before .before .args .cursor)) ((c .before .before .before .before .before .args .table) .now) ((c .before .before .before .before .before .args .log) .now))) ((c .before .before .before .before .before .args .out) .now)) (c .enum-told5 .given .1))
+unfolding obeyed valued
+returns-9 c =
+    let a = (c .before .before .before .before .before .args) in
+    told-line _ (desk (a .s) (a .cursor) (a .table .now) (a .log .now)) (a .out .now) _ _ (c .enum-told5 .given .1) (silent (a .s) (a .cursor) (a .table .now) (a .log .now) (a .out .now))
 
 returns-10 : tie.Need-returns-10
-unfolding obeyed valued writing
-returns-10 c = silent ((c .before .before .before .before .before .args .s)) ((c .before .before .before .before .before .args .cursor)) ((c .before .before .before .before .before .args .table) .now) ((c .before .before .before .before .before .args .log) .now) ((c .before .before .before .before .before .args .out) .now) ∙ sym (ap (λ (r : Line). writing (obeyed r (desk ((c .before .before .before .before .before .args .s)) ((c .before .before .before .before .before .args .cursor)) ((c .before .before .before .before .before .args .table) .now) ((c .before .before .before .before .before .args .log) .now))) ((c .before .before .before .before .before .args .out) .now)) (c .enum-told6 .given .1))
+unfolding obeyed valued
+returns-10 c =
+    let a = (c .before .before .before .before .before .args) in
+    told-line _ (desk (a .s) (a .cursor) (a .table .now) (a .log .now)) (a .out .now) _ _ (c .enum-told6 .given .1) (silent (a .s) (a .cursor) (a .table .now) (a .log .now) (a .out .now))
 
 pub obey-read-spec : {M : Type 1} → statement M
 obey-read-spec =

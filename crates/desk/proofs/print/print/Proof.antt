@@ -1,7 +1,7 @@
-use mathlib.Core.Path.{_≡_, refl, sym, ap, ap₂, _∙_}
-use Rattle.graph_division.specs.declared.Answer.{Answer}
+use mathlib.Core.Path.{_≡_, refl, sym, ap, ap₂, subst, _∙_}
 use Rattle.graph_division.specs.Answers.{valuesOf}
-use Rattle.desk.specs.Print.{letterOf, numbersIn, lineOf, printing}
+use Rattle.desk.specs.Print.{letterOf, numbersIn, lineOf}
+use Rattle.desk.proofs.Answering.{shown-as}
 use borrow.Author.Needs.{needs}
 use Rattle.desk.proofs.print.print.Statement.{statement}
 use Rattle.desk.proofs.print.print.Tie as tie
@@ -47,42 +47,42 @@ same-length c = search needs
 
 returns : tie.Need-returns
 unfolding lineOf letterOf numbersIn valuesOf
-returns c = (c .before .before .print-first .ensures) ∙ sym (ap (λ (a : Answer). printing (lineOf a ((c .before .before .before .before .before .before .before .before .before .args .values) .now)) ((c .before .before .before .before .before .before .before .before .before .args .out) .now)) (c .before .before .before .before .before .a .given .1))
+returns c = shown-as ((c .before .before .before .before .before .before .before .before .before .args .values) .now) _ _ ((c .before .before .before .before .before .before .before .before .before .args .out) .now) _ _ (c .before .before .before .before .before .a .given .1) (c .before .before .print-first .ensures)
 
 same-length-2 : tie.Need-same-length-2
 same-length-2 c = search needs
 
 returns-2 : tie.Need-returns-2
 unfolding lineOf letterOf numbersIn valuesOf
-returns-2 c = (c .before .before .print-first2 .ensures) ∙ sym (ap (λ (a : Answer). printing (lineOf a ((c .before .before .before .before .before .before .before .before .args .values) .now)) ((c .before .before .before .before .before .before .before .before .args .out) .now)) (c .before .before .before .before .enum-told .given .1))
+returns-2 c = shown-as ((c .before .before .before .before .before .before .before .before .args .values) .now) _ _ ((c .before .before .before .before .before .before .before .before .args .out) .now) _ _ (c .before .before .before .before .enum-told .given .1) (c .before .before .print-first2 .ensures)
 
 same-length-3 : tie.Need-same-length-3
 same-length-3 c = search needs
 
 returns-3 : tie.Need-returns-3
 unfolding lineOf letterOf numbersIn valuesOf
-returns-3 c = (c .before .before .print-first3 .ensures) ∙ sym (ap (λ (a : Answer). printing (lineOf a ((c .before .before .before .before .before .before .before .before .args .values) .now)) ((c .before .before .before .before .before .before .before .before .args .out) .now)) (c .before .before .before .before .enum-told2 .given .1))
+returns-3 c = shown-as ((c .before .before .before .before .before .before .before .before .args .values) .now) _ _ ((c .before .before .before .before .before .before .before .before .args .out) .now) _ _ (c .before .before .before .before .enum-told2 .given .1) (c .before .before .print-first3 .ensures)
 
 same-length-4 : tie.Need-same-length-4
 same-length-4 c = search needs
 
 returns-4 : tie.Need-returns-4
 unfolding lineOf letterOf numbersIn valuesOf
-returns-4 c = (c .before .before .print-first4 .ensures) ∙ sym (ap (λ (a : Answer). printing (lineOf a ((c .before .before .before .before .before .before .before .before .args .values) .now)) ((c .before .before .before .before .before .before .before .before .args .out) .now)) (c .before .before .before .before .enum-told3 .given .1))
+returns-4 c = shown-as ((c .before .before .before .before .before .before .before .before .args .values) .now) _ _ ((c .before .before .before .before .before .before .before .before .args .out) .now) _ _ (c .before .before .before .before .enum-told3 .given .1) (c .before .before .print-first4 .ensures)
 
 same-length-5 : tie.Need-same-length-5
 same-length-5 c = search needs
 
 returns-5 : tie.Need-returns-5
 unfolding lineOf letterOf numbersIn valuesOf
-returns-5 c = (c .before .before .print-first5 .ensures) ∙ sym (ap (λ (a : Answer). printing (lineOf a ((c .before .before .before .before .before .before .before .before .before .args .values) .now)) ((c .before .before .before .before .before .before .before .before .before .args .out) .now)) (c .before .before .before .before .before .a2 .given .1))
+returns-5 c = shown-as ((c .before .before .before .before .before .before .before .before .before .args .values) .now) _ _ ((c .before .before .before .before .before .before .before .before .before .args .out) .now) _ _ (c .before .before .before .before .before .a2 .given .1) (c .before .before .print-first5 .ensures)
 
 same-length-6 : tie.Need-same-length-6
 same-length-6 c = search needs
 
 returns-6 : tie.Need-returns-6
 unfolding lineOf letterOf numbersIn valuesOf
-returns-6 c = (c .before .before .print-refusal .ensures) ∙ sym (ap (λ (a : Answer). printing (lineOf a ((c .before .before .before .before .before .before .before .before .before .args .values) .now)) ((c .before .before .before .before .before .before .before .before .before .args .out) .now)) (c .before .before .before .before .before .a3 .given .1))
+returns-6 c = shown-as ((c .before .before .before .before .before .before .before .before .before .args .values) .now) _ _ ((c .before .before .before .before .before .before .before .before .before .args .out) .now) _ _ (c .before .before .before .before .before .a3 .given .1) (c .before .before .print-refusal .ensures)
 
 pub print-spec : {M : Type 1} → statement M
 print-spec =

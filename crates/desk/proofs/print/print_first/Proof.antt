@@ -1,8 +1,9 @@
+use mathlib.Core.Path.{_≡_, refl, sym, ap, ap₂, subst, _∙_}
+use native.Mathlib.Omega.{arith}
 use Prim.Native.Nat.{ℕ, _-_}
 use lib.ListN.{take}
-use mathlib.Core.Path.{_≡_, refl, sym, ap, ap₂, _∙_}
-use native.Mathlib.Omega.{arith}
 use lib.Seq.{take-all}
+use Rattle.desk.proofs.Room.{answer-few}
 use Rattle.desk.proofs.Printing.{answered}
 use borrow.Author.Needs.{needs}
 use Rattle.desk.proofs.print.print_first.Statement.{statement}
@@ -18,7 +19,10 @@ same-length : tie.Need-same-length
 same-length c = search needs
 
 returns : tie.Need-returns
-returns c = answered _ _ _ _ _ _ _ (c .count-of .ensures) (c .before .before .before .write-answer .ensures) (sym (take-all (c .before .before .before .before .before .before .before .before .args .n) ((c .before .before .before .before .before .before .before .before .args .values) .now) (omega arith)))
+returns c = (
+  answered _ _ _ _ _ _ _ (c .count-of .ensures) (c .before .before .before .write-answer .ensures) (sym (take-all (c .before .before .before .before .before .before .before .before .args .n) ((c .before .before .before .before .before .before .before .before .args .values) .now) (omega arith))),
+  (answer-few (c .before .before .before .before .before .before .before .before .args .letter) (c .before .before .before .before .before .before .before .before .args .n) ((c .before .before .before .before .before .before .before .before .args .values) .now) (λ i. (c .before .before .before .before .before .before .before .shared-slice-known .given) i .fits) (omega arith)),
+)
 
 sub-write-answer : tie.Need-sub-write-answer
 sub-write-answer c = search needs
@@ -39,7 +43,11 @@ same-length-2 : tie.Need-same-length-2
 same-length-2 c = search needs
 
 returns-2 : tie.Need-returns-2
-returns-2 c = answered _ _ _ _ _ _ _ (c .count-of2 .ensures) (c .before .before .before .write-answer2 .ensures) (let z : (c .before .before .before .before .before .before .before .before .before .args .n) - 0 ≡ (c .before .before .before .before .before .before .before .before .before .args .n) = omega arith in ap (λ (k : ℕ). take k ((c .before .before .before .before .before .before .before .before .before .args .values) .now)) z)
+returns-2 c =
+    let z : (c .before .before .before .before .before .before .before .before .before .args .n) - 0 ≡ (c .before .before .before .before .before .before .before .before .before .args .n) = omega arith in (
+      answered _ _ _ _ _ _ _ (c .count-of2 .ensures) (c .before .before .before .write-answer2 .ensures) (ap (λ (k : ℕ). take k ((c .before .before .before .before .before .before .before .before .before .args .values) .now)) z),
+      (answer-few (c .before .before .before .before .before .before .before .before .before .args .letter) (c .before .before .before .before .before .before .before .before .before .args .n) ((c .before .before .before .before .before .before .before .before .before .args .values) .now) (λ i. (c .before .before .before .before .before .before .before .before .shared-slice-known .given) i .fits) (omega arith)),
+    )
 
 pub print-first-spec : {M : Type 1} → statement M
 print-first-spec =

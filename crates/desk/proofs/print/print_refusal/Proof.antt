@@ -1,4 +1,6 @@
-use mathlib.Core.Path.{_≡_, refl, sym, ap, ap₂, _∙_}
+use mathlib.Core.Path.{_≡_, refl, sym, ap, ap₂, subst, _∙_}
+use native.Mathlib.Omega.{arith}
+use Rattle.desk.proofs.Room.{refusal-few}
 use Rattle.desk.proofs.Printing.{answered}
 use borrow.Author.Needs.{needs}
 use Rattle.desk.proofs.print.print_refusal.Statement.{statement}
@@ -17,7 +19,7 @@ same-length : tie.Need-same-length
 same-length c = search needs
 
 returns : tie.Need-returns
-returns c = answered _ _ _ _ _ _ _ (c .count-of .ensures) (c .before .before .before .write-answer .ensures) refl
+returns c = (answered _ _ _ _ _ _ _ (c .count-of .ensures) (c .before .before .before .write-answer .ensures) refl, refusal-few _ _ (omega arith))
 
 pub print-refusal-spec : {M : Type 1} → statement M
 print-refusal-spec =
