@@ -25,7 +25,7 @@ use Rattle.graph_division.specs.declared.Answer.{Answer}
 use Rattle.graph_division.specs.declared.Outcome.{Outcome}
 use Rattle.desk.specs.Print.{Printed, written, printing, lineOf}
 use Rattle.desk.specs.Obey.{Turn, Desk, desk, turn, Held, held, holding, writing, isRefused, marked, begun, notified, takenBack, obeyed}
-use Rattle.desk.proofs.Printing.{no-bytes}
+use Rattle.desk.proofs.Printing.{no-bytes, count-within}
 
 -- ---- a refused notification leaves the table
 abbrev pub Keeps : List ℕ → Called → Type 0
@@ -146,3 +146,8 @@ begin-turn s c t log out n o t′ list₀ list log′ out′ z e g =
 pub silent : (s : GraphDivision) (c : Cursor) (t log out : List ℕ) → Told (held (record { state = s; cursor = c; printed = 0 }) t log out) (turn (desk s c t log) []) out
 unfolding writing
 silent s c t log out = (ap (holding (desk s c t log)) (no-bytes out), omega arith)
+
+-- what is said to be printed lies in the buffer
+pub printed-within : (h : Held) (t : Turn) (out : List ℕ) → Told h t out → h .obeyed .printed ≤ length out
+unfolding writing
+printed-within h t out x = subst (λ (n : ℕ). n ≤ length out) (sym (ap (λ (y : Held). y .obeyed .printed) (x .0))) (count-within (t .bytes) out)

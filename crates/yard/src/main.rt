@@ -18,14 +18,14 @@ fn input_buffer() -> [u8; 1048577]
 }
 
 // The first n bytes are written.
-fn show(out: &[u8], n: usize) {
-    if n <= out.len() {
-        io::write_all(1, &out[0..n]);
-    }
+fn show(out: &[u8], n: usize)
+    requires { ⌜ n ≤ length (now out) ⌝ }
+{
+    io::write_all(1, &out[0..n]);
 }
 
 fn refuse(number: u8) {
-    let mut out = [0u8; 16];
+    let mut out = io::large_buffer();
     let n = print_refusal(number as u32, &mut out);
     show(&out, n);
 }

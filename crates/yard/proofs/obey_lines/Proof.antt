@@ -4,6 +4,7 @@ use Prim.Native.Nat.{_-_, _≤_}
 use lib.ListN.{length}
 use Rattle.text.specs.Fields.{newline}
 use Rattle.text.proofs.Cut.{upto-in}
+use Rattle.desk.proofs.Answering.{printed-within}
 use borrow.Author.Needs.{needs}
 use Rattle.yard.proofs.obey_lines.Statement.{statement}
 use Rattle.yard.proofs.obey_lines.Tie as tie
@@ -55,7 +56,7 @@ slice-aggregate-show : tie.Need-slice-aggregate-show Inv-loop μ-loop
 slice-aggregate-show c = search needs
 
 show-requires : tie.Need-show-requires Inv-loop μ-loop
-show-requires c κs = search needs
+show-requires c κs = omega (arith, printed-within _ _ _ (c .before .before .before .before .obey .ensures))
 
 add-at : tie.Need-add-at Inv-loop μ-loop
 add-at c = omega (arith, inside (c .before .before .before .before .before .before .before .before .before .before .before .before))
