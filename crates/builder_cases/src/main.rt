@@ -4,8 +4,9 @@
 //
 // The file stdout comes from a reading of the order's text by another program, in Python, and not from this one.
 use builder::build::GraphDivisionOptions;
-use text::Line;
-ghost use Prim.Native.Nat.{_+_, _<_, _≤_};
+use plan_lines::Counts;
+use plan_lines::take_line;
+ghost use Prim.Native.Nat.{_<_, _≤_};
 ghost use lib.ListN.{length};
 
 fn put(s: &[u8]) {
@@ -15,120 +16,6 @@ fn put(s: &[u8]) {
 fn put_number(n: u64) {
     put(b"\t");
     io::print_decimal(1, n);
-}
-
-// How much of a block was read. A count stops far past every limit, so that it never wraps.
-struct Counts {
-    vertices: usize,
-    edges: usize,
-    same_size: bool,
-    extra_walls: bool,
-}
-
-fn one_more(n: usize) -> usize {
-    if n < 1000000 {
-        return n + 1;
-    }
-    n
-}
-
-// A count as one of the builder's numbers, with the same stop.
-fn as_number(n: usize) -> i32 {
-    if n < 1000000 {
-        return n as i32;
-    }
-    1000000
-}
-
-// A vertex's numbers from `from` on, 32 of them.
-fn put_row(values: &[i32; 32], from: usize, vertices: &mut [i32; 4288])
-    requires { ⌜ from + 32 ≤ 4288 ⌝ }
-{
-    let mut j = 0;
-    while j < 32 {
-        vertices[from + j] = values[j];
-        j += 1;
-    }
-}
-
-// Of the `count` numbers after the k on a P line the first `sizes` are sizes and the others literals. Those past 32 are
-// not kept: the counts alone refuse them, or an empty domain ignores them.
-fn put_vertex(
-    line: &[u8],
-    weight: i32,
-    sizes: usize,
-    count: usize,
-    v: usize,
-    vertices: &mut [i32; 4288],
-)
-    requires { ⌜ v < 64 ⌝ }
-{
-    vertices[67 * v] = weight;
-    vertices[67 * v + 1] = as_number(sizes);
-    if sizes <= count {
-        vertices[67 * v + 2] = as_number(count - sizes);
-    }
-    let mut row = [0i32; 32];
-    text::numbers(line, 2, &mut row);
-    put_row(&row, 67 * v + 3, vertices);
-    if sizes <= 32 {
-        let mut lits = [0i32; 32];
-        text::numbers(line, 2 + sizes, &mut lits);
-        put_row(&lits, 67 * v + 35, vertices);
-    }
-}
-
-fn put_edge(u: i32, v: i32, lit: i32, g: usize, edges: &mut [i32; 384])
-    requires { ⌜ g < 128 ⌝ }
-{
-    edges[3 * g] = u;
-    edges[3 * g + 1] = v;
-    edges[3 * g + 2] = lit;
-}
-
-// A line of a block. A vertex or an edge past the arrays is only counted.
-fn take_line(line: &[u8], c: Counts, vertices: &mut [i32; 4288], edges: &mut [i32; 384]) -> Counts {
-    let read = text::read_line(line);
-    match read {
-        Line::O {
-            same_size,
-            extra_walls,
-        } => Counts {
-            vertices: c.vertices,
-            edges: c.edges,
-            same_size,
-            extra_walls,
-        },
-        Line::P {
-            weight,
-            sizes,
-            count,
-        } => {
-            let v = c.vertices;
-            if v < 64 {
-                put_vertex(line, weight, sizes, count, v, vertices);
-            }
-            Counts {
-                vertices: one_more(v),
-                edges: c.edges,
-                same_size: c.same_size,
-                extra_walls: c.extra_walls,
-            }
-        }
-        Line::G { u, v, lit } => {
-            let g = c.edges;
-            if g < 128 {
-                put_edge(u, v, lit, g, edges);
-            }
-            Counts {
-                vertices: c.vertices,
-                edges: one_more(g),
-                same_size: c.same_size,
-                extra_walls: c.extra_walls,
-            }
-        }
-        _ => c,
-    }
 }
 
 // A gate end that the builder took is below 64.

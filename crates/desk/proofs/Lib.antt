@@ -1,0 +1,3 @@
+pub mod Room
+pub mod Printing
+pub mod Answering
