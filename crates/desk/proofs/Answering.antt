@@ -23,8 +23,9 @@ use Rattle.graph_division.specs.Calls.{Called, called, Fetched, fetched, undone
 use Rattle.graph_division.specs.Initialize.{initialized}
 use Rattle.graph_division.specs.declared.Answer.{Answer}
 use Rattle.graph_division.specs.declared.Outcome.{Outcome}
+use Rattle.desk.specs.declared.Obeyed.{Obeyed}
 use Rattle.desk.specs.Print.{Printed, written, printing, lineOf}
-use Rattle.desk.specs.Obey.{Turn, Desk, desk, turn, Held, held, holding, writing, isRefused, marked, begun, notified, takenBack, obeyed}
+use Rattle.desk.specs.Obey.{Turn, Desk, desk, turn, staying, Held, held, holding, writing, isRefused, marked, begun, notified, takenBack, obeyed}
 use Rattle.desk.proofs.Printing.{no-bytes, count-within}
 
 -- ---- a refused notification leaves the table
@@ -104,10 +105,12 @@ pub told-line : (h : Held) (d : Desk) (out : List ℕ) (a b : Line) → b ≡ a 
 told-line h d out a b e x = subst (λ (l : Line). Told h (obeyed l d) out) (sym e) x
 
 -- a fetch changes nothing
-pub asked : (s : GraphDivision) (c : Cursor) (t log out out′ : List ℕ) (n : ℕ) (a b : List ℕ) → a ≡ b → (written n out′ ≡ printing a out) × (length a ≤ 65536) →
-    Told (held (record { state = s; cursor = c; printed = n }) t log out′) (turn (desk s c t log) b) out
+pub asked : (r : Obeyed) (s : GraphDivision) (c : Cursor) (t log out out′ : List ℕ) (n : ℕ) (a b : List ℕ) → r ≡ staying s c n → a ≡ b →
+    (written n out′ ≡ printing a out) × (length a ≤ 65536) → Told (held r t log out′) (turn (desk s c t log) b) out
 unfolding writing
-asked s c t log out out′ n a b e x = told-along _ out (turn (desk s c t log) a) (turn (desk s c t log) b) (ap (turn (desk s c t log)) e) (ap (holding (desk s c t log)) (x .0), x .1)
+asked r s c t log out out′ n a b k e x =
+    told-along _ out (turn (desk s c t log) a) (turn (desk s c t log) b) (ap (turn (desk s c t log)) e)
+    (ap (λ (y : Obeyed). held y t log out′) k ∙ ap (holding (desk s c t log)) (x .0), x .1)
 
 module _ (s : GraphDivision) (c : Cursor) (t log out : List ℕ) (lit : ℤ) (v n : ℕ) (b : Bool) (t′ out′ list : List ℕ) (o : Outcome) (p : v ≡ litNumber lit / 2) (q : b ≡ isRefused (o .answer)) where
   pub notify-turn : (pending lit′ pending′ : ℤ) (old : ℕ) (t₁ t₂ list₀ log′ : List ℕ) → old ≡ getD t v 0 → t₁ ≡ marked lit t → list₀ ≡ replicate 4352 0 → lit′ ≡ lit → pending′ ≡ pending →
@@ -143,9 +146,8 @@ begin-turn s c t log out n o t′ list₀ list log′ out′ z e g =
     let W = g .0 ∙ ap (λ (x : Called). printing (lineOf (x .outcome .answer) (x .list)) out) E in
     (λ i. holding (desk (E i .outcome .state) (E i .outcome .cursor) (E i .table) (E i .log)) (W i), subst (λ (x : Called). Few (x .outcome .answer) (x .list)) E (g .1))
 
-pub silent : (s : GraphDivision) (c : Cursor) (t log out : List ℕ) → Told (held (record { state = s; cursor = c; printed = 0 }) t log out) (turn (desk s c t log) []) out
-unfolding writing
-silent s c t log out = (ap (holding (desk s c t log)) (no-bytes out), omega arith)
+pub silent : (r : Obeyed) (s : GraphDivision) (c : Cursor) (t log out : List ℕ) → r ≡ staying s c 0 → Told (held r t log out) (turn (desk s c t log) []) out
+silent r s c t log out k = asked r s c t log out out 0 [] [] k refl (no-bytes out, omega arith)
 
 -- what is said to be printed lies in the buffer
 pub printed-within : (h : Held) (t : Turn) (out : List ℕ) → Told h t out → h .obeyed .printed ≤ length out

@@ -102,8 +102,11 @@ pub record Held : Type 0 where
 abbrev pub held : Obeyed → List ℕ → List ℕ → List ℕ → Held
 held r t log out = record { obeyed = r; table = t; log = log; out = out }
 
+abbrev pub staying : GraphDivision → Cursor → ℕ → Obeyed
+staying s c n = record { state = s; cursor = c; printed = n }
+
 abbrev pub holding : Desk → Printed → Held
-holding d p = held (record { state = d .state; cursor = d .cursor; printed = p .count }) (d .table) (d .log) (p .out)
+holding d p = held (staying (d .state) (d .cursor) (p .count)) (d .table) (d .log) (p .out)
 
 -- a turn with its bytes written into a buffer
 unfoldable pub writing : Turn → List ℕ → Held

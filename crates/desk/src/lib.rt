@@ -18,7 +18,7 @@ ghost use Prim.Native.Nat.{_≤_};
 ghost use lib.ListN.{length, replicate};
 ghost use Rattle.text.specs.Lines.{readLine};
 ghost use Rattle.desk.specs.Print.{written, printing};
-ghost use Rattle.desk.specs.Obey.{desk, held, writing, isRefused, begun, notified, takenBack, reasonAsked, lastAsked, obeyed};
+ghost use Rattle.desk.specs.Obey.{desk, held, writing, isRefused, begun, notified, takenBack, reasonAsked, lastAsked, obeyed, staying};
 
 // What a line leaves, besides what it was lent: the first `printed` bytes of the lent buffer are what it prints.
 pub struct Obeyed {
@@ -146,6 +146,17 @@ fn ask_last(s: GraphDivision, cursor: Cursor, log: &[u64], out: &mut [u8]) -> us
     print(a, &list, out)
 }
 
+// State and cursor as they were.
+fn stay(s: GraphDivision, cursor: Cursor, printed: usize) -> Obeyed
+    ensures { λ r. ⌜ r ≡ staying s cursor printed ⌝ }
+{
+    Obeyed {
+        state: s,
+        cursor: cursor,
+        printed: printed,
+    }
+}
+
 fn obey_read(
     s: GraphDivision,
     cursor: Cursor,
@@ -159,52 +170,24 @@ fn obey_read(
     match read {
         Line::V { variable, code } => {
             table::store(table, variable as usize, code);
-            Obeyed {
-                state: s,
-                cursor: cursor,
-                printed: 0,
-            }
+            stay(s, cursor, 0)
         }
         Line::N { lit, pending } => notify(s, cursor, table, log, lit, pending, out),
         Line::U { lit } => take_back(s, cursor, table, log, lit, out),
-        Line::R { lit } => Obeyed {
-            state: s,
-            cursor: cursor,
-            printed: ask_reason(s, cursor, log, lit, out),
-        },
-        Line::RLast => Obeyed {
-            state: s,
-            cursor: cursor,
-            printed: ask_last(s, cursor, log, out),
-        },
+        Line::R { lit } => stay(s, cursor, ask_reason(s, cursor, log, lit, out)),
+        Line::RLast => stay(s, cursor, ask_last(s, cursor, log, out)),
         Line::I => begin(s, cursor, table, log, out),
         Line::O {
             same_size: _,
             extra_walls: _,
-        } => Obeyed {
-            state: s,
-            cursor: cursor,
-            printed: 0,
-        },
+        } => stay(s, cursor, 0),
         Line::P {
             weight: _,
             sizes: _,
             count: _,
-        } => Obeyed {
-            state: s,
-            cursor: cursor,
-            printed: 0,
-        },
-        Line::G { u: _, v: _, lit: _ } => Obeyed {
-            state: s,
-            cursor: cursor,
-            printed: 0,
-        },
-        Line::Malformed => Obeyed {
-            state: s,
-            cursor: cursor,
-            printed: 0,
-        },
+        } => stay(s, cursor, 0),
+        Line::G { u: _, v: _, lit: _ } => stay(s, cursor, 0),
+        Line::Malformed => stay(s, cursor, 0),
     }
 }
 

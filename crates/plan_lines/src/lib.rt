@@ -5,7 +5,7 @@ ghost use Prim.Native.Nat.{_+_, _*_, _-_, _≤_, _<_};
 ghost use lib.IntN.{pos};
 ghost use lib.ListN.{getD};
 ghost use Rattle.text.specs.Lines.{readLine};
-ghost use Rattle.plan_lines.specs.Lines.{oneMore, asNumber, rowPut, numbersPut, headPut, litsPut, vertexPut, edgePut, drafted, taken, isPlanLine, readingOf, nextLine, takenLines};
+ghost use Rattle.plan_lines.specs.Lines.{oneMore, asNumber, rowPut, numbersPut, headPut, litsPut, vertexPut, edgePut, counts, drafted, taken, isPlanLine, readingOf, nextLine, takenLines};
 
 // How much of a plan was read. A count stops far past every limit, so that it never wraps.
 pub struct Counts {
@@ -129,6 +129,34 @@ fn put_edge(u: i32, v: i32, lit: i32, g: usize, edges: &mut [i32; 384])
     edges[3 * g + 2] = lit;
 }
 
+fn with_options(c: Counts, same_size: bool, extra_walls: bool) -> Counts
+    ensures { λ r. ⌜ r ≡ counts (c .vertices) (c .edges) «same_size» «extra_walls» ⌝ }
+{
+    Counts {
+        same_size: same_size,
+        extra_walls: extra_walls,
+        ..c
+    }
+}
+
+fn with_vertex(c: Counts) -> Counts
+    ensures { λ r. ⌜ r ≡ counts (oneMore (c .vertices)) (c .edges) (c .«same_size») (c .«extra_walls») ⌝ }
+{
+    Counts {
+        vertices: one_more(c.vertices),
+        ..c
+    }
+}
+
+fn with_edge(c: Counts) -> Counts
+    ensures { λ r. ⌜ r ≡ counts (c .vertices) (oneMore (c .edges)) (c .«same_size») (c .«extra_walls») ⌝ }
+{
+    Counts {
+        edges: one_more(c.edges),
+        ..c
+    }
+}
+
 fn take(
     line: &[u8],
     read: Line,
@@ -142,28 +170,18 @@ fn take(
         Line::O {
             same_size,
             extra_walls,
-        } => Counts {
-            same_size: same_size,
-            extra_walls: extra_walls,
-            ..c
-        },
+        } => with_options(c, same_size, extra_walls),
         Line::P {
             weight,
             sizes,
             count,
         } => {
             put_vertex(line, weight, sizes, count, c.vertices, vertices);
-            Counts {
-                vertices: one_more(c.vertices),
-                ..c
-            }
+            with_vertex(c)
         }
         Line::G { u, v, lit } => {
             put_edge(u, v, lit, c.edges, edges);
-            Counts {
-                edges: one_more(c.edges),
-                ..c
-            }
+            with_edge(c)
         }
         Line::V {
             variable: _,

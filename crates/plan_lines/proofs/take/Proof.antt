@@ -1,15 +1,20 @@
-use mathlib.Core.Path.{_≡_, refl, sym, ap, ap₂, _∙_}
-use Rattle.text.specs.declared.Line.{Line}
-use Rattle.plan_lines.specs.Lines.{taken, drafted, counts, vertexPut, edgePut}
+use mathlib.Core.Path.{_≡_, refl, sym, ap, _∙_}
 use lib.IntN.{ℤ}
 use mir.Syntax.{w32}
 use mir.Facts.{toZ-ofZ}
 use borrow.Author.Needs.{needs, sfits-of}
+use Rattle.text.specs.declared.Line.{Line}
+use Rattle.plan_lines.specs.declared.Counts.{Counts}
+use Rattle.plan_lines.specs.Lines.{taken, drafted, vertexPut, edgePut}
+use borrow.Author.Needs.{needs}
 use Rattle.plan_lines.proofs.take.Statement.{statement}
 use Rattle.plan_lines.proofs.take.Tie as tie
 
 enum-known-read : tie.Need-enum-known-read
 enum-known-read c = search needs
+
+with-options-requires : tie.Need-with-options-requires
+with-options-requires c κs = search needs
 
 enum-known-read-2 : tie.Need-enum-known-read-2
 enum-known-read-2 c = search needs
@@ -17,8 +22,8 @@ enum-known-read-2 c = search needs
 put-vertex-requires : tie.Need-put-vertex-requires
 put-vertex-requires c κs = search needs
 
-one-more-requires : tie.Need-one-more-requires
-one-more-requires c κs = search needs
+with-vertex-requires : tie.Need-with-vertex-requires
+with-vertex-requires c κs = search needs
 
 enum-known-read-3 : tie.Need-enum-known-read-3
 enum-known-read-3 c = search needs
@@ -26,8 +31,8 @@ enum-known-read-3 c = search needs
 put-edge-requires : tie.Need-put-edge-requires
 put-edge-requires c κs = search needs
 
-one-more-requires-2 : tie.Need-one-more-requires-2
-one-more-requires-2 c κs = search needs
+with-edge-requires : tie.Need-with-edge-requires
+with-edge-requires c κs = search needs
 
 enum-told : tie.Need-enum-told
 enum-told c = search needs
@@ -52,7 +57,10 @@ enum-told-7 c = search needs
 
 returns : tie.Need-returns
 unfolding taken
-returns c = sym (ap (λ (r : Line). taken ((c .before .before .before .before .args .line) .now) r (drafted (c .before .before .before .before .args .c) ((c .before .before .before .before .args .vertices) .now) ((c .before .before .before .before .args .edges) .now))) (c .before .read .given .1))
+returns c =
+    let a = (c .before .before .before .before .before .args) in
+    ap (λ (x : Counts). drafted x (a .vertices .now) (a .edges .now)) (c .with-options .ensures)
+    ∙ sym (ap (λ (r : Line). taken (a .line .now) r (drafted (a .c) (a .vertices .now) (a .edges .now))) (c .before .before .read .given .1))
 
 returns-2 : tie.Need-returns-2
 unfolding taken
@@ -60,7 +68,7 @@ returns-2 c =
     let a = (c .before .before .before .before .before .before .before .args) in
     let w = toZ-ofZ {w = w32} (sfits-of ((c .before .before .before .known-told2 .given .0 .1))) in
     let r = (c .before .before .before .before .read2 .given .0) in
-    (λ i. drafted (counts ((c .one-more .ensures) i) (a .c .edges) (a .c .«same_size») (a .c .«extra_walls»)) (((c .before .put-vertex .ensures) ∙ ap (λ (x : ℤ). vertexPut (a .line .now) x (r .1 .0) (r .1 .1 .0) (a .c .vertices) (a .vertices .now)) w) i) (a .edges .now))
+    (λ i. drafted ((c .with-vertex .ensures) i) (((c .before .put-vertex .ensures) ∙ ap (λ (x : ℤ). vertexPut (a .line .now) x (r .1 .0) (r .1 .1 .0) (a .c .vertices) (a .vertices .now)) w) i) (a .edges .now))
     ∙ sym (ap (λ (r : Line). taken (a .line .now) r (drafted (a .c) (a .vertices .now) (a .edges .now))) (c .before .before .before .before .read2 .given .1))
 
 returns-3 : tie.Need-returns-3
@@ -71,48 +79,63 @@ returns-3 c =
     let u = toZ-ofZ {w = w32} (sfits-of (k .0 .1)) in
     let v = toZ-ofZ {w = w32} (sfits-of (k .1 .0 .1)) in
     let l = toZ-ofZ {w = w32} (sfits-of (k .1 .1 .0 .1)) in
-    (λ i. drafted (counts (a .c .vertices) ((c .one-more2 .ensures) i) (a .c .«same_size») (a .c .«extra_walls»)) (a .vertices .now) (((c .before .put-edge .ensures) ∙ (λ j. edgePut (u j) (v j) (l j) (a .c .edges) (a .edges .now))) i))
+    (λ i. drafted ((c .with-edge .ensures) i) (a .vertices .now) (((c .before .put-edge .ensures) ∙ (λ j. edgePut (u j) (v j) (l j) (a .c .edges) (a .edges .now))) i))
     ∙ sym (ap (λ (r : Line). taken (a .line .now) r (drafted (a .c) (a .vertices .now) (a .edges .now))) (c .before .before .before .before .read3 .given .1))
 
 returns-4 : tie.Need-returns-4
 unfolding taken
-returns-4 c = sym (ap (λ (r : Line). taken ((c .before .before .before .args .line) .now) r (drafted (c .before .before .before .args .c) ((c .before .before .before .args .vertices) .now) ((c .before .before .before .args .edges) .now))) (c .enum-told .given .1))
+returns-4 c =
+    let a = (c .before .before .before .args) in
+    sym (ap (λ (r : Line). taken (a .line .now) r (drafted (a .c) (a .vertices .now) (a .edges .now))) (c .enum-told .given .1))
 
 returns-5 : tie.Need-returns-5
 unfolding taken
-returns-5 c = sym (ap (λ (r : Line). taken ((c .before .before .before .args .line) .now) r (drafted (c .before .before .before .args .c) ((c .before .before .before .args .vertices) .now) ((c .before .before .before .args .edges) .now))) (c .enum-told2 .given .1))
+returns-5 c =
+    let a = (c .before .before .before .args) in
+    sym (ap (λ (r : Line). taken (a .line .now) r (drafted (a .c) (a .vertices .now) (a .edges .now))) (c .enum-told2 .given .1))
 
 returns-6 : tie.Need-returns-6
 unfolding taken
-returns-6 c = sym (ap (λ (r : Line). taken ((c .before .before .before .args .line) .now) r (drafted (c .before .before .before .args .c) ((c .before .before .before .args .vertices) .now) ((c .before .before .before .args .edges) .now))) (c .enum-told3 .given .1))
+returns-6 c =
+    let a = (c .before .before .before .args) in
+    sym (ap (λ (r : Line). taken (a .line .now) r (drafted (a .c) (a .vertices .now) (a .edges .now))) (c .enum-told3 .given .1))
 
 returns-7 : tie.Need-returns-7
 unfolding taken
-returns-7 c = sym (ap (λ (r : Line). taken ((c .before .before .before .args .line) .now) r (drafted (c .before .before .before .args .c) ((c .before .before .before .args .vertices) .now) ((c .before .before .before .args .edges) .now))) (c .enum-told4 .given .1))
+returns-7 c =
+    let a = (c .before .before .before .args) in
+    sym (ap (λ (r : Line). taken (a .line .now) r (drafted (a .c) (a .vertices .now) (a .edges .now))) (c .enum-told4 .given .1))
 
 returns-8 : tie.Need-returns-8
 unfolding taken
-returns-8 c = sym (ap (λ (r : Line). taken ((c .before .before .before .args .line) .now) r (drafted (c .before .before .before .args .c) ((c .before .before .before .args .vertices) .now) ((c .before .before .before .args .edges) .now))) (c .enum-told5 .given .1))
+returns-8 c =
+    let a = (c .before .before .before .args) in
+    sym (ap (λ (r : Line). taken (a .line .now) r (drafted (a .c) (a .vertices .now) (a .edges .now))) (c .enum-told5 .given .1))
 
 returns-9 : tie.Need-returns-9
 unfolding taken
-returns-9 c = sym (ap (λ (r : Line). taken ((c .before .before .before .args .line) .now) r (drafted (c .before .before .before .args .c) ((c .before .before .before .args .vertices) .now) ((c .before .before .before .args .edges) .now))) (c .enum-told6 .given .1))
+returns-9 c =
+    let a = (c .before .before .before .args) in
+    sym (ap (λ (r : Line). taken (a .line .now) r (drafted (a .c) (a .vertices .now) (a .edges .now))) (c .enum-told6 .given .1))
 
 returns-10 : tie.Need-returns-10
 unfolding taken
-returns-10 c = sym (ap (λ (r : Line). taken ((c .before .before .before .args .line) .now) r (drafted (c .before .before .before .args .c) ((c .before .before .before .args .vertices) .now) ((c .before .before .before .args .edges) .now))) (c .enum-told7 .given .1))
+returns-10 c =
+    let a = (c .before .before .before .args) in
+    sym (ap (λ (r : Line). taken (a .line .now) r (drafted (a .c) (a .vertices .now) (a .edges .now))) (c .enum-told7 .given .1))
 
 pub take-spec : {M : Type 1} → statement M
 take-spec =
     tie.close
     (tie.spec
     enum-known-read
+    with-options-requires
     enum-known-read-2
     put-vertex-requires
-    one-more-requires
+    with-vertex-requires
     enum-known-read-3
     put-edge-requires
-    one-more-requires-2
+    with-edge-requires
     enum-told
     enum-told-2
     enum-told-3
