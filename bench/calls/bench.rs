@@ -15,7 +15,6 @@ use sat::{CustomPropagator, Lit, SolverManipulator};
 
 extern "C" {
     fn zuntjev_build(vertices: *const i32, n: usize, edges: *const i32, m: usize, same_size: i32, extra_walls: i32, state: *mut u8, state_len: usize) -> i32;
-    fn zuntjev_initialize(state: *mut u8, sn: usize, table: *mut u8, tn: usize, list: *mut u8, ln: usize, log: *mut u8, gn: usize, cursor: *mut u8, cn: usize) -> i32;
     fn zuntjev_propagate(state: *mut u8, sn: usize, table: *mut u8, tn: usize, list: *mut u8, ln: usize, log: *mut u8, gn: usize, cursor: *mut u8, cn: usize, lit: i32, pending: i32) -> i32;
     fn zuntjev_undo(state: *mut u8, sn: usize, log: *const u8, gn: usize, cursor: *mut u8, cn: usize, lit: i32) -> i32;
     fn zuntjev_calc_reason(state: *const u8, sn: usize, log: *const u8, gn: usize, cursor: *const u8, cn: usize, lit: i32, buffer: *mut u8, bn: usize) -> i32;
@@ -133,7 +132,6 @@ unsafe impl SolverManipulator for Solver {
 
 // Answers as the host gives them.
 trait Side {
-    fn initialize(&mut self) -> i32;
     fn propagate(&mut self, lit: i32) -> i32;
     fn undo(&mut self, lit: i32) -> i32;
     fn reason(&mut self, lit: i32) -> i32;
@@ -146,10 +144,6 @@ struct Rust {
 }
 
 impl Side for Rust {
-    fn initialize(&mut self) -> i32 {
-        self.solver.handed.clear();
-        if self.d.initialize(&mut self.solver) { self.solver.handed.len() as i32 } else { CONFLICT }
-    }
     fn propagate(&mut self, lit: i32) -> i32 {
         self.solver.handed.clear();
         if self.d.propagate(&mut self.solver, Lit(lit), 0) { self.solver.handed.len() as i32 } else { CONFLICT }
@@ -176,11 +170,6 @@ struct Host {
 }
 
 impl Side for Host {
-    fn initialize(&mut self) -> i32 {
-        unsafe {
-            zuntjev_initialize(self.state.as_mut_ptr(), self.state.len(), self.table.as_mut_ptr(), self.table.len(), self.list.as_mut_ptr(), self.list.len(), self.log.as_mut_ptr(), self.log.len(), self.cursor.as_mut_ptr(), self.cursor.len())
-        }
-    }
     fn propagate(&mut self, lit: i32) -> i32 {
         unsafe {
             zuntjev_propagate(self.state.as_mut_ptr(), self.state.len(), self.table.as_mut_ptr(), self.table.len(), self.list.as_mut_ptr(), self.list.len(), self.log.as_mut_ptr(), self.log.len(), self.cursor.as_mut_ptr(), self.cursor.len(), lit, 0)
@@ -199,7 +188,6 @@ impl Side for Host {
 
 #[derive(Clone, Copy)]
 enum Op {
-    Initialize,
     Propagate(i32),
     Undo(i32),
     Reason(i32),
@@ -209,7 +197,6 @@ enum Op {
 
 fn apply(s: &mut impl Side, op: Op) -> i32 {
     match op {
-        Op::Initialize => s.initialize(),
         Op::Propagate(l) => s.propagate(l),
         Op::Undo(l) => s.undo(l),
         Op::Reason(l) => s.reason(l),
@@ -299,7 +286,6 @@ fn search(plan: &Plan, r: &mut Rng, calls: usize) -> (Vec<Op>, Vec<Op>) {
         ops.push(op);
         apply(side, op)
     };
-    do_op(&mut side, &mut ops, Op::Initialize);
     while made < calls {
         let mut set = vec![];
         let next = queue.pop().or_else(|| {
@@ -380,11 +366,5 @@ fn main() {
         compare("notify and undo", &plans, |p| notify_undo(p, &mut Rng(11), 3));
         compare("fetch", &plans, |p| fetches(p, &mut Rng(11), 20));
         compare("search", &plans, |p| search(p, &mut Rng(11), 2000));
-        // One call each: a state can be initialized once.
-        let many: Vec<Plan> = (0..64).map(|_| Plan::new(&mut r, n, m, k)).collect();
-        compare("initialize, all edges", &many, |p| {
-            let set = p.truth[p.n * (p.k - 1)..].iter().map(|&l| Op::Set(l as usize / 2, 1 + (l & 1) as u8)).collect();
-            (set, vec![Op::Initialize])
-        });
     }
 }

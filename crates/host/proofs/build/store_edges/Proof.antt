@@ -1,0 +1,48 @@
+use mathlib.Core.Path.{_≡_, refl, sym, ap, ap₂, subst, _∙_}
+use Prim.Native.Nat.{ℕ, _≤_, _<_, _+_, _-_, _*_, _/_, _%_}
+use native.Mathlib.Omega.{arith}
+use lib.ListN.{length, length-set, getD, set, replicate}
+use mathlib.Core.List.{List, _∷_, []}
+use Rattle.host.proofs.build.store_edges.Statement.{statement}
+use Rattle.host.proofs.build.store_edges.Tie as tie
+
+abbrev Inv-loop : tie.InvT-loop
+Inv-loop state₀ table g₀ state g = (g ≤ 128) × (length state ≡ length state₀)
+
+abbrev μ-loop : tie.MeasureT-loop
+μ-loop state₀ table g₀ state g = 128 - g
+
+loop-holds : tie.Need-loop-holds Inv-loop μ-loop
+loop-holds c = (omega arith, refl)
+
+store-ends-requires : tie.Need-store-ends-requires Inv-loop μ-loop
+store-ends-requires c κs = (omega (arith, (c .before .before .loop .inv .1)), omega arith)
+
+add-g : tie.Need-add-g Inv-loop μ-loop
+add-g c = omega arith
+
+loop-less : tie.Need-loop-less Inv-loop μ-loop
+loop-less c = omega arith
+
+loop-again : tie.Need-loop-again Inv-loop μ-loop
+loop-again c = (omega arith, (c .before .before .store-ends .ensures) ∙ (c .before .before .before .before .before .loop .inv .1))
+
+same-length : tie.Need-same-length Inv-loop μ-loop
+same-length c = (c .before .loop .inv .1)
+
+returns : tie.Need-returns Inv-loop μ-loop
+returns c = (c .before .loop .inv .1)
+
+pub store-edges-spec : {M : Type 1} → statement M
+store-edges-spec =
+    tie.close
+    (tie.spec
+    Inv-loop
+    μ-loop
+    loop-holds
+    store-ends-requires
+    add-g
+    loop-less
+    loop-again
+    same-length
+    returns)

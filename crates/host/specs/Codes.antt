@@ -1,0 +1,36 @@
+-- Answers as numbers: how many literals there are, minus the number of a refusal, -100 for a conflict and -101 for a literal only noted.
+use mathlib.Core.Bool.{Bool, true, false}
+use Prim.Native.Nat.{ℕ}
+use lib.IntN.{ℤ, pos, negsuc, negℤ}
+use Rattle.noting.specs.Words.{capped}
+use Rattle.graph_division.specs.declared.Answer.{Answer}
+use Rattle.graph_division.specs.declared.Answer.the-variants.{Consistent, Conflict, Noted, Undone, Reason, Refused}
+
+-- a number of 31 bits
+unfoldable pub fitted : ℕ → ℕ
+fitted n = capped n 2147483647
+
+unfoldable pub codeOf : Answer → ℤ
+codeOf (Consistent handed) = pos (fitted handed)
+codeOf Conflict = negsuc 99
+codeOf Noted = negsuc 100
+codeOf Undone = pos 0
+codeOf (Reason len) = pos (fitted len)
+codeOf (Refused number) = negℤ (pos (fitted number))
+
+unfoldable pub isRefused : Answer → Bool
+isRefused (Consistent handed) = false
+isRefused Conflict = false
+isRefused Noted = false
+isRefused Undone = false
+isRefused (Reason len) = false
+isRefused (Refused number) = true
+
+-- how many literals the answer says are in the list or the buffer
+unfoldable pub givenBy : Answer → ℕ
+givenBy (Consistent handed) = handed
+givenBy Conflict = 0
+givenBy Noted = 0
+givenBy Undone = 0
+givenBy (Reason len) = len
+givenBy (Refused number) = 0

@@ -1,0 +1,5 @@
+pub mod Bytes
+pub mod Layout
+pub mod Stores
+pub mod Codes
+pub mod Host

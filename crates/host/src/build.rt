@@ -1,0 +1,87 @@
+// Building a state's bytes.
+use crate::bytes::write_words;
+use crate::decode::no_notes;
+use crate::store::store_noted;
+use builder::build::GraphDivisionOptions;
+ghost use mathlib.Core.Path.{_≡_};
+ghost use mathlib.Core.Bool.{not};
+ghost use Prim.Native.Nat.{ℕ, _+_, _*_, _≤_, _<_};
+ghost use lib.IntN.{pos};
+ghost use lib.ListN.{length, getD};
+ghost use Rattle.base.specs.Lists.{filled};
+ghost use Rattle.base.specs.Range.{inRange};
+ghost use Rattle.builder.specs.Build.{planWords, edgeTable};
+ghost use Rattle.noting.specs.Words.{fresh};
+ghost use Rattle.host.specs.Bytes.{putWords};
+ghost use Rattle.host.specs.Stores.{putNoted};
+
+// An option other than 0 counts as 1.
+pub(crate) fn option(n: i32) -> bool
+    ensures { λ r. ⌜ r ≡ not (inRange (pos 0) n) ⌝ }
+{
+    if base::in_range(n, 0) {
+        return false;
+    }
+    true
+}
+
+fn store_ends(state: &mut [u8], table: &[[u8; 2]; 128], g: usize)
+    requires { ⌜ (133440 ≤ length (now state)) × (g < 128) ⌝ }
+    ensures { λ _. ⌜ length (now (state .exit)) ≡ length (now (state .entry)) ⌝ }
+{
+    state[60964 + 2 * g] = table[g][0];
+    state[60965 + 2 * g] = table[g][1];
+}
+
+fn store_edges(state: &mut [u8], table: &[[u8; 2]; 128])
+    requires { ⌜ 133440 ≤ length (now state) ⌝ }
+    ensures { λ _. ⌜ length (now (state .exit)) ≡ length (now (state .entry)) ⌝ }
+{
+    let mut g = 0;
+    while g < 128 {
+        store_ends(state, table, g);
+        g += 1;
+    }
+}
+
+// No list left, not initialized, and no reasons.
+fn clear(state: &mut [u8])
+    requires { ⌜ 133440 ≤ length (now state) ⌝ }
+    ensures { λ _. ⌜ now (state .exit) ≡ filled 62756 70684 (λ i. 0) (now (state .entry)) ⌝ }
+{
+    let mut i = 0;
+    while i < 70684 {
+        state[62756 + i] = 0;
+        i += 1;
+    }
+}
+
+// The plan's words and the noted ones.
+fn store_words<'a>(state: &mut [u8], plan: &'a [u32; 15241], noted: &'a [u32; 384])
+    requires { ⌜ 133440 ≤ length (now state) ⌝ }
+    ensures { λ _. ⌜ length (now (state .exit)) ≡ length (now (state .entry)) ⌝ }
+{
+    write_words(state, 0, plan, 15241);
+    store_noted(state, noted);
+}
+
+pub(crate) fn build<'a>(
+    vertices: &'a [i32; 4288],
+    n: usize,
+    edges: &'a [i32; 384],
+    m: usize,
+    options: GraphDivisionOptions,
+    state: &mut [u8],
+)
+    requires { ⌜ 133440 ≤ length (now state) ⌝ }
+    ensures { λ _. ⌜ length (now (state .exit)) ≡ length (now (state .entry)) ⌝ }
+{
+    let words = builder::build::plan_words(vertices, n, edges, m, options);
+    let plan = words.words;
+    let mut noted = no_notes();
+    noting::fresh(&plan, &mut noted);
+    let table = builder::build::edge_table(edges, m);
+    store_words(state, &plan, &noted);
+    store_edges(state, &table);
+    clear(state);
+}

@@ -1,0 +1,126 @@
+// The C host: the calls over numbers and byte slices. include/zuntjev.h has the layout of the bytes.
+// A slice is a pointer and a length in C. Every call is total: bytes that no call leaves are refused with 7.
+mod build;
+mod bytes;
+mod changes;
+mod codes;
+mod decode;
+mod fetch;
+mod store;
+
+use builder::build::GraphDivisionOptions;
+ghost use mathlib.Core.Path.{_≡_};
+ghost use mathlib.Core.Bool.{true, false};
+ghost use lib.ListN.{length};
+ghost use Rattle.host.specs.Host.{left, back, tooShort, hostPropagated, propagatedIn, hostUndone, undoneIn, hostReason, hostLast, AfterOf, buildCode, StateAfter};
+
+fn too_short(state: &[u8], cursor: &[u8]) -> bool
+    ensures { λ r. ⌜ r ≡ tooShort (now (state .entry)) (now (cursor .entry)) ⌝ }
+{
+    if state.len() < 133440 {
+        return true;
+    }
+    cursor.len() < 8
+}
+
+// The arrays hold n vertices and m edges as builder::input says. An option other than 0 counts as 1.
+#[no_mangle]
+pub extern "C" fn zuntjev_build<'a>(
+    vertices: &'a [i32; 4288],
+    n: usize,
+    edges: &'a [i32; 384],
+    m: usize,
+    same_size: i32,
+    extra_walls: i32,
+    state: &mut [u8],
+) -> i32
+    ensures { λ r. ⌜ r ≡ buildCode (now (vertices .entry)) n (now (edges .entry)) m (now (state .entry)) ⌝ }
+{
+    let refusal = builder::input::refusal_of(vertices, n, edges, m);
+    if refusal == 0 {
+        if state.len() < 133440 {
+            return -7;
+        }
+        let options = GraphDivisionOptions {
+            disallow_adjacent_same_size_regions: build::option(same_size),
+            allow_extra_walls: build::option(extra_walls),
+        };
+        build::build(vertices, n, edges, m, options, state);
+        return 0;
+    }
+    codes::refusal_code(refusal as u32)
+}
+
+// Notifies the literal. With a pending number other than 0 it is only noted.
+#[no_mangle]
+pub extern "C" fn zuntjev_propagate(
+    state: &mut [u8],
+    table: &mut [u8],
+    list: &mut [u8],
+    log: &mut [u8],
+    cursor: &mut [u8],
+    lit: i32,
+    num_pending_propagations: i32,
+) -> i32
+    ensures { λ r. ⌜ left r (now (table .exit)) (now (list .exit)) (now (log .exit)) (now (cursor .exit))
+        ≡ hostPropagated (now (state .entry)) (now (table .entry)) (now (list .entry)) (now (log .entry)) (now (cursor .entry)) lit «num_pending_propagations» ⌝ }
+    ensures { λ _. ⌜ AfterOf (tooShort (now (state .entry)) (now (cursor .entry))) (propagatedIn (now (state .entry)) (now (table .entry)) (now (list .entry)) (now (log .entry)) (now (cursor .entry)) lit «num_pending_propagations» .outcome) (now (state .entry)) (now (state .exit)) ⌝ }
+{
+    if too_short(state, cursor) {
+        return -7;
+    }
+    changes::propagate(
+        state,
+        table,
+        list,
+        log,
+        cursor,
+        lit,
+        num_pending_propagations,
+    )
+}
+
+// Takes back the newest notification, which must be the literal's.
+#[no_mangle]
+pub extern "C" fn zuntjev_undo(state: &mut [u8], log: &[u8], cursor: &mut [u8], lit: i32) -> i32
+    ensures { λ r. ⌜ back r (now (cursor .exit)) ≡ hostUndone (now (state .entry)) (now (log .entry)) (now (cursor .entry)) lit ⌝ }
+    ensures { λ _. ⌜ AfterOf (tooShort (now (state .entry)) (now (cursor .entry))) (undoneIn (now (state .entry)) (now (log .entry)) (now (cursor .entry)) lit) (now (state .entry)) (now (state .exit)) ⌝ }
+{
+    if too_short(state, cursor) {
+        return -7;
+    }
+    changes::undo(state, log, cursor, lit)
+}
+
+// The literal's reason goes to the buffer.
+#[no_mangle]
+pub extern "C" fn zuntjev_calc_reason(
+    state: &[u8],
+    log: &[u8],
+    cursor: &[u8],
+    lit: i32,
+    buffer: &mut [u8],
+) -> i32
+    ensures { λ r. ⌜ back r (now (buffer .exit)) ≡ hostReason (now (state .entry)) (now (log .entry)) (now (cursor .entry)) lit (now (buffer .entry)) ⌝ }
+{
+    if too_short(state, cursor) {
+        return -7;
+    }
+    fetch::calc_reason(state, log, cursor, lit, buffer)
+}
+
+// The list last left goes to the buffer.
+#[no_mangle]
+pub extern "C" fn zuntjev_calc_last(
+    state: &[u8],
+    log: &[u8],
+    cursor: &[u8],
+    buffer: &mut [u8],
+) -> i32
+    ensures { λ r. ⌜ back r (now (buffer .exit)) ≡ hostLast (now (state .entry)) (now (log .entry)) (now (cursor .entry)) (now (buffer .entry)) ⌝ }
+{
+    if too_short(state, cursor) {
+        return -7;
+    }
+    fetch::calc_last(state, log, cursor, buffer)
+}

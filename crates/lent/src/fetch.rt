@@ -1,0 +1,136 @@
+// The Rust's `calc_reason`, with the recorded reason's words given.
+use graph_division::Answer;
+use reasons::reason::Reason;
+use undo_log::Cursor;
+use walks::Listed;
+ghost use mathlib.Core.Path.{_≡_};
+ghost use mathlib.Core.Bool.{Bool};
+ghost use mathlib.Core.List.{List};
+ghost use Prim.Native.Nat.{ℕ, _*_, _+_, _/_, _%_};
+ghost use lib.ListN.{replicate};
+ghost use Rattle.base.specs.Lists.{tab};
+ghost use Rattle.plan.specs.Words.{word};
+ghost use Rattle.walks.specs.Written.{outOf, pushed, written};
+ghost use Rattle.analysis.specs.Placed.{placeOfLit};
+ghost use Rattle.reasons.specs.Reason.{reasonOf};
+ghost use Rattle.recorded.specs.declared.Reasons.{Reasons};
+ghost use Rattle.graph_division.specs.Calls.{fetched, reasonGiven, isNone, giving};
+ghost use Rattle.lent.specs.Lent.{stateOf};
+
+fn no_list() -> [u32; 260]
+    ensures { λ r. ⌜ r ≡ replicate 260 0 ⌝ }
+{
+    [0u32; 260]
+}
+
+fn word(list: &[u32], i: usize) -> u32
+    ensures { λ r. ⌜ r ≡ word (now (list .entry)) i ⌝ }
+{
+    if i < list.len() {
+        return list[i];
+    }
+    0
+}
+
+// One word more, if there is room.
+fn push(buffer: &mut [u32], at: usize, x: u32) -> usize
+    ensures { λ r. ⌜ outOf (now (buffer .exit)) r ≡ pushed x (outOf (now (buffer .entry)) at) ⌝ }
+{
+    if at < buffer.len() {
+        buffer[at] = x;
+        return at + 1;
+    }
+    at
+}
+
+// The first n words of the list, as many as there is room for.
+pub fn copy(list: &[u32], n: usize, buffer: &mut [u32])
+    ensures { λ _. ⌜ now (buffer .exit) ≡ written (tab (word (now (list .entry))) n) (outOf (now (buffer .entry)) 0) .text ⌝ }
+{
+    let mut at = 0;
+    for i in 0..n {
+        at = push(buffer, at, word(list, i));
+    }
+}
+
+fn is_none(r: Reason) -> bool
+    ensures { λ b. ⌜ b ≡ isNone r ⌝ }
+{
+    match r {
+        Reason::NotPropagated => true,
+        Reason::EdgeInSameGroup { edge_idx: _ } => false,
+        Reason::EdgeBetweenDifferentGroups {
+            disconnected_edge_idx: _,
+            newly_decided_edge_idx: _,
+            flip: _,
+        } => false,
+        Reason::TooLargeIfRegionsAreMerged {
+            disconnected_edge_idx: _,
+            upper_bound_lit: _,
+        } => false,
+        Reason::RegionAlreadyLarge { vertex_idx: _ } => false,
+        Reason::RegionAlreadySmall { vertex_idx: _ } => false,
+        Reason::InconsistentBoundsIfRegionsAreMerged {
+            disconnected_edge_idx: _,
+            upper_bound_vertex_idx: _,
+            lower_bound_vertex_idx: _,
+            flip: _,
+        } => false,
+        Reason::BoundPropagationWithinRegion {
+            known_bound_lit: _,
+            known_bound_idx: _,
+            unknown_bound_idx: _,
+        } => false,
+        Reason::AdjacentSameSizeRegions {
+            region1_vertex: _,
+            region1_lower_bound: _,
+            region1_upper_bound: _,
+            region2_vertex: _,
+            region2_lower_bound: _,
+            region2_upper_bound: _,
+            region3_vertex: _,
+        } => false,
+    }
+}
+
+// The list, which was made aside, where there is one.
+fn give(list: &[u32], listed: Listed, buffer: &mut [u32]) -> Answer
+    ensures { λ r. ⌜ fetched r (now (buffer .exit)) ≡ reasonGiven (now (list .entry)) listed (now (buffer .entry)) ⌝ }
+{
+    match listed {
+        Listed::Past(n) => {
+            copy(list, n, buffer);
+            Answer::Reason { len: n }
+        }
+        Listed::Missing => Answer::Refused { number: 16 },
+    }
+}
+
+// The place of the literal among the distinct literals.
+pub fn place_of(plan: &[u32; 15241], lit: u16) -> usize
+    ensures { λ r. ⌜ r ≡ placeOfLit (now (plan .entry)) lit ⌝ }
+{
+    let k = noting::note::place_in(plan, (lit / 2) as u32) % 2147483648;
+    2 * k + (lit % 2) as usize
+}
+
+// The list of the reason whose words these are, made of the edges connected and disconnected now.
+pub fn calc_reason(
+    plan: &[u32; 15241],
+    edges: [[u8; 2]; 128],
+    noted: &[u32; 384],
+    first: u64,
+    second: u64,
+    buffer: &mut [u32],
+) -> Answer
+    ensures { λ r. ⌜ ((rs : Reasons) (last : List ℕ) (len : ℕ) (b : Bool) →
+        fetched r (now (buffer .exit)) ≡ giving (stateOf (now (plan .entry)) edges (now (noted .entry)) rs last len b) (reasonOf first second) (now (buffer .entry))) ⌝ }
+{
+    let reason = reasons::reason::reason_of(first, second);
+    if is_none(reason) {
+        return Answer::Refused { number: 15 };
+    }
+    let mut list = no_list();
+    let listed = lists::reason_lits(plan, edges, noted, reason, &mut list, 0);
+    give(&list, listed, buffer)
+}

@@ -1,0 +1,144 @@
+// The Rust's `propagate`.
+use crate::Done;
+use graph_division::Answer;
+use judge::Judgement;
+use noting::note::note;
+use undo_log::Cursor;
+ghost use mathlib.Core.Path.{_≡_};
+ghost use mathlib.Core.Bool.{Bool};
+ghost use mathlib.Core.List.{List, _∷_, []};
+ghost use Prim.Native.Nat.{ℕ};
+ghost use lib.ListN.{replicate};
+ghost use Rattle.noting.specs.Note.{noting, note};
+ghost use Rattle.recorded.specs.declared.Reasons.{Reasons};
+ghost use Rattle.graph_division.specs.Calls.{settled, adding, propagated};
+ghost use Rattle.lent.specs.Lent.{stateOf, calledOf};
+
+// The words noted with literal `lit`, tried out with no log.
+fn try_out(plan: &[u32; 15241], noted: &mut [u32; 384], lit: u16)
+    ensures { λ _. ⌜ now (noted .exit) ≡ note (now (plan .entry)) lit (noting (now (noted .entry)) (0 ∷ []) (record { used = 0; standing = 0 })) .noted ⌝ }
+{
+    let mut none = [0u64; 1];
+    let start = Cursor {
+        used: 0,
+        standing: 0,
+    };
+    note(plan, noted, &mut none, start, lit);
+}
+
+// The literal is noted and nothing is analyzed.
+fn add(
+    plan: &[u32; 15241],
+    noted: &mut [u32; 384],
+    log: &mut [u64],
+    cursor: Cursor,
+    lit: u16,
+) -> Done
+    ensures { λ r. ⌜ ((ends : List (List ℕ)) (rs : Reasons) (last : List ℕ) (len : ℕ) (b : Bool) (proposals left t list : List ℕ) →
+        calledOf (stateOf (now (plan .entry)) ends (now (noted .entry)) rs last len b) (now (noted .exit)) proposals left r t list (now (log .exit))
+        ≡ adding (stateOf (now (plan .entry)) ends (now (noted .entry)) rs last len b) cursor lit t list (now (log .entry))) ⌝ }
+{
+    let c = note(plan, noted, log, cursor, lit);
+    Done {
+        cursor: c,
+        answer: Answer::Noted,
+        judged: false,
+        len: 0,
+    }
+}
+
+// The literal is tried out and analyzed; it is noted where the analysis is accepted.
+fn settle(
+    plan: &[u32; 15241],
+    edges: [[u8; 2]; 128],
+    noted: &mut [u32; 384],
+    proposals: &mut [u64],
+    left: &mut [u32],
+    table: &mut [u8],
+    list: &mut [u32],
+    log: &mut [u64],
+    cursor: Cursor,
+    lit: u16,
+) -> Done
+    ensures { λ r. ⌜ (now (proposals .entry) ≡ replicate 8704 0 → now (left .entry) ≡ replicate 260 0 → (rs : Reasons) (last : List ℕ) (len : ℕ) (b : Bool) →
+        calledOf (stateOf (now (plan .entry)) edges (now (noted .entry)) rs last len b) (now (noted .exit)) (now (proposals .exit)) (now (left .exit)) r (now (table .exit)) (now (list .exit)) (now (log .exit))
+        ≡ settled (stateOf (now (plan .entry)) edges (now (noted .entry)) rs last len b) cursor lit (now (table .entry)) (now (list .entry)) (now (log .entry))) ⌝ }
+{
+    let mut trial = *noted;
+    try_out(plan, &mut trial, lit);
+    let found = judge::judge(plan, edges, &trial, table, proposals, left);
+    match found {
+        Judgement::Fine => {
+            let handed = sweep::hand_on(plan, proposals, table, list, 0);
+            let c = note(plan, noted, log, cursor, lit);
+            Done {
+                cursor: c,
+                answer: Answer::Consistent { handed: handed },
+                judged: true,
+                len: 0,
+            }
+        }
+        Judgement::Clash { len } => {
+            let c = note(plan, noted, log, cursor, lit);
+            Done {
+                cursor: c,
+                answer: Answer::Conflict,
+                judged: true,
+                len: len,
+            }
+        }
+        Judgement::Stopped { refusal } => Done {
+            cursor: cursor,
+            answer: Answer::Refused { number: refusal },
+            judged: false,
+            len: 0,
+        },
+    }
+}
+
+// Notifies the literal. The proposals and the list left are those of the analysis after it, where they were all 0 before.
+pub fn propagate(
+    plan: &[u32; 15241],
+    edges: [[u8; 2]; 128],
+    noted: &mut [u32; 384],
+    proposals: &mut [u64],
+    left: &mut [u32],
+    table: &mut [u8],
+    list: &mut [u32],
+    log: &mut [u64],
+    cursor: Cursor,
+    lit: i32,
+    num_pending_propagations: i32,
+) -> Done
+    ensures { λ r. ⌜ (now (proposals .entry) ≡ replicate 8704 0 → now (left .entry) ≡ replicate 260 0 → (rs : Reasons) (last : List ℕ) (len : ℕ) (b : Bool) →
+        calledOf (stateOf (now (plan .entry)) edges (now (noted .entry)) rs last len b) (now (noted .exit)) (now (proposals .exit)) (now (left .exit)) r (now (table .exit)) (now (list .exit)) (now (log .exit))
+        ≡ propagated (stateOf (now (plan .entry)) edges (now (noted .entry)) rs last len b) cursor lit «num_pending_propagations» (now (table .entry)) (now (list .entry)) (now (log .entry))) ⌝ }
+{
+    let ends = edges;
+    let stood = *noted;
+    let n = refusals::propagate_refusal(plan, &ends, &stood, table, list.len(), log, cursor, lit);
+    if n == 0 {
+        let l = refusals::lit_number(lit);
+        if base::in_range(num_pending_propagations, 0) {
+            return settle(
+                plan,
+                edges,
+                noted,
+                proposals,
+                left,
+                table,
+                list,
+                log,
+                cursor,
+                l,
+            );
+        }
+        return add(plan, noted, log, cursor, l);
+    }
+    Done {
+        cursor: cursor,
+        answer: Answer::Refused { number: n },
+        judged: false,
+        len: 0,
+    }
+}
