@@ -1,0 +1,26 @@
+-- The least of three numbers is no more than each of them.
+use Prim.Native.Nat.{ℕ, _<_, _≤_}
+use native.Mathlib.Omega.{arith}
+use mathlib.Core.Path.{_≡_}
+use lib.Dec.{ltb}
+use borrow.Author.Tests.{ltb-true, ltb-false}
+use Rattle.base.specs.Iter.{pick}
+use Rattle.base.proofs.Loop.{pick-ind}
+use Rattle.lent_log.specs.Records.{least}
+
+pub least-of : (a b c : ℕ) → (least a b c ≤ a) × (least a b c ≤ b) × (least a b c ≤ c)
+unfolding least
+least-of a b c = pick-ind (λ m. (m ≤ a) × (m ≤ b) × (m ≤ c)) (ltb b a) _ _
+    (λ e. pick-ind (λ m. (m ≤ a) × (m ≤ b) × (m ≤ c)) (ltb c b) c b
+    (λ f. (omega (arith, ltb-true b a e, ltb-true c b f), omega (arith, ltb-true c b f), omega arith))
+    (λ f. (omega (arith, ltb-true b a e), omega arith, omega (arith, ltb-false c b f))))
+    (λ e. pick-ind (λ m. (m ≤ a) × (m ≤ b) × (m ≤ c)) (ltb c a) c a
+    (λ f. (omega (arith, ltb-true c a f), omega (arith, ltb-true c a f, ltb-false b a e), omega arith))
+    (λ f. (omega arith, omega (arith, ltb-false b a e), omega (arith, ltb-false c a f))))
+
+-- the first, where it is no more than the others
+pub least-first : (a b c : ℕ) → a ≤ b → a ≤ c → least a b c ≡ a
+unfolding least
+least-first a b c h k = pick-ind (λ m. m ≡ a) (ltb b a) _ _
+    (λ e. absurd (omega (arith, ltb-true b a e)))
+    (λ e. pick-ind (λ m. m ≡ a) (ltb c a) c a (λ f. absurd (omega (arith, ltb-true c a f))) (λ f. omega arith))
