@@ -1,8 +1,9 @@
 -- The least of three numbers is no more than each of them.
 use Prim.Native.Nat.{ℕ, _<_, _≤_}
 use native.Mathlib.Omega.{arith}
-use mathlib.Core.Path.{_≡_}
-use lib.Dec.{ltb}
+use mathlib.Core.Path.{_≡_, refl}
+use mathlib.Core.Bool.{Bool, true, false, not}
+use lib.Dec.{T, ltb}
 use borrow.Author.Tests.{ltb-true, ltb-false}
 use Rattle.base.specs.Iter.{pick}
 use Rattle.base.proofs.Loop.{pick-ind}
@@ -24,3 +25,18 @@ unfolding least
 least-first a b c h k = pick-ind (λ m. m ≡ a) (ltb b a) _ _
     (λ e. absurd (omega (arith, ltb-true b a e)))
     (λ e. pick-ind (λ m. m ≡ a) (ltb c a) c a (λ f. absurd (omega (arith, ltb-true c a f))) (λ f. omega arith))
+
+T-true : (t : Bool) → T t → t ≡ true
+T-true true h = refl
+T-true false h = absurd h
+
+T-false : (t : Bool) → T (not t) → t ≡ false
+T-false true h = absurd h
+T-false false h = refl
+
+-- a test as a branch of the code gives it
+pub holds-lt : (a b : ℕ) → T (ltb a b) → a < b
+holds-lt a b h = ltb-true a b (T-true (ltb a b) h)
+
+pub fails-le : (a b : ℕ) → T (not (ltb a b)) → b ≤ a
+fails-le a b h = ltb-false a b (T-false (ltb a b) h)
