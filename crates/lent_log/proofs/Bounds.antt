@@ -3,11 +3,12 @@ use Prim.Native.Nat.{ℕ, _<_, _≤_}
 use native.Mathlib.Omega.{arith}
 use mathlib.Core.Path.{_≡_, refl}
 use mathlib.Core.Bool.{Bool, true, false, not}
-use lib.Dec.{T, ltb}
-use borrow.Author.Tests.{ltb-true, ltb-false}
+use lib.Dec.{T, ltb, leb}
+use borrow.Author.Tests.{ltb-true, ltb-false, leb-true}
 use Rattle.base.specs.Iter.{pick}
 use Rattle.base.proofs.Loop.{pick-ind}
-use Rattle.lent_log.specs.Records.{least}
+use Rattle.base.proofs.Tests.{and-left, and-right}
+use Rattle.lent_log.specs.Records.{hasNewest, least}
 
 pub least-of : (a b c : ℕ) → (least a b c ≤ a) × (least a b c ≤ b) × (least a b c ≤ c)
 unfolding least
@@ -26,11 +27,11 @@ least-first a b c h k = pick-ind (λ m. m ≡ a) (ltb b a) _ _
     (λ e. absurd (omega (arith, ltb-true b a e)))
     (λ e. pick-ind (λ m. m ≡ a) (ltb c a) c a (λ f. absurd (omega (arith, ltb-true c a f))) (λ f. omega arith))
 
-T-true : (t : Bool) → T t → t ≡ true
+pub T-true : (t : Bool) → T t → t ≡ true
 T-true true h = refl
 T-true false h = absurd h
 
-T-false : (t : Bool) → T (not t) → t ≡ false
+pub T-false : (t : Bool) → T (not t) → t ≡ false
 T-false true h = absurd h
 T-false false h = refl
 
@@ -40,3 +41,7 @@ holds-lt a b h = ltb-true a b (T-true (ltb a b) h)
 
 pub fails-le : (a b : ℕ) → T (not (ltb a b)) → b ≤ a
 fails-le a b h = ltb-false a b (T-false (ltb a b) h)
+
+pub newest-there : (used len : ℕ) → hasNewest used len ≡ true → (1 ≤ used) × (used ≤ len)
+unfolding hasNewest
+newest-there used len e = (ltb-true 0 used (and-left (ltb 0 used) (leb used len) e), leb-true used len (and-right (ltb 0 used) (leb used len) e))
