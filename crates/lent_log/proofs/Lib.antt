@@ -1,2 +1,4 @@
 pub mod Again
+pub mod Big
 pub mod Bounds
+pub mod Shared
