@@ -1,2 +1,4 @@
 pub mod Scratch
+pub mod Loaded
+pub mod Pushed
 pub mod Joined
