@@ -1,4 +1,5 @@
 pub mod Scratch
 pub mod Loaded
 pub mod Pushed
+pub mod Reached
 pub mod Joined

@@ -144,12 +144,14 @@ module _ (v w : List ℕ) (a : ℕ) where
     -- a literal known to the plan is noted in both
     pub note-alike : (x y : Noting) → Alike v w a x y → known ws (l / 2) ≡ true →
         x .cursor .used + 1 + (startAt ws (placeIn ws (l / 2) + 1) - startAt ws (placeIn ws (l / 2))) ≤ length v →
-        x .cursor .used + 1 + (startAt ws (placeIn ws (l / 2) + 1) - startAt ws (placeIn ws (l / 2))) ≤ length w → Alike v w a (note ws l x) (note ws l y)
+        x .cursor .used + 1 + (startAt ws (placeIn ws (l / 2) + 1) - startAt ws (placeIn ws (l / 2))) ≤ length w →
+        Alike v w a (note ws l x) (note ws l y) × (note ws l x .cursor .used ≤ x .cursor .used + 1 + (startAt ws (placeIn ws (l / 2) + 1) - startAt ws (placeIn ws (l / 2))))
     unfolding note noteAt
     note-alike x y h k in-v in-w =
         let b = level-alike x y h (omega arith) (omega arith) in
         let g = slots-alike (λ i. occurrenceAt ws (startAt ws (placeIn ws (l / 2)) + i)) (startAt ws (placeIn ws (l / 2) + 1) - startAt ws (placeIn ws (l / 2))) _ _ (b .0) (omega (arith, b .1)) (omega (arith, b .1)) in
-        subst (λ (z : Noting). Alike v w a z (note ws l y)) (sym (pick-yes _ _ k)) (subst (Alike v w a _) (sym (pick-yes _ _ k)) (g .0))
+        (subst (λ (z : Noting). Alike v w a z (note ws l y)) (sym (pick-yes _ _ k)) (subst (Alike v w a _) (sym (pick-yes _ _ k)) (g .0)),
+        subst (λ (z : Noting). z .cursor .used ≤ x .cursor .used + 1 + (startAt ws (placeIn ws (l / 2) + 1) - startAt ws (placeIn ws (l / 2)))) (sym (pick-yes _ _ k)) (omega (arith, g .1, b .1)))
 
 -- then the one log is the other's records, stored from a on
 pub alike-stored : (v w : List ℕ) (a : ℕ) (x y : Noting) → Alike v w a x y → x .cursor .used ≤ length w → y .log ≡ filled a (x .cursor .used - a) (λ i. getD (x .log) (a + i) 0) w
