@@ -2,16 +2,16 @@
 -- form gives the replies that the flat calls give: each is the same definition on the log's words.
 use mathlib.Core.Path.{_≡_, refl, sym, ap, ap₂, subst, _∙_}
 use mathlib.Core.Bool.{Bool, true, false, not, _||_}
-use mathlib.Core.List.{List, map}
-use Prim.Native.Nat.{ℕ, _+_, _-_, _/_, _<_, _≤_, _^_}
+use mathlib.Core.List.{List, _∷_, map}
+use Prim.Native.Nat.{ℕ, zero, suc, _+_, _-_, _*_, _/_, _<_, _≤_, _^_}
 use native.Mathlib.Omega.{arith}
 use lib.Dec.{eqb, ltb}
 use lib.IntN.{ℤ, pos}
 use lib.ListN.{length, getD, length-map}
 use borrow.Author.Tests.{eqb-true}
-use Rattle.base.specs.Iter.{pick}
+use Rattle.base.specs.Iter.{iter, pick}
 use Rattle.base.specs.Range.{inRange}
-use Rattle.base.specs.Lists.{filled}
+use Rattle.base.specs.Lists.{tab, filled}
 use Rattle.base.proofs.Loop.{pick-yes, pick-no, tested}
 use Rattle.undo_log.specs.declared.Record.{Record}
 use Rattle.undo_log.specs.declared.Cursor.{Cursor}
@@ -33,18 +33,31 @@ use Rattle.graph_division.specs.declared.Answer.{Answer}
 use Rattle.graph_division.specs.declared.Answer.the-variants as answer
 use Rattle.graph_division.specs.declared.Answer.the-variants.{Refused}
 use Rattle.graph_division.specs.Calls.{outcome, Called, called, refuse, withNoted, withJudged, notedIn, adding, accepting, handingOn, settledBy, settled, propagated, undone, Fetched, fetched, copied, giving, recordedFor, reasonFetched, lastFetched}
-use Rattle.graph_division.specs.Initialize.{initialized}
+use Rattle.graph_division.specs.Initialize.{notedAt, notedUpTo, takenOver, taking, endedBy, entering, finished, begun, initialized}
 use Rattle.record_calls.specs.Reach.{reaches}
 use Rattle.record_calls.proofs.Loaded.{loaded-length, loaded-in, saved-is, saved-none}
-use Rattle.refusals.proofs.Accepted.{propagate-accepted}
+use Rattle.refusals.proofs.Accepted.{propagate-accepted, initialize-accepted}
+use Rattle.noting.proofs.Valid.{Valid, standingOf, note-valid}
+use Rattle.plan.specs.Proper.{ProperWords}
+use Rattle.walks.specs.Written.{outOf, written}
+use Rattle.calls.specs.Table.{trueIn}
+use Rattle.recorded.specs.Recorded.{recorded}
+use Rattle.notifications.specs.declared.Progress.{Progress}
+use Rattle.notifications.specs.Notifications.{litAt, Way, way, stopping, isDue, joined, triedOut, notified, notifiedAt, notifiedAll, lastPass, ended, goneThrough}
+use Rattle.record_calls.proofs.Entering.{lit-known, lit-is, lit-other, Free, Came, gone-came}
 use Rattle.noting.proofs.Logged.{logged-length}
-use Rattle.noting.proofs.Replaying.{passed-logged, counts}
+use Rattle.noting.proofs.Replaying.{passed-logged, counts, log-fits}
 use Rattle.noting.proofs.Undoing.{occurrences}
 use Rattle.noting.proofs.Room.{room}
-use Rattle.plan.specs.Words.{startAt}
+use Rattle.plan.specs.Words.{word, startAt, variablesOf, uniqueLitAt}
 use Rattle.noting.specs.Note.{placeIn}
 use Rattle.record_calls.proofs.Pushed.{Alike, alike-start, note-alike, alike-stored}
 use Rattle.record_calls.proofs.Reached.{reached, state-same, state-out}
+
+-- one literal more, of another variable
+one-more : (v l : ℕ) (ls : List ℕ) → eqb (l / 2) v ≡ false → hasVariable v (l ∷ ls) ≡ hasVariable v ls
+unfolding hasVariable
+one-more v l ls e = ap (λ (b : Bool). b || hasVariable v ls) e
 
 occurrences-known : (ws : List ℕ) (x : ℕ) → known ws x ≡ true → occurrences ws x ≡ startAt ws (placeIn ws x + 1) - startAt ws (placeIn ws x)
 unfolding occurrences
@@ -239,8 +252,190 @@ module _ (s : GraphDivision) (c : Cursor) (log : List Record) (blank : List ℕ)
           ∙ refused-back 7 t list
           ∙ sym (ap (λ (n : ℕ). pick (eqb n 0) (pick (inRange (pos 0) pending) (settled s c l t list whole) (adding s c l t list whole)) (called (refuse n s c) t list whole)) (pick-yes _ _ (table-out e)) ∙ pick-no _ _ refl))
 
+    -- ---- `initialize`
+    abbrev ws : List ℕ
+    ws = s .plan
+
+    abbrev start : List ℕ → Noting
+    start words = noting (s .noted) words c
+
+    -- what is noted of the literals before place i
+    abbrev upTo : List ℕ → ℕ → Noting
+    upTo words i = notedUpTo ws t i (start words)
+
+    -- both logs so far, and the literals from place i on that stand: they stood on entry
+    record Both (i : ℕ) : Type 0 where
+      alike : Alike part whole (c .used) (upTo part i) (upTo whole i)
+      valid-part : Valid ws (upTo part i)
+      valid-whole : Valid ws (upTo whole i)
+      ahead : (q : ℕ) → i ≤ q → q < 2 * variablesOf ws → trueIn t (uniqueLitAt ws q) ≡ true → hasVariable (uniqueLitAt ws q / 2) (standingOf (upTo part i)) ≡ hasVariable (uniqueLitAt ws q / 2) (standingOf (start part))
+
+    -- what stands is the same in both
+    both-standing : (x y : Noting) → Alike part whole (c .used) x y → standingOf y ≡ standingOf x
+    both-standing x y h = ap (λ (d : Cursor). standing (recordsOf (y .log) (d .used))) (sym (h .cursor)) ∙ ap standing (records-same (y .log) (x .log) (x .cursor .used) (h .same))
+
+    counted : (x : Noting) (p : ProperWords ws ends) → Valid ws x → x .cursor .standing ≤ x .cursor .used
+    counted x p v =
+        let a = logged-length ws (x .log) (passed-logged ws ends p (x .noted) (x .log) (x .cursor) (v .passes)) in
+        omega (arith, a, counts ws ends p (x .noted) (x .log) (x .cursor) (v .passes))
+
+    module _ (e : can ≡ true) (p : ProperWords ws ends) (vp : Valid ws (start part)) (vw : Valid ws (start whole)) (free : ℕ) (is-free : Free ws ends t part (c .used) free) (far : free ≤ 2 * variablesOf ws) where
+      both-next : (i : ℕ) → i < free → Both i → Both (suc i)
+      unfolding notedUpTo iter notedAt
+      both-next i h b = tested (trueIn t (uniqueLitAt ws i)) due skipped
+        where
+          lit : ℕ
+          lit = uniqueLitAt ws i
+
+          skipped : trueIn t (uniqueLitAt ws i) ≡ false → Both (suc i)
+          skipped d =
+              let ex : upTo part (suc i) ≡ upTo part i = pick-no _ _ d in
+              let ey : upTo whole (suc i) ≡ upTo whole i = pick-no _ _ d in
+              record {
+                alike = subst (λ (z : Noting). Alike part whole (c .used) z (upTo whole (suc i))) (sym ex) (subst (Alike part whole (c .used) (upTo part i)) (sym ey) (b .alike));
+                valid-part = subst (Valid ws) (sym ex) (b .valid-part);
+                valid-whole = subst (Valid ws) (sym ey) (b .valid-whole);
+                ahead = λ q l k m. ap (λ (z : Noting). hasVariable (uniqueLitAt ws q / 2) (standingOf z)) ex ∙ b .ahead q (omega arith) k m;
+              }
+
+          due : trueIn t (uniqueLitAt ws i) ≡ true → Both (suc i)
+          due d =
+              let inside : i < 2 * variablesOf ws = omega arith in
+              let x = upTo part i in
+              let y = upTo whole i in
+              let ex : upTo part (suc i) ≡ note ws lit x = pick-yes _ _ d ∙ ap (λ (m : ℕ). note ws m x) (lit-is ws ends p i inside) in
+              let ey : upTo whole (suc i) ≡ note ws lit y = pick-yes _ _ d ∙ ap (λ (m : ℕ). note ws m y) (lit-is ws ends p i inside) in
+              let k = lit-known ws ends p i inside in
+              let fx : hasVariable (lit / 2) (standingOf x) ≡ false = b .ahead i (omega arith) inside d ∙ ap (λ (m : ℕ). hasVariable (m / 2) (standingOf (start part))) (sym (lit-is ws ends p i inside)) ∙ is-free i h d in
+              let fy : hasVariable (lit / 2) (standingOf y) ≡ false = ap (hasVariable (lit / 2)) (both-standing x y (b .alike)) ∙ fx in
+              let rx = room ws ends p (x .noted) (x .log) (x .cursor) (b .valid-part .passes) (b .valid-part .long) lit k fx in
+              let ry = room ws ends p (y .noted) (y .log) (y .cursor) (b .valid-whole .passes) (b .valid-whole .long) lit k fy in
+              let o = occurrences-known ws (lit / 2) k in
+              let same-used : x .cursor .used ≡ y .cursor .used = ap (λ (m : Cursor). m .used) (b .alike .cursor) in
+              let g = note-alike part whole (c .used) ws lit x y (b .alike) k (omega (arith, rx, o, b .alike .long-x)) (omega (arith, ry, o, b .alike .long-y, same-used)) in
+              let nx = note-valid ws ends p x (b .valid-part) lit k fx in
+              let ny = note-valid ws ends p y (b .valid-whole) lit k fy in
+              record {
+                alike = subst (λ (z : Noting). Alike part whole (c .used) z (upTo whole (suc i))) (sym ex) (subst (Alike part whole (c .used) (note ws lit x)) (sym ey) (g .0));
+                valid-part = subst (Valid ws) (sym ex) (nx .0);
+                valid-whole = subst (Valid ws) (sym ey) (ny .0);
+                ahead = λ q l m u.
+                    ap (λ (z : Noting). hasVariable (uniqueLitAt ws q / 2) (standingOf z)) ex
+                    ∙ ap (hasVariable (uniqueLitAt ws q / 2)) (nx .1)
+                    ∙ one-more (uniqueLitAt ws q / 2) lit (standingOf x) (lit-other ws ends p t i q (omega arith) m d u)
+                    ∙ b .ahead q (omega arith) m u;
+              }
+
+      both : (i : ℕ) → i ≤ free → Both i
+      unfolding notedUpTo iter
+      both zero h = record {
+        alike = alike-start part whole (c .used) (s .noted) c refl (counted (start part) p vp) (λ i l. sym (agrees e i l));
+        valid-part = vp;
+        valid-whole = vw;
+        ahead = λ q a b d. refl;
+      }
+      both (suc i) h = both-next i (omega arith) (both i (omega arith))
+
+      abbrev in-part : Noting
+      in-part = upTo part free
+
+      abbrev in-whole : Noting
+      in-whole = upTo whole free
+
+      taken-alike : Alike part whole (c .used) in-part in-whole × (in-part .cursor .used ≤ 4352) × (in-part .cursor .used ≤ length log)
+      taken-alike =
+          let b = both free (omega arith) in
+          let same-used : in-part .cursor .used ≡ in-whole .cursor .used = ap (λ (m : Cursor). m .used) (b .alike .cursor) in (
+            b .alike,
+            omega (arith, log-fits ws ends p (in-part .noted) (in-part .log) (in-part .cursor) (b .valid-part .passes), b .alike .long-x, part-long),
+            omega (arith, log-fits ws ends p (in-whole .noted) (in-whole .log) (in-whole .cursor) (b .valid-whole .passes), b .alike .long-y, as-long, same-used),
+          )
+
+    module _ (e : can ≡ true) (p : ProperWords ws ends) (vp : Valid ws (start part)) (vw : Valid ws (start whole)) (words left : List ℕ) (g : Progress) where
+      taking-back : (done : Bool) (a : Answer) (after handed : List ℕ) → Free ws ends t part (c .used) (g .past) × (g .past ≤ 2 * variablesOf ws) → AllFit (taking s c t part words left g done a after handed list .log) →
+          back (taking s c t part words left g done a after handed list) ≡ taking s c t whole words left g done a after handed list
+      unfolding back taking takenOver
+      taking-back done a after handed came fits =
+          let (h, in-part, in-log) = taken-alike e p vp vw (g .past) (came .0) (came .1) in
+          let stored = stored-back (upTo part (g .past)) (upTo whole (g .past)) h in-part in-log fits in
+          λ i. called (outcome (record {
+            plan = s .plan;
+            edges = s .edges;
+            noted = h .noted i;
+            reasons = recorded (s .plan) words (s .reasons);
+            last = left;
+            «last_len» = g .len;
+            initialized = done;
+          }) (h .cursor i) a) after (written (tab (word handed) (g .handed)) (outOf list 0) .text) (stored i)
+
+      ended-back : (j : Judgement) (after handed : List ℕ) → Came ws ends t part (c .used) j (g .past) → AllFit (endedBy s c t part words left g j t after handed list .log) →
+          back (endedBy s c t part words left g j t after handed list) ≡ endedBy s c t whole words left g j t after handed list
+      unfolding endedBy
+      ended-back Fine after handed came fits = taking-back true _ after handed came fits
+      ended-back (Clash n) after handed came fits = taking-back (s .initialized) _ after handed came fits
+      ended-back (Stopped n) after handed came fits = refused-back n t list
+
+    -- the literals are gone through with the same standing ones
+    gone-same : can ≡ true → (z : Way) → goneThrough ws ends t part (c .used) z ≡ goneThrough ws ends t whole (c .used) z
+    unfolding goneThrough notifiedAll notifiedAt notified
+    gone-same e z = ap gone (same-records e)
+      where
+        gone : List Record → Way
+        gone rs =
+            let v = iter (λ i x. pick (isDue ws t (x .progress .judgement) i) (pick (hasVariable (litAt ws i / 2) (standing rs)) (way (stopping 10 (x .progress)) (x .noted) (x .table) (x .list) (x .words) (x .proposals) (x .left)) (joined ws ends (i + 1) (way (x .progress) (triedOut ws (litAt ws i) (x .noted)) (x .table) (x .list) (x .words) (x .proposals) (x .left)))) x) (2 * variablesOf ws) z in
+            ended v (lastPass ws ends (v .noted) (v .progress) (v .words) (v .proposals) (v .left))
+
+    finished-same : can ≡ true → finished s c t part ≡ finished s c t whole
+    unfolding finished entering
+    finished-same e = gone-same e _
+
+    abbrev start-refusal : List ℕ → ℕ
+    start-refusal l = initializeRefusal ws ends (s .noted) t (length list) l c (s .initialized)
+
+    start-same : can ≡ true → start-refusal part ≡ start-refusal whole
+    unfolding initializeRefusal
+    start-same e = ap (λ (b : Bool). pick b 7 (pick (s .initialized) 8 0)) (table-same e)
+
+    entered-came : Came ws ends t part (c .used) (finished s c t part .progress .judgement) (finished s c t part .progress .past)
+    unfolding finished entering
+    entered-came = gone-came ws ends t part (c .used) _ refl refl
+
+    begun-back : can ≡ true → start-refusal part ≡ 0 → AllFit (begun s c t part list .log) → back (begun s c t part list) ≡ begun s c t whole list
+    unfolding begun
+    begun-back e ok fits =
+        let a = initialize-accepted ws ends (s .noted) part c len t (length list) (s .initialized) ok .0 .state in
+        let b = initialize-accepted ws ends (s .noted) whole c len t (length list) (s .initialized) (sym (start-same e) ∙ ok) .0 .state in
+        let f = finished s c t part in
+        ended-back e (a .plan) (a .valid) (b .valid) (f .words) (f .left) (f .progress) (f .progress .judgement) (f .table) (f .list) entered-came fits
+        ∙ ap (λ (w : Way). endedBy s c t whole (w .words) (w .left) (w .progress) (w .progress .judgement) t (w .table) (w .list) list) (finished-same e)
+
+    pub initialized-back : AllFit (pick can (initialized s c t part list) (called (refuse 7 s c) t list part) .log) → back (pick can (initialized s c t part list) (called (refuse 7 s c) t list part)) ≡ initialized s c t whole list
+    unfolding initialized initializeRefusal
+    initialized-back fits = tested can
+        (λ e.
+        ap back (pick-yes _ _ e)
+        ∙ tested (eqb (start-refusal part) 0)
+        (λ z.
+        ap back (pick-yes _ _ z)
+        ∙ begun-back e (eqb-true _ _ z) (subst (λ (m : Called). AllFit (m .log)) (pick-yes _ _ e ∙ pick-yes _ _ z) fits)
+        ∙ sym (pick-yes _ _ (ap (λ (n : ℕ). eqb n 0) (sym (start-same e)) ∙ z)))
+        (λ z.
+        ap back (pick-no _ _ z)
+        ∙ refused-back (start-refusal part) t list
+        ∙ ap (λ (n : ℕ). called (refuse n s c) t list whole) (start-same e)
+        ∙ sym (pick-no _ _ (ap (λ (n : ℕ). eqb n 0) (sym (start-same e)) ∙ z))))
+        (λ e.
+        ap back (pick-no _ _ e)
+        ∙ refused-back 7 t list
+        ∙ sym (ap (λ (n : ℕ). pick (eqb n 0) (begun s c t whole list) (called (refuse n s c) t list whole)) (pick-yes _ _ (table-out e)) ∙ pick-no _ _ refl))
+
     module _ (o : Outcome) (t′ list′ words : List ℕ) (fits : AllFit words) where
       pub propagate-joined : (lit pending : ℤ) → called o t′ list′ words ≡ pick can (propagated s c lit pending t list part) (called (refuse 7 s c) t list part)
           → called o t′ list′ (map wordOf (saved words (c .used) (o .cursor .used) log)) ≡ propagated s c lit pending t list whole
       unfolding back
       propagate-joined lit pending e = ap back e ∙ propagated-back lit pending (subst (λ (m : Called). AllFit (m .log)) e fits)
+
+      pub initialize-joined : called o t′ list′ words ≡ pick can (initialized s c t part list) (called (refuse 7 s c) t list part)
+          → called o t′ list′ (map wordOf (saved words (c .used) (o .cursor .used) log)) ≡ initialized s c t whole list
+      unfolding back
+      initialize-joined e = ap back e ∙ initialized-back (subst (λ (m : Called). AllFit (m .log)) e fits)

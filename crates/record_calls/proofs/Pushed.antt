@@ -66,9 +66,9 @@ module _ (v w : List ℕ) (a : ℕ) where
       long-x = length-set (x .log) u (wordOf r) ∙ h .long-x;
       long-y = length-set (y .log) u (wordOf r) ∙ h .long-y;
       same = λ i k. ⊎-elim
-        (λ (e : i ≡ u). ap (λ (j : ℕ). getD (set (y .log) u (wordOf r)) j 0) e ∙ getD-set-same (y .log) u (wordOf r) 0 (omega (arith, h .long-y)) ∙ sym (getD-set-same (x .log) u (wordOf r) 0 (omega (arith, h .long-x))) ∙ sym (ap (λ (j : ℕ). getD (set (x .log) u (wordOf r)) j 0) e))
-        (λ (l : i < u). getD-set-other (y .log) u i (wordOf r) 0 (λ (e : i ≡ u). omega arith) ∙ h .same i l ∙ sym (getD-set-other (x .log) u i (wordOf r) 0 (λ (e : i ≡ u). omega arith)))
-        (eq-or-lt-of-le {n = i} {m = u} (omega arith));
+          (λ (e : i ≡ u). ap (λ (j : ℕ). getD (set (y .log) u (wordOf r)) j 0) e ∙ getD-set-same (y .log) u (wordOf r) 0 (omega (arith, h .long-y)) ∙ sym (getD-set-same (x .log) u (wordOf r) 0 (omega (arith, h .long-x))) ∙ sym (ap (λ (j : ℕ). getD (set (x .log) u (wordOf r)) j 0) e))
+          (λ (l : i < u). getD-set-other (y .log) u i (wordOf r) 0 (λ (e : i ≡ u). omega arith) ∙ h .same i l ∙ sym (getD-set-other (x .log) u i (wordOf r) 0 (λ (e : i ≡ u). omega arith)))
+          (eq-or-lt-of-le {n = i} {m = u} (omega arith));
       past = λ i k. getD-set-other (y .log) u i (wordOf r) 0 (λ (e : i ≡ u). omega arith) ∙ h .past i (omega arith);
       before = λ i k. getD-set-other (y .log) u i (wordOf r) 0 (λ (e : i ≡ u). omega (arith, h .low)) ∙ h .before i k;
     }
@@ -103,15 +103,17 @@ module _ (v w : List ℕ) (a : ℕ) where
         go : (b : Bool) → eqb (effectOf ws (x .noted) l s .kind) 0 ≡ b →
             Alike v w a (noteSlot ws l s x) (noteSlot ws l s y) × (noteSlot ws l s x .cursor .used ≤ x .cursor .used + 1)
         go true q =
-            let q′ : eqb (effectOf ws (y .noted) l s .kind) 0 ≡ true = ap (λ (n : List ℕ). eqb (effectOf ws n l s .kind) 0) (sym (h .noted)) ∙ q in
-            (subst (λ (z : Noting). Alike v w a z (noteSlot ws l s y)) (sym (pick-yes _ _ q)) (subst (Alike v w a x) (sym (pick-yes _ _ q′)) h),
-            subst (λ (z : Noting). z .cursor .used ≤ x .cursor .used + 1) (sym (pick-yes _ _ q)) (omega arith))
+            let q′ : eqb (effectOf ws (y .noted) l s .kind) 0 ≡ true = ap (λ (n : List ℕ). eqb (effectOf ws n l s .kind) 0) (sym (h .noted)) ∙ q in (
+              subst (λ (z : Noting). Alike v w a z (noteSlot ws l s y)) (sym (pick-yes _ _ q)) (subst (Alike v w a x) (sym (pick-yes _ _ q′)) h),
+              subst (λ (z : Noting). z .cursor .used ≤ x .cursor .used + 1) (sym (pick-yes _ _ q)) (omega arith),
+            )
         go false q =
             let q′ : eqb (effectOf ws (y .noted) l s .kind) 0 ≡ false = ap (λ (n : List ℕ). eqb (effectOf ws n l s .kind) 0) (sym (h .noted)) ∙ q in
             let r = e x in
-            let m = applied (effectOf ws (x .noted) l s) l (x .noted) in
-            (subst (λ (z : Noting). Alike v w a z (noteSlot ws l s y)) (sym (pick-no _ _ q)) (subst (Alike v w a (more x (x .noted))) (ap (more y) (h .noted) ∙ sym (pick-no _ _ q′)) (alike-push x y h r m in-v in-w)),
-            subst (λ (z : Noting). z .cursor .used ≤ x .cursor .used + 1) (sym (pick-no _ _ q)) (omega (arith, moves-one x y h r m in-v in-w)))
+            let m = applied (effectOf ws (x .noted) l s) l (x .noted) in (
+              subst (λ (z : Noting). Alike v w a z (noteSlot ws l s y)) (sym (pick-no _ _ q)) (subst (Alike v w a (more x (x .noted))) (ap (more y) (h .noted) ∙ sym (pick-no _ _ q′)) (alike-push x y h r m in-v in-w)),
+              subst (λ (z : Noting). z .cursor .used ≤ x .cursor .used + 1) (sym (pick-no _ _ q)) (omega (arith, moves-one x y h r m in-v in-w)),
+            )
 
     -- a notification's first record
     level-alike : (x y : Noting) → Alike v w a x y → x .cursor .used < length v → x .cursor .used < length w →
@@ -127,9 +129,10 @@ module _ (v w : List ℕ) (a : ℕ) where
         ∙ ap (λ (i : ℕ). noting m (set log (x .cursor .used) (wordOf r)) (record { used = x .cursor .used + 1; standing = i })) (pick-yes _ _ (lt-ltb n (length log) (omega (arith, h .counts)))) in
         let ex = opened (x .log) (omega (arith, h .long-x)) in
         let ey : levelPushed l y ≡ noting m (set (y .log) (x .cursor .used) (wordOf r)) (record { used = x .cursor .used + 1; standing = n + 1 }) =
-        (λ i. levelPushed l (noting (sym (h .noted) i) (y .log) (sym (h .cursor) i))) ∙ opened (y .log) (omega (arith, h .long-y)) in
-        (subst (λ (z : Noting). Alike v w a z (levelPushed l y)) (sym ex) (subst (Alike v w a _) (sym ey) (alike-set x y h r m in-v in-w (n + 1) (omega (arith, h .counts)))),
-        ap (λ (z : Noting). z .cursor .used) ex)
+        (λ i. levelPushed l (noting (sym (h .noted) i) (y .log) (sym (h .cursor) i))) ∙ opened (y .log) (omega (arith, h .long-y)) in (
+          subst (λ (z : Noting). Alike v w a z (levelPushed l y)) (sym ex) (subst (Alike v w a _) (sym ey) (alike-set x y h r m in-v in-w (n + 1) (omega (arith, h .counts)))),
+          ap (λ (z : Noting). z .cursor .used) ex,
+        )
 
     -- n slots, where there is room for a record of each in both
     slots-alike : (at : ℕ → ℕ) (n : ℕ) (x y : Noting) → Alike v w a x y → x .cursor .used + n ≤ length v → x .cursor .used + n ≤ length w →
@@ -149,9 +152,10 @@ module _ (v w : List ℕ) (a : ℕ) where
     unfolding note noteAt
     note-alike x y h k in-v in-w =
         let b = level-alike x y h (omega arith) (omega arith) in
-        let g = slots-alike (λ i. occurrenceAt ws (startAt ws (placeIn ws (l / 2)) + i)) (startAt ws (placeIn ws (l / 2) + 1) - startAt ws (placeIn ws (l / 2))) _ _ (b .0) (omega (arith, b .1)) (omega (arith, b .1)) in
-        (subst (λ (z : Noting). Alike v w a z (note ws l y)) (sym (pick-yes _ _ k)) (subst (Alike v w a _) (sym (pick-yes _ _ k)) (g .0)),
-        subst (λ (z : Noting). z .cursor .used ≤ x .cursor .used + 1 + (startAt ws (placeIn ws (l / 2) + 1) - startAt ws (placeIn ws (l / 2)))) (sym (pick-yes _ _ k)) (omega (arith, g .1, b .1)))
+        let g = slots-alike (λ i. occurrenceAt ws (startAt ws (placeIn ws (l / 2)) + i)) (startAt ws (placeIn ws (l / 2) + 1) - startAt ws (placeIn ws (l / 2))) _ _ (b .0) (omega (arith, b .1)) (omega (arith, b .1)) in (
+          subst (λ (z : Noting). Alike v w a z (note ws l y)) (sym (pick-yes _ _ k)) (subst (Alike v w a _) (sym (pick-yes _ _ k)) (g .0)),
+          subst (λ (z : Noting). z .cursor .used ≤ x .cursor .used + 1 + (startAt ws (placeIn ws (l / 2) + 1) - startAt ws (placeIn ws (l / 2)))) (sym (pick-yes _ _ k)) (omega (arith, g .1, b .1)),
+        )
 
 -- then the one log is the other's records, stored from a on
 pub alike-stored : (v w : List ℕ) (a : ℕ) (x y : Noting) → Alike v w a x y → x .cursor .used ≤ length w → y .log ≡ filled a (x .cursor .used - a) (λ i. getD (x .log) (a + i) 0) w
