@@ -1,11 +1,11 @@
 -- The words that are loaded and the records that are saved, read as words of the whole log.
 use mathlib.Core.Path.{_≡_, refl, sym, ap, ap₂, _∙_}
-use mathlib.Core.Logic.{_⊎_, inl, inr, ⊎-elim}
-use mathlib.Core.List.{List, [], _∷_, map}
+use mathlib.Core.Logic.{⊎-elim}
+use mathlib.Core.List.{List, map}
 use Prim.Native.Nat.{ℕ, zero, suc, _+_, _-_, _<_, _≤_, _^_}
 use native.Mathlib.Omega.{arith}
 use native.Mathlib.Nat.{not-suc-le-zero, eq-or-lt-of-le}
-use lib.ListN.{length, getD, set, length-set, length-map}
+use lib.ListN.{length, getD, set, length-set}
 use lib.Seq.{getD-set-same, getD-set-other}
 use Rattle.base.specs.Iter.{iter}
 use Rattle.base.specs.Lists.{filled}
@@ -14,17 +14,7 @@ use Rattle.undo_log.specs.Log.{wordOf, recordOf}
 use Rattle.undo_log.proofs.Words.{record-back}
 use Rattle.lent_log.specs.Records.{noRecord, least, loaded, saved}
 use Rattle.lent_log.proofs.Bounds.{least-of, least-first}
-
-pub word-at : (log : List Record) (i : ℕ) → getD (map wordOf log) i 0 ≡ wordOf (getD log i noRecord)
-unfolding wordOf
-word-at [] i = refl
-word-at (r ∷ log) zero = refl
-word-at (r ∷ log) (suc i) = word-at log i
-
-map-set : (log : List Record) (i : ℕ) (r : Record) → map wordOf (set log i r) ≡ set (map wordOf log) i (wordOf r)
-map-set [] i r = refl
-map-set (s ∷ log) zero r = refl
-map-set (s ∷ log) (suc i) r = ap (λ (l : List ℕ). wordOf s ∷ l) (map-set log i r)
+use Rattle.lent_log.proofs.Words.{word-at, map-set}
 
 -- words stored from the start on
 module _ (f : ℕ → ℕ) (l : List ℕ) where

@@ -1,3 +1,5 @@
+-- `load` meets its contract: a walk of its MIR, by hand. A turn looks into the log, reads one record, and lends the words to `put` for a
+-- lifetime of its own. The loop's invariant, `Facts`: the words are those that the turns so far give.
 use mathlib.Core.Path.{_≡_, refl, sym, ap, subst, _∙_}
 use Prim.Native.Nat.{ℕ, _<_, _≤_, _^_, _-_, _+_, _*_}
 use native.Mathlib.Omega.{arith}

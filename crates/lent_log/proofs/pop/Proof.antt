@@ -1,3 +1,5 @@
+-- `pop` meets its contract: a walk of its MIR, by hand. Where there is a newest record the cursor's number is lowered, the log is looked
+-- into, the record is read, and the log is shut again.
 use mathlib.Core.Path.{_≡_, refl, sym, ap, _∙_}
 use Prim.Native.Nat.{ℕ, _<_, _≤_, _^_, _-_, _*_}
 use native.Mathlib.Omega.{arith}

@@ -1,3 +1,5 @@
+-- `push` meets its contract: a walk of its MIR, by hand. The cursor's borrow is opened and its number read. With room the log's borrow
+-- is opened, one record is taken out of the row and stored to, and both are closed; without, nothing is changed.
 use mathlib.Core.Path.{_≡_, refl, sym, ap, subst}
 use Prim.Native.Nat.{ℕ, _<_, _≤_, _^_, _+_, _*_}
 use native.Mathlib.Omega.{arith}

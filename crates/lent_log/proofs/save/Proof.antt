@@ -1,3 +1,5 @@
+-- `save` meets its contract: a walk of its MIR, by hand. A turn has one record of `get`, opens the log's borrow, stores it and closes the
+-- borrow. The loop's invariant, `Facts`: the records are those that the turns so far give.
 use mathlib.Core.Path.{_≡_, refl, sym, ap, subst, _∙_}
 use Prim.Native.Nat.{ℕ, _<_, _≤_, _^_, _-_, _+_, _*_}
 use native.Mathlib.Omega.{arith}

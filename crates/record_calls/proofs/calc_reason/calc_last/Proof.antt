@@ -1,3 +1,4 @@
+-- `calc_last` meets its contract: a walk of its MIR, by hand, as that of `calc_reason`.
 use mathlib.Core.Path.{_≡_, refl, sym, ap, subst, _∙_}
 use Prim.Native.Nat.{ℕ, _<_, _^_}
 use mathlib.Core.Bool.{not}

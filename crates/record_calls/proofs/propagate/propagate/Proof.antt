@@ -1,3 +1,5 @@
+-- `propagate` meets its contract: a walk of its MIR, by hand. The words are a local array, lent to `load`, to the flat call and, as `&`, to
+-- `save`; the log is lent as `&` and then again; the cursor is read and written whole behind its reference.
 use mathlib.Core.Path.{_≡_, refl, sym, ap, subst, _∙_}
 use Prim.Native.Nat.{ℕ, _<_, _^_}
 use mathlib.Core.Bool.{not}
