@@ -5,7 +5,6 @@ use mathlib.Core.Path.{_≡_, refl}
 use mathlib.Core.Bool.{Bool, true, false, not}
 use lib.Dec.{T, ltb, leb}
 use borrow.Author.Tests.{ltb-true, ltb-false, leb-true}
-use Rattle.base.specs.Iter.{pick}
 use Rattle.base.proofs.Loop.{pick-ind}
 use Rattle.base.proofs.Tests.{and-left, and-right}
 use Rattle.lent_log.specs.Records.{hasNewest, least}

@@ -1,8 +1,8 @@
 -- A log of records is the log of their words: each definition on records is the flat one on the words.
-use mathlib.Core.Path.{_≡_, refl, sym, ap, ap₂, _∙_}
-use mathlib.Core.Bool.{Bool, true, false, _&&_}
+use mathlib.Core.Path.{_≡_, refl, sym, ap, _∙_}
+use mathlib.Core.Bool.{_&&_}
 use mathlib.Core.List.{List, [], _∷_, map}
-use Prim.Native.Nat.{ℕ, zero, suc, _+_, _-_}
+use Prim.Native.Nat.{ℕ, zero, suc, _-_}
 use lib.Dec.{ltb, leb}
 use lib.ListN.{length, getD, set, length-map}
 use Rattle.base.specs.Iter.{pick}
@@ -15,7 +15,7 @@ use Rattle.undo_log.specs.declared.Popped.{Popped}
 use Rattle.undo_log.specs.declared.Popped.the-variants.{Taken, Nothing}
 use Rattle.undo_log.specs.Log.{wordOf, recordOf, pushWords, pushAnswer, popAnswer, movedTo}
 use Rattle.undo_log.proofs.Words.{InRange, word-back}
-use Rattle.lent_log.specs.Records.{noRecord, Pushing, pushing, pushRecord, hasNewest, Popping, popping, newest, popRecord}
+use Rattle.lent_log.specs.Records.{noRecord, Pushing, pushRecord, hasNewest, Popping, newest, popRecord}
 
 pub word-at : (log : List Record) (i : ℕ) → getD (map wordOf log) i 0 ≡ wordOf (getD log i noRecord)
 unfolding wordOf

@@ -1,21 +1,20 @@
 -- What `initialize` notifies: each literal that it came past was free, so the log has room for the records of all of them.
-use mathlib.Core.Path.{_≡_, refl, sym, ap, ap₂, subst, _∙_}
-use mathlib.Core.Logic.{_⊎_, inl, inr, ⊎-elim}
-use mathlib.Core.Bool.{Bool, true, false, _&&_, _||_, true≢false}
+use mathlib.Core.Path.{_≡_, refl, sym, ap, subst, _∙_}
+use mathlib.Core.Logic.{⊎-elim}
+use mathlib.Core.Bool.{true, false, _&&_, true≢false}
 use mathlib.Core.List.{List, [], _∷_}
-use Prim.Native.Nat.{ℕ, zero, suc, _+_, _-_, _*_, _/_, _%_, _<_, _≤_}
+use Prim.Native.Nat.{ℕ, suc, _+_, _*_, _/_, _%_, _<_, _≤_}
 use native.Mathlib.Omega.{arith}
 use native.Mathlib.Nat.{eq-or-lt-of-le}
 use lib.Dec.{eqb}
-use lib.ListN.{length, getD}
+use lib.ListN.{getD}
 use borrow.Author.Tests.{eq-eqb, ne-eqb, eqb-true}
-use Rattle.base.specs.Iter.{iter, pick}
 use Rattle.base.proofs.Loop.{pick-yes, pick-no, pick-ind, iter-ind, tested}
 use Rattle.base.proofs.Tests.{or-cases}
 use Rattle.plan.specs.Words.{variablesOf, variableAt, uniqueLitAt}
 use Rattle.plan.specs.Proper.{ProperWords}
 use Rattle.plan.proofs.Abstract.{unique-rising}
-use Rattle.noting.specs.Note.{Noting, known}
+use Rattle.noting.specs.Note.{known}
 use Rattle.noting.specs.Standing.{hasVariable}
 use Rattle.noting.proofs.Indexed.{is-known}
 use Rattle.noting.proofs.Logged.{known-small}

@@ -11,7 +11,7 @@ use lib.ListN.{length, getD, length-map}
 use borrow.Author.Tests.{eqb-true}
 use Rattle.base.specs.Iter.{iter, pick}
 use Rattle.base.specs.Range.{inRange}
-use Rattle.base.specs.Lists.{tab, filled}
+use Rattle.base.specs.Lists.{tab}
 use Rattle.base.proofs.Loop.{pick-yes, pick-no, tested}
 use Rattle.undo_log.specs.declared.Record.{Record}
 use Rattle.undo_log.specs.declared.Cursor.{Cursor}

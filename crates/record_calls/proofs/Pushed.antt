@@ -1,24 +1,24 @@
 -- Two logs that agree up to the cursor, and have room, get the same records: what is noted, the cursor, and what is pushed are
 -- the same, and all else of each log stays.
 use mathlib.Core.Path.{_≡_, refl, sym, ap, ap₂, subst, _∙_}
-use mathlib.Core.Logic.{_⊎_, inl, inr, ⊎-elim}
+use mathlib.Core.Logic.{inl, inr, ⊎-elim}
 use mathlib.Core.Bool.{Bool, true, false}
 use mathlib.Core.List.{List}
 use Prim.Native.Nat.{ℕ, zero, suc, _+_, _-_, _/_, _<_, _≤_}
 use native.Mathlib.Omega.{arith}
 use native.Mathlib.Nat.{eq-or-lt-of-le}
-use lib.Dec.{eqb, ltb}
+use lib.Dec.{eqb}
 use lib.ListN.{length, getD, set, length-set}
 use lib.Seq.{getD-set-same, getD-set-other, ext-getD}
 use borrow.Author.Tests.{lt-ltb}
-use Rattle.base.specs.Iter.{iter, pick}
+use Rattle.base.specs.Iter.{iter}
 use Rattle.base.specs.Lists.{filled}
-use Rattle.base.proofs.Loop.{pick-yes, pick-no, pick-ind, iter-ind, tested}
+use Rattle.base.proofs.Loop.{pick-yes, pick-no}
 use Rattle.base.proofs.Tests.{le-or-lt}
 use Rattle.base.proofs.Filled.{filled-length, filled-in, filled-out}
 use Rattle.undo_log.specs.declared.Record.{Record}
 use Rattle.undo_log.specs.declared.Cursor.{Cursor}
-use Rattle.undo_log.specs.Log.{wordOf, pushWords, movedTo}
+use Rattle.undo_log.specs.Log.{wordOf, pushWords}
 use Rattle.plan.specs.Words.{startAt, occurrenceAt}
 use Rattle.noting.specs.Note.{Noting, noting, effectOf, undoRecord, applied, boundary, pushedTo, oneMore, noteSlot, levelPushed, placeIn, known, noteAt, note}
 use Rattle.noting.proofs.UndoNote.{push-set, push-moves}

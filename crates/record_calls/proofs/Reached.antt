@@ -7,7 +7,7 @@ use Prim.Native.Nat.{ℕ, _*_, _<_, _≤_}
 use native.Mathlib.Omega.{arith}
 use lib.Dec.{ltb}
 use lib.ListN.{length, getD}
-use borrow.Author.Tests.{ltb-true, ltb-false, lt-ltb, le-ltb}
+use borrow.Author.Tests.{ltb-true, ltb-false, le-ltb}
 use Rattle.base.proofs.Loop.{tested}
 use Rattle.base.proofs.Tests.{or-none, or-cases, not-false}
 use Rattle.undo_log.specs.declared.Cursor.{Cursor}

@@ -19,7 +19,6 @@ use ghost.Atoms.{Atoms, sem}
 use types.Kit.{Given, ‵, _$_, _∵_, !, qed, move, use1, drop, check, fsplit, fjoin, fpick, fpack, feqI, rewrite, show, done}
 use types.SemTy.{cells}
 use types.Share.{arr-parts}
-use denote.RattleType.{RattleType}
 use denote.Shadow.{shadow}
 use denote.Laws.{Is, shows, Makes}
 use denote.Memory.{cellAt, mem, shares, partAt, partOf}

@@ -1,7 +1,5 @@
-use mathlib.Core.Path.{_≡_, refl, sym, ap, _∙_}
-use lib.Dec.{ltb}
-use borrow.Author.Tests.{lt-ltb, le-ltb, le-leb, lt-leb}
-use Rattle.base.specs.Iter.{pick}
+use mathlib.Core.Path.{sym, _∙_}
+use borrow.Author.Tests.{lt-ltb, le-ltb}
 use Rattle.base.proofs.Loop.{pick-yes, pick-no}
 use Rattle.lent_log.specs.Records.{least}
 use Rattle.lent_log.proofs.least.Statement.{statement}

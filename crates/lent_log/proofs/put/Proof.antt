@@ -1,7 +1,6 @@
-use mathlib.Core.Path.{_≡_, refl, sym, ap, _∙_}
-use lib.ListN.{length, set, length-set}
+use mathlib.Core.Path.{sym, ap}
+use lib.ListN.{set}
 use lib.Seq.{set-out}
-use Rattle.undo_log.specs.Log.{wordOf}
 use borrow.Author.Needs.{needs}
 use Rattle.lent_log.proofs.put.Statement.{statement}
 use Rattle.lent_log.proofs.put.Tie as tie

@@ -1,8 +1,6 @@
-use mathlib.Core.Path.{_≡_, refl, sym, ap, _∙_}
-use mathlib.Core.Bool.{Bool, true, false, not, _||_}
-use lib.Dec.{ltb}
+use mathlib.Core.Path.{sym, ap, _∙_}
+use mathlib.Core.Bool.{true, not}
 use borrow.Author.Tests.{lt-ltb, le-ltb}
-use Rattle.noting.specs.Buffers.{logShort}
 use Rattle.base.proofs.Tests.{or-yes, or-next, or-both}
 use Rattle.record_calls.specs.Reach.{reaches}
 use borrow.Author.Needs.{needs}

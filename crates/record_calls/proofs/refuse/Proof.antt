@@ -1,4 +1,4 @@
-use mathlib.Core.Path.{_≡_, refl, sym, ap, _∙_}
+use mathlib.Core.Path.{refl}
 use Rattle.graph_division.specs.Calls.{refuse}
 use Rattle.record_calls.proofs.refuse.Statement.{statement}
 use Rattle.record_calls.proofs.refuse.Tie as tie

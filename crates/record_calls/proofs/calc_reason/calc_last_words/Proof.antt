@@ -1,4 +1,4 @@
-use mathlib.Core.Path.{_≡_, refl, sym, ap, _∙_}
+use mathlib.Core.Path.{sym, _∙_}
 use Rattle.base.proofs.Loop.{pick-yes, pick-no}
 use borrow.Author.Needs.{needs}
 use Rattle.record_calls.proofs.calc_reason.calc_last_words.Statement.{statement}

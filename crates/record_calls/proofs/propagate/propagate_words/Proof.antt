@@ -1,6 +1,6 @@
 use mir.Facts.{toZ-ofZ}
 use Rattle.graph_division.specs.Calls.{propagated}
-use mathlib.Core.Path.{_≡_, refl, sym, ap, _∙_}
+use mathlib.Core.Path.{sym, ap, _∙_}
 use Rattle.base.proofs.Loop.{pick-yes, pick-no}
 use Rattle.graph_division.specs.declared.Outcome.{Outcome}
 use Rattle.graph_division.specs.Calls.{called}
