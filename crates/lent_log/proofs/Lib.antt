@@ -1,0 +1,5 @@
+pub mod Again
+pub mod Big
+pub mod Bounds
+pub mod Shared
+pub mod Words

@@ -1,0 +1,41 @@
+// The propagator's calls in the form that a caller holds: the undo log is a lent slice of records, and the cursor is lent and
+// moves in place. Each loads the records in use as words, makes the flat call, and saves the records that it pushed.
+pub mod calc_reason;
+pub mod initialize;
+pub mod propagate;
+pub mod undo;
+
+use graph_division::Answer;
+use graph_division::GraphDivision;
+use graph_division::Outcome;
+use undo_log::Cursor;
+ghost use mathlib.Core.Path.{_≡_};
+ghost use Rattle.graph_division.specs.Calls.{refuse};
+ghost use Rattle.record_calls.specs.Reach.{reaches};
+
+// Whether a log of `len` records can be loaded: the flat calls see one of 4352 words, so its length is tested here.
+pub(crate) fn reaches(plan: &[u32; 15241], len: usize, cursor: Cursor) -> bool
+    ensures { λ r. ⌜ r ≡ reaches (now (plan .entry)) len cursor ⌝ }
+{
+    if noting::buffers::log_short(plan, len) {
+        return false;
+    }
+    let used = cursor.used;
+    if len < used {
+        return false;
+    }
+    if 4352 < used {
+        return false;
+    }
+    true
+}
+
+pub(crate) fn refuse(s: GraphDivision, cursor: Cursor) -> Outcome
+    ensures { λ r. ⌜ r ≡ refuse 7 s cursor ⌝ }
+{
+    Outcome {
+        state: s,
+        cursor: cursor,
+        answer: Answer::Refused { number: 7 },
+    }
+}
