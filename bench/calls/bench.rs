@@ -1,5 +1,6 @@
 // The calls of the C host against the Rust's GraphDivision: the same calls on the same plans, in one run. A search makes the list of
-// calls once, on the Rust; both sides then replay it, and their answers are compared call by call.
+// calls once, on the Rust; both sides then replay it, and their answers are compared call by call. The Rust is the copy that
+// tests/rust/compile makes: one search takes the match that document 01 fixes.
 #![allow(dead_code)]
 use std::time::{Duration, Instant};
 
@@ -7,7 +8,8 @@ use std::time::{Duration, Instant};
 mod sat;
 
 mod graph_division {
-    include!(concat!(env!("GRAPH_DIVISION_SRC"), "/cspuz_core/src/propagators/graph_division.rs"));
+    include!(env!("GRAPH_DIVISION_COPY"));
+    include!("../../tests/rust/first_match.rs");
 }
 
 use graph_division::{GraphDivision, GraphDivisionOptions};
@@ -274,7 +276,7 @@ fn fetches(plan: &Plan, r: &mut Rng, times: usize) -> (Vec<Op>, Vec<Op>) {
     (before, ops)
 }
 
-// A search: an unset variable gets a value, mostly the division's; a conflict is explained and taken back, with some more.
+// A search: an unset edge gets a value, mostly the division's; a conflict is explained and taken back, with some more.
 fn search(plan: &Plan, r: &mut Rng, calls: usize) -> (Vec<Op>, Vec<Op>) {
     let mut side = plan.rust();
     let mut ops = vec![];
@@ -289,13 +291,14 @@ fn search(plan: &Plan, r: &mut Rng, calls: usize) -> (Vec<Op>, Vec<Op>) {
     while made < calls {
         let mut set = vec![];
         let next = queue.pop().or_else(|| {
-            let unset: Vec<usize> = (0..plan.variables()).filter(|&v| side.solver.table[v] == 0).collect();
+            // Edges alone: sizes that contradict each other are for a solver's own clauses.
+            let unset: Vec<usize> = (plan.n * (plan.k - 1)..plan.variables()).filter(|&v| side.solver.table[v] == 0).collect();
             if unset.is_empty() {
                 return None;
             }
             let v = unset[r.below(unset.len())];
             set.push(v);
-            Some(plan.truth[v] ^ (r.below(12) == 0) as i32)
+            Some(plan.truth[v] ^ (r.below(6) == 0) as i32)
         });
         let mut fails = next.is_none();
         if let Some(l) = next {
@@ -349,7 +352,7 @@ fn compare(name: &str, plans: &[Plan], make: impl Fn(&Plan) -> (Vec<Op>, Vec<Op>
         }
         let (x, given) = timed(&mut a, &ops);
         let (y, found) = timed(&mut b, &ops);
-        assert_eq!(given, found, "{name}: the answers");
+        assert!(given == found, "{name}: the answers differ");
         rust += x;
         host += y;
         calls += ops.iter().filter(|op| !matches!(op, Op::Set(..))).count();
