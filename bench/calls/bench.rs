@@ -7,13 +7,17 @@ use std::time::{Duration, Instant};
 #[path = "../../tests/rust/sat.rs"]
 mod sat;
 
+#[path = "../../tests/rust/solver.rs"]
+mod solver;
+
 mod graph_division {
     include!(env!("GRAPH_DIVISION_COPY"));
     include!("../../tests/rust/first_match.rs");
 }
 
 use graph_division::{GraphDivision, GraphDivisionOptions};
-use sat::{CustomPropagator, Lit, SolverManipulator};
+use sat::{CustomPropagator, Lit};
+use solver::Solver;
 
 extern "C" {
     fn zuntjev_build(vertices: *const i32, n: usize, edges: *const i32, m: usize, same_size: i32, extra_walls: i32, state: *mut u8, state_len: usize) -> i32;
@@ -103,32 +107,6 @@ impl Plan {
         let built = unsafe { zuntjev_build(vs.as_ptr(), self.n, es.as_ptr(), self.m, 0, 0, state.as_mut_ptr(), state.len()) };
         assert_eq!(built, 0, "building");
         Host { state, table: vec![0; count], list: vec![0; 4 * count], log: vec![0; 16 * count], cursor: vec![0; 8], buffer: vec![0; 2 * (self.m + 2 * self.n + 4)] }
-    }
-}
-
-struct Solver {
-    table: Vec<u8>,
-    handed: Vec<i32>,
-}
-
-unsafe impl SolverManipulator for Solver {
-    unsafe fn value(&self, lit: Lit) -> Option<bool> {
-        let c = self.table[lit.0 as usize / 2];
-        if c == 0 { None } else { Some((c % 2 == 1) == (lit.0 % 2 == 0)) }
-    }
-    unsafe fn add_watch(&mut self, _lit: Lit) {}
-    unsafe fn enqueue(&mut self, lit: Lit) -> bool {
-        if self.value(lit).is_none() {
-            self.table[lit.0 as usize / 2] = 3 + (lit.0 & 1) as u8;
-            self.handed.push(lit.0);
-        }
-        true
-    }
-    unsafe fn decision_level_of_literal(&self, _lit: Lit) -> i32 {
-        unreachable!()
-    }
-    unsafe fn is_current_level(&self, lit: Lit) -> bool {
-        self.table[lit.0 as usize / 2] >= 3
     }
 }
 
@@ -245,7 +223,7 @@ fn notify_undo(plan: &Plan, r: &mut Rng, times: usize) -> (Vec<Op>, Vec<Op>) {
             for &op in &part {
                 apply(&mut side, op);
             }
-            let mut back: Vec<Op> = side.solver.handed.iter().map(|&h| Op::Set(h as usize / 2, 0)).collect();
+            let mut back: Vec<Op> = side.solver.handed.iter().map(|h| Op::Set(h.0 as usize / 2, 0)).collect();
             back.push(Op::Undo(l));
             if part.len() == 2 {
                 back.push(Op::Set(l as usize / 2, 0));
@@ -268,7 +246,7 @@ fn fetches(plan: &Plan, r: &mut Rng, times: usize) -> (Vec<Op>, Vec<Op>) {
     for &op in &before {
         apply(&mut side, op);
         if let Op::Propagate(_) = op {
-            handed.extend(side.solver.handed.iter().copied());
+            handed.extend(side.solver.handed.iter().map(|l| l.0));
         }
     }
     handed.truncate(64);
@@ -308,7 +286,7 @@ fn search(plan: &Plan, r: &mut Rng, calls: usize) -> (Vec<Op>, Vec<Op>) {
             fails = do_op(&mut side, &mut ops, Op::Propagate(l)) == CONFLICT;
             made += 1;
             if !fails {
-                for &h in &side.solver.handed.clone() {
+                for h in side.solver.handed.iter().map(|l| l.0).collect::<Vec<_>>() {
                     set.push(h as usize / 2);
                     queue.push(h);
                     if r.below(8) == 0 {

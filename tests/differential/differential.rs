@@ -14,6 +14,9 @@ use std::process::{Command, Stdio};
 #[path = "../rust/sat.rs"]
 mod sat;
 
+#[path = "../rust/solver.rs"]
+mod solver;
+
 #[path = "../analysis/generate.rs"]
 mod generate;
 
@@ -40,37 +43,7 @@ mod graph_division {
 use generate::Rng;
 use graph_division::{GraphDivision, GraphDivisionOptions};
 use sat::{CustomPropagator, Lit, SolverManipulator};
-
-// The table, and what was handed on.
-struct Solver {
-    table: Vec<u8>,
-    handed: Vec<Lit>,
-}
-
-fn code(lit: Lit, current: bool) -> u8 {
-    1 + (lit.0 & 1) as u8 + 2 * current as u8
-}
-
-unsafe impl SolverManipulator for Solver {
-    unsafe fn value(&self, lit: Lit) -> Option<bool> {
-        let c = self.table[lit.0 as usize / 2];
-        if c == 0 { None } else { Some((c % 2 == 1) == (lit.0 % 2 == 0)) }
-    }
-    unsafe fn add_watch(&mut self, _lit: Lit) {}
-    unsafe fn enqueue(&mut self, lit: Lit) -> bool {
-        if self.value(lit).is_none() {
-            self.table[lit.0 as usize / 2] = code(lit, true);
-            self.handed.push(lit);
-        }
-        true
-    }
-    unsafe fn decision_level_of_literal(&self, _lit: Lit) -> i32 {
-        unreachable!()
-    }
-    unsafe fn is_current_level(&self, lit: Lit) -> bool {
-        self.table[lit.0 as usize / 2] >= 3
-    }
-}
+use solver::{code, Solver};
 
 #[derive(Clone)]
 enum Op {
@@ -281,7 +254,7 @@ impl Session {
     fn propagate(&mut self, lit: i32, pending: i32) -> String {
         let before = self.table.clone();
         if (0..8192).contains(&lit) && self.table[lit as usize / 2] == 0 {
-            self.table[lit as usize / 2] = code(Lit(lit), true);
+            self.table[lit as usize / 2] = code(Lit(lit));
         }
         let refused = if !self.known(lit) {
             9
