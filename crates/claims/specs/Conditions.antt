@@ -108,7 +108,7 @@ pub record Condition2 (start : Kept) (d : Plan) : Type 0 where
       take n (reply (after start before) (initialize t list rest) .list) ≡ calls.call d (callOf (after start before) (initialize t list rest)) (worldAfter d start before) .handed
   pub notified : (before : List Request) (lit pending : ℤ) (t list rest : List ℕ) (n : ℕ) → reply (after start before) (propagate lit pending t list rest) .answer ≡ Consistent n →
       take n (reply (after start before) (propagate lit pending t list rest) .list) ≡ calls.call d (callOf (after start before) (propagate lit pending t list rest)) (worldAfter d start before) .handed
-  -- and the table shows each, of any call: a literal of the definition's is one that was unset and is true then
+  -- and what the table shows as handed on, of any call, is one of these (that each of these is shown is `call-marked` of crate calls)
   pub shown : (before : List Request) (q : Request) (l : ℕ) → HandsOn (after start before) q l → In (calls.call d (callOf (after start before) q) (worldAfter d start before) .handed) l
   -- the list that a conflict leaves, fetched straight after it: each literal stands, but a false proposal's negation, which is true in the table
   pub conflicts : (before : List Request) (q : Request) (b rest : List ℕ) (len : ℕ) →
