@@ -25,22 +25,7 @@ use Rattle.graph_division.specs.Calls.{Called, called, refuse, adding, acceptin
 use Rattle.graph_division.specs.Initialize.{taking, takenOver, endedBy, begun, initialized}
 use Rattle.graph_division.specs.Runs.{Request, initialize, propagate, undo, calcReason, calcLast, tableOf, listOf, tailOf, Kept, logFor, Reply, replied, repliedCalled, repliedFetched, reply}
 use Rattle.claims.specs.Conditions.{turnedAwayWith}
-
-unfoldable kindOf : Answer → ℕ
-kindOf (Consistent n) = 0
-kindOf Conflict = 1
-kindOf Noted = 2
-kindOf Undone = 3
-kindOf (Reason n) = 4
-kindOf (Refused n) = 5
-
-unfoldable numberIn : Answer → ℕ
-numberIn (Consistent n) = n
-numberIn Conflict = 0
-numberIn Noted = 0
-numberIn Undone = 0
-numberIn (Reason n) = n
-numberIn (Refused n) = n
+use Rattle.claims.proofs.Replying.{kindOf, amountOf}
 
 -- any reply that is turned away is turned away with the number that it answers
 Unchanged : Kept → Request → Reply → Type 0
@@ -48,8 +33,8 @@ Unchanged k q y = (n : ℕ) → y .answer ≡ Refused n → y ≡ turnedAwayWith
 
 module _ (k : Kept) (q : Request) where
   away : (m : ℕ) (y : Reply) → y ≡ turnedAwayWith k q m → Unchanged k q y
-  unfolding Unchanged turnedAwayWith replied refuse numberIn
-  away m y e n f = e ∙ ap (turnedAwayWith k q) (ap numberIn (ap (λ (z : Reply). z .answer) (sym e) ∙ f))
+  unfolding Unchanged turnedAwayWith replied refuse amountOf
+  away m y e n f = e ∙ ap (turnedAwayWith k q) (ap amountOf (ap (λ (z : Reply). z .answer) (sym e) ∙ f))
 
   -- one that answers anything else is not
   other : (y : Reply) (a : Answer) → y .answer ≡ a → (kindOf a ≡ 5 → ⊥) → Unchanged k q y

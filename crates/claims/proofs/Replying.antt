@@ -21,7 +21,7 @@ use Rattle.simulation.proofs.Fetching.{listIn}
 use Rattle.simulation.proofs.Running.{RepresentsKept, Replies, reply-is, Leads, after-leads}
 
 -- ---- answers
-unfoldable kindOf : Answer → ℕ
+unfoldable pub kindOf : Answer → ℕ
 kindOf (Consistent n) = 0
 kindOf Conflict = 1
 kindOf Noted = 2
@@ -29,7 +29,7 @@ kindOf Undone = 3
 kindOf (Reason n) = 4
 kindOf (Refused n) = 5
 
-unfoldable amountOf : Answer → ℕ
+unfoldable pub amountOf : Answer → ℕ
 amountOf (Consistent n) = n
 amountOf Conflict = 0
 amountOf Noted = 0
