@@ -29,7 +29,7 @@ use Rattle.calls.specs.Claim as claim
 use Rattle.calls.specs.Claim.{Covers}
 use Rattle.calls.proofs.Marks.{call-marked}
 use Rattle.calls.proofs.Refusals.{refusals, acceptances}
-use Rattle.calls.proofs.Claim.{did-last, condition-3}
+use Rattle.calls.proofs.Claim.{listIn, did-last, condition-3}
 use Rattle.calls.proofs.View.{did}
 use Rattle.calls.proofs.Stands.{stands-from-calls}
 use Rattle.calls.proofs.Truths.{conflict-backed, fetched-walked, recorded-stood}
@@ -39,7 +39,6 @@ use Rattle.graph_division.specs.Runs.{Request, initialize, propagate, undo, cal
 use Rattle.claims.specs.Conditions.{accepted, isConsistent, counts, counted, HandsOn, Quiet, aReason, aLast, turnedAway, AllQuiet, done, next, fetchedBy, Condition1, Condition2, Condition3}
 use Rattle.graph_division.specs.Outcomes.{answerOf}
 use Rattle.simulation.proofs.Represents.{planIn}
-use Rattle.simulation.proofs.Fetching.{listIn}
 use Rattle.simulation.proofs.Running.{RepresentsKept, valuesFor, Replies}
 use Rattle.claims.proofs.Refusing.{refused-unchanged}
 use Rattle.claims.proofs.Replying.{consistent-many, conflict-back, reason-back, refused-is, accepted-is, consistent-is, At, reply-at, next-at, after-at}

@@ -11,13 +11,13 @@ use Rattle.division.specs.Plan.{Plan}
 use Rattle.plan.specs.Plan.{planOf}
 use Rattle.calls.specs.Calls as calls
 use Rattle.calls.specs.Calls.{World}
+use Rattle.calls.proofs.Claim.{listIn}
 use Rattle.graph_division.specs.declared.Answer.{Answer}
 use Rattle.graph_division.specs.declared.Answer.the-variants.{Consistent, Conflict, Noted, Undone, Reason, Refused}
 use Rattle.graph_division.specs.Runs.{Request, Kept, Reply, reply, keeping, after, callOf, callsOf}
 use Rattle.claims.specs.Conditions.{accepted, isConsistent}
 use Rattle.graph_division.specs.Outcomes.{answerFor, answerOf}
 use Rattle.simulation.proofs.Represents.{planIn}
-use Rattle.simulation.proofs.Fetching.{listIn}
 use Rattle.simulation.proofs.Running.{RepresentsKept, Replies, reply-is, Leads, after-leads}
 
 -- ---- answers

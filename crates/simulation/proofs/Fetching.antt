@@ -42,6 +42,7 @@ use Rattle.judge.proofs.Conflicts.{given-whole, list-taken}
 use Rattle.calls.specs.Look.{gone}
 use Rattle.calls.specs.Calls as calls
 use Rattle.calls.specs.Calls.{World}
+use Rattle.calls.proofs.Claim.{listIn}
 use Rattle.calls.proofs.Alike.{gone-same}
 use Rattle.refusals.specs.Refusals.{litNumber, literalRefusal, fetchRefusal}
 use Rattle.refusals.specs.Calls.{litGiven, fetchRoom, refusedOr}
@@ -54,15 +55,6 @@ use Rattle.graph_division.specs.Outcomes.{answerFor, answerOf}
 use Rattle.simulation.proofs.Represents.{planIn, Represents}
 use Rattle.graph_division.proofs.Saved.{tab-length}
 use Rattle.simulation.proofs.Looked.{tab-take}
-
--- the list of an answer
-unfoldable pub listIn : calls.Answer → List ℕ
-listIn calls.consistent = []
-listIn calls.conflicting = []
-listIn calls.noted = []
-listIn calls.undone = []
-listIn (calls.refused n) = []
-listIn (calls.reason ls) = ls
 
 -- a fetch on state, log and cursor; the definition's outcome is o
 pub record SimulatesFetched (s : GraphDivision) (log : List ℕ) (c : Cursor) (before : List ℕ) (x : Fetched) (o : calls.Outcome) : Type 0 where

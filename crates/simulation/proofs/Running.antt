@@ -29,6 +29,7 @@ use Rattle.noting.proofs.Preserved.{standing-other, passes-other}
 use Rattle.calls.specs.Table.{badTable}
 use Rattle.calls.specs.Calls as calls
 use Rattle.calls.specs.Calls.{World}
+use Rattle.calls.proofs.Claim.{listIn}
 use Rattle.calls.proofs.Marks.{call-marked}
 use Rattle.refusals.specs.Refusals.{stateBad, tableStateBad, initializeRefusal, propagateRefusal, undoRefusal, fetchRefusal}
 use Rattle.refusals.specs.Calls.{litGiven}
@@ -46,7 +47,7 @@ use Rattle.simulation.proofs.Rooms.{state-room, table-room, fetch-room}
 use Rattle.simulation.proofs.Undoing.{undo-simulated}
 use Rattle.simulation.proofs.Propagating.{propagate-simulated}
 use Rattle.simulation.proofs.Starting.{initialize-simulated}
-use Rattle.simulation.proofs.Fetching.{listIn, SimulatesFetched, last-simulated, reason-simulated}
+use Rattle.simulation.proofs.Fetching.{SimulatesFetched, last-simulated, reason-simulated}
 use Rattle.simulation.proofs.Building.{new-represents}
 
 or-true : (b : Bool) → (b || true) ≡ true
