@@ -12,6 +12,7 @@ use Rattle.base.proofs.Loop.{pick-yes, pick-no}
 use Rattle.base.proofs.Tests.{and-left, and-next, and-no, or-yes, or-next}
 use Rattle.undo_log.specs.declared.Record.{Record}
 use Rattle.undo_log.specs.Log.{recordOf, wordOf}
+use Rattle.plan.specs.Words.{variablesOf, variableAt}
 use Rattle.noting.specs.declared.note.Effect.{Effect}
 use Rattle.noting.specs.declared.replay.Place.{Place}
 use Rattle.noting.specs.Words.{fresh}
@@ -51,6 +52,14 @@ module _ (ws log noted : List ℕ) (used l s : ℕ) (p : Place) where
       pub follow-no : b ≡ false → followed noted (place false (p .at)) ≡ followSlot ws log used l s (followed noted p)
       unfolding followSlot
       follow-no y = sym (pick-yes _ _ h ∙ pick-no _ _ skip ∙ pick-no _ _ (sym held ∙ y))
+
+-- a variable that was searched is known exactly if it is the one found
+pub found-known : (ws : List ℕ) (k x : ℕ) → k ≡ placeIn ws x → (ltb k (variablesOf ws) && eqb (variableAt ws k) x) ≡ known ws x
+unfolding known
+found-known ws k x h = ap (λ (n : ℕ). ltb n (variablesOf ws) && eqb (variableAt ws n) x) h
+
+pub place-of : (ws : List ℕ) (k : ℕ) {l l₁ : ℕ} → l ≡ l₁ → k ≡ placeIn ws (l₁ / 2) → k ≡ placeIn ws (l / 2)
+place-of ws k e h = h ∙ sym (ap (λ (n : ℕ). placeIn ws (n / 2)) e)
 
 module _ (ws marks log : List ℕ) (at l w v : ℕ) (hl : l ≡ litAt log at) (hw : w ≡ getD log at 0) (hv : v ≡ wordOf (boundary l)) where
   starts : (eqb w v ≡ eqb (getD log at 0) (wordOf (boundary (litAt log at))))

@@ -7,10 +7,12 @@ use undo_log::Cursor;
 use undo_log::Pushed;
 use undo_log::Record;
 ghost use mathlib.Core.Path.{_≡_};
+ghost use mathlib.Core.Bool.{_&&_};
 ghost use Prim.Native.Nat.{ℕ, _+_, _-_, _≤_, _<_};
+ghost use lib.Dec.{ltb, eqb};
 ghost use Rattle.base.specs.Iter.{iter};
 ghost use Rattle.undo_log.specs.Log.{pushWords};
-ghost use Rattle.plan.specs.Words.{startAt, occurrenceAt};
+ghost use Rattle.plan.specs.Words.{variablesOf, variableAt, startAt, occurrenceAt};
 ghost use Rattle.noting.specs.Note.{effect, sizeEffect, edgeEffect, effectOf, undoRecord, boundSet, edgeSet, applied, noting, pushedTo, noteSlot, boundary, oneMore, levelPushed, halved, placeIn, known, noteAt, note};
 
 // What a literal says of one vertex or edge: `LiteralInfo` of the Rust. The kinds are the undo log's; 0 is nothing.
@@ -288,15 +290,21 @@ pub fn place_in(plan: &[u32; 15241], x: u32) -> usize
     search(plan, x)
 }
 
-// Whether variable x is one of the plan's: refusal 9 where it is not.
-pub fn known(plan: &[u32; 15241], x: u32) -> bool
-    ensures { λ r. ⌜ r ≡ known (now (plan .entry)) x ⌝ }
+// Whether distinct variable k is x.
+pub(crate) fn is_variable(plan: &[u32; 15241], k: usize, x: u32) -> bool
+    ensures { λ r. ⌜ r ≡ (ltb k (variablesOf (now (plan .entry))) && eqb (variableAt (now (plan .entry)) k) x) ⌝ }
 {
-    let k = place_in(plan, x);
     if k < plan::num_variables(plan) as usize {
         return plan::variable_at(plan, k) == x;
     }
     false
+}
+
+// Whether variable x is one of the plan's: refusal 9 where it is not.
+pub fn known(plan: &[u32; 15241], x: u32) -> bool
+    ensures { λ r. ⌜ r ≡ known (now (plan .entry)) x ⌝ }
+{
+    is_variable(plan, place_in(plan, x), x)
 }
 
 // How many occurrences distinct variable k has.

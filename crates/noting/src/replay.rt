@@ -6,7 +6,7 @@ use crate::lower_bound;
 use crate::lower_bound_lit;
 use crate::note::apply;
 use crate::note::effect_of;
-use crate::note::known;
+use crate::note::is_variable;
 use crate::note::num_occurrences;
 use crate::note::search;
 use crate::note::undo_record;
@@ -17,14 +17,15 @@ use undo_log::Cursor;
 use undo_log::Record;
 ghost use mathlib.Core.Path.{_≡_};
 ghost use mathlib.Core.Bool.{true, not, _||_};
-ghost use Prim.Native.Nat.{ℕ, _+_, _-_, _≤_, _<_};
+ghost use Prim.Native.Nat.{ℕ, _+_, _-_, _/_, _≤_, _<_};
 ghost use lib.ListN.{length, getD};
 ghost use Rattle.base.specs.Iter.{iter};
 ghost use Rattle.base.specs.Lists.{some};
 ghost use Rattle.plan.specs.Words.{verticesOf, edgesOf, occurrenceAt};
+ghost use Rattle.noting.specs.Note.{placeIn};
 ghost use Rattle.noting.specs.Undo.{recordsOf};
 ghost use Rattle.noting.specs.Standing.{standing};
-ghost use Rattle.noting.specs.Replay.{place, holdsAt, followed, followSlot, followAt, replayed, marked, setMark, opens, replayLevel, replay, edgeDiffers, vertexDiffers, notedDiffers, afresh, logBad};
+ghost use Rattle.noting.specs.Replay.{place, litAt, holdsAt, followed, followSlot, followAt, replayed, marked, setMark, opens, replayLevel, replay, edgeDiffers, vertexDiffers, notedDiffers, afresh, logBad};
 
 // Whether the log is as noting gives it, and how far it was read.
 pub struct Place {
@@ -136,8 +137,10 @@ fn mark(marks: &mut [u8; 2176], k: usize)
     }
 }
 
-// Whether a notification starts there whose literal is known, and neither it nor its negation stood before.
-fn opens(plan: &[u32; 15241], marks: &[u8; 2176], log: &[u64], at: usize) -> bool
+// Whether a notification starts there whose literal is known, and neither it nor its negation stood before. The literal's variable has
+// been searched: k is what was found.
+fn opens(plan: &[u32; 15241], marks: &[u8; 2176], log: &[u64], at: usize, k: usize) -> bool
+    requires { ⌜ k ≡ placeIn (now plan) (litAt (now log) at / 2) ⌝ }
     ensures { λ r. ⌜ r ≡ opens (now (plan .entry)) (now (marks .entry)) (now (log .entry)) at ⌝ }
 {
     let lit = record_at(log, at).lit;
@@ -148,9 +151,7 @@ fn opens(plan: &[u32; 15241], marks: &[u8; 2176], log: &[u64], at: usize) -> boo
         lit,
     };
     if word_at(log, at) == undo_log::word_of(r) {
-        let x = lit as u32 / 2;
-        if known(plan, x) {
-            let k = search(plan, x);
+        if is_variable(plan, k, lit as u32 / 2) {
             if marked(marks, k) {
                 return false;
             }
@@ -175,9 +176,9 @@ fn replay_level(
     let at = p.at;
     if p.ok {
         if at < used {
-            if opens(plan, marks, log, at) {
-                let lit = record_at(log, at).lit;
-                let k = search(plan, lit as u32 / 2);
+            let lit = record_at(log, at).lit;
+            let k = search(plan, lit as u32 / 2);
+            if opens(plan, marks, log, at, k) {
                 mark(marks, k);
                 let q = Place {
                     ok: true,

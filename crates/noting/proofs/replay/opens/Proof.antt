@@ -1,9 +1,8 @@
-use mathlib.Core.Path.{_≡_, refl, sym, ap, ap₂, _∙_}
-use mathlib.Core.Bool.{Bool, true, false, not, _&&_, _||_}
-use Prim.Native.Nat.{ℕ, suc, pred, _+_, _-_, _*_, _/_, _%_, _≤_, _<_}
-use native.Mathlib.Omega.{arith}
+use mathlib.Core.Path.{_≡_, sym, ap, _∙_}
+use mathlib.Core.Bool.{true, false, not}
+use Prim.Native.Nat.{ℕ, _/_}
 use Rattle.undo_log.specs.declared.Record.{Record}
-use Rattle.noting.proofs.Follow.{opens-not, opens-unknown, opens-known}
+use Rattle.noting.proofs.Follow.{found-known, place-of, opens-not, opens-unknown, opens-known}
 use borrow.Author.Needs.{needs}
 use Rattle.noting.proofs.replay.opens.Statement.{statement}
 use Rattle.noting.proofs.replay.opens.Tie as tie
@@ -17,29 +16,26 @@ word-at-requires c κs = search needs
 word-of-requires : tie.Need-word-of-requires
 word-of-requires c κs = search needs
 
-cast-x : tie.Need-cast-x
-cast-x c = search needs
+cast-is-variable : tie.Need-cast-is-variable
+cast-is-variable c = search needs
 
-known-requires : tie.Need-known-requires
-known-requires c κs = search needs
-
-search-requires : tie.Need-search-requires
-search-requires c κs = search needs
+is-variable-requires : tie.Need-is-variable-requires
+is-variable-requires c κs = search needs
 
 marked-requires : tie.Need-marked-requires
 marked-requires c κs = search needs
 
 returns : tie.Need-returns
-returns c = opens-known ((c .before .before .before .before .before .before .before .before .before .before .args) .plan .now) ((c .before .before .before .before .before .before .before .before .before .before .args) .marks .now) ((c .before .before .before .before .before .before .before .before .before .before .args) .log .now) ((c .before .before .before .before .before .before .before .before .before .before .args) .at) ((c .before .before .before .before .before .before .before .before .record-at) .result .lit) _ _ (ap (λ (r : Record). r .lit) ((c .before .before .before .before .before .before .before .before .record-at) .ensures)) ((c .before .before .before .before .before .before .before .word-at) .ensures) ((c .before .before .before .before .before .before .word-of) .ensures) ((c .before .before .before .before .before .if1) .taken) ((c .before .before .before .before .known) .result) ((c .before .before .before .before .known) .ensures) ((c .before .before .before .if2) .taken) ((c .before .before .search) .result) ((c .before .before .search) .ensures .0) ((c .before .marked) .result) ((c .before .marked) .ensures) false (sym (ap not ((c .if3) .taken)))
+returns c = opens-known (c .before .before .before .before .before .before .before .before .before .args .plan .now) (c .before .before .before .before .before .before .before .before .before .args .marks .now) (c .before .before .before .before .before .before .before .before .before .args .log .now) (c .before .before .before .before .before .before .before .before .before .args .at) (c .before .before .before .before .before .before .before .record-at .result .lit) _ _ (ap (λ (r : Record). r .lit) (c .before .before .before .before .before .before .before .record-at .ensures)) (c .before .before .before .before .before .before .word-at .ensures) (c .before .before .before .before .before .word-of .ensures) (c .before .before .before .before .if1 .taken) (c .before .before .before .is-variable .result) (c .before .before .before .is-variable .ensures ∙ found-known (c .before .before .before .before .before .before .before .before .before .args .plan .now) (c .before .before .before .before .before .before .before .before .before .args .k) (c .before .before .before .before .before .before .before .record-at .result .lit / 2) (place-of (c .before .before .before .before .before .before .before .before .before .args .plan .now) (c .before .before .before .before .before .before .before .before .before .args .k) (ap (λ (r : Record). r .lit) (c .before .before .before .before .before .before .before .record-at .ensures)) (c .before .before .before .before .before .before .before .before .before .pre))) (c .before .before .if2 .taken) (c .before .before .before .before .before .before .before .before .before .args .k) (place-of (c .before .before .before .before .before .before .before .before .before .args .plan .now) (c .before .before .before .before .before .before .before .before .before .args .k) (ap (λ (r : Record). r .lit) (c .before .before .before .before .before .before .before .record-at .ensures)) (c .before .before .before .before .before .before .before .before .before .pre)) (c .before .marked .result) (c .before .marked .ensures) false (sym (ap not (c .if3 .taken)))
 
 returns-2 : tie.Need-returns-2
-returns-2 c = opens-known ((c .before .before .before .before .before .before .before .before .before .before .args) .plan .now) ((c .before .before .before .before .before .before .before .before .before .before .args) .marks .now) ((c .before .before .before .before .before .before .before .before .before .before .args) .log .now) ((c .before .before .before .before .before .before .before .before .before .before .args) .at) ((c .before .before .before .before .before .before .before .before .record-at) .result .lit) _ _ (ap (λ (r : Record). r .lit) ((c .before .before .before .before .before .before .before .before .record-at) .ensures)) ((c .before .before .before .before .before .before .before .word-at) .ensures) ((c .before .before .before .before .before .before .word-of) .ensures) ((c .before .before .before .before .before .if1) .taken) ((c .before .before .before .before .known) .result) ((c .before .before .before .before .known) .ensures) ((c .before .before .before .if2) .taken) ((c .before .before .search) .result) ((c .before .before .search) .ensures .0) ((c .before .marked) .result) ((c .before .marked) .ensures) true (sym (ap not ((c .if3) .left)))
+returns-2 c = opens-known (c .before .before .before .before .before .before .before .before .before .args .plan .now) (c .before .before .before .before .before .before .before .before .before .args .marks .now) (c .before .before .before .before .before .before .before .before .before .args .log .now) (c .before .before .before .before .before .before .before .before .before .args .at) (c .before .before .before .before .before .before .before .record-at .result .lit) _ _ (ap (λ (r : Record). r .lit) (c .before .before .before .before .before .before .before .record-at .ensures)) (c .before .before .before .before .before .before .word-at .ensures) (c .before .before .before .before .before .word-of .ensures) (c .before .before .before .before .if1 .taken) (c .before .before .before .is-variable .result) (c .before .before .before .is-variable .ensures ∙ found-known (c .before .before .before .before .before .before .before .before .before .args .plan .now) (c .before .before .before .before .before .before .before .before .before .args .k) (c .before .before .before .before .before .before .before .record-at .result .lit / 2) (place-of (c .before .before .before .before .before .before .before .before .before .args .plan .now) (c .before .before .before .before .before .before .before .before .before .args .k) (ap (λ (r : Record). r .lit) (c .before .before .before .before .before .before .before .record-at .ensures)) (c .before .before .before .before .before .before .before .before .before .pre))) (c .before .before .if2 .taken) (c .before .before .before .before .before .before .before .before .before .args .k) (place-of (c .before .before .before .before .before .before .before .before .before .args .plan .now) (c .before .before .before .before .before .before .before .before .before .args .k) (ap (λ (r : Record). r .lit) (c .before .before .before .before .before .before .before .record-at .ensures)) (c .before .before .before .before .before .before .before .before .before .pre)) (c .before .marked .result) (c .before .marked .ensures) true (sym (ap not (c .if3 .left)))
 
 returns-3 : tie.Need-returns-3
-returns-3 c = opens-unknown ((c .before .before .before .before .before .before .before .args) .plan .now) ((c .before .before .before .before .before .before .before .args) .marks .now) ((c .before .before .before .before .before .before .before .args) .log .now) ((c .before .before .before .before .before .before .before .args) .at) ((c .before .before .before .before .before .record-at) .result .lit) _ _ (ap (λ (r : Record). r .lit) ((c .before .before .before .before .before .record-at) .ensures)) ((c .before .before .before .before .word-at) .ensures) ((c .before .before .before .word-of) .ensures) ((c .before .before .if1) .taken) ((c .before .known) .result) ((c .before .known) .ensures) ((c .if2) .left)
+returns-3 c = opens-unknown (c .before .before .before .before .before .before .before .args .plan .now) (c .before .before .before .before .before .before .before .args .marks .now) (c .before .before .before .before .before .before .before .args .log .now) (c .before .before .before .before .before .before .before .args .at) (c .before .before .before .before .before .record-at .result .lit) _ _ (ap (λ (r : Record). r .lit) (c .before .before .before .before .before .record-at .ensures)) (c .before .before .before .before .word-at .ensures) (c .before .before .before .word-of .ensures) (c .before .before .if1 .taken) (c .before .is-variable .result) (c .before .is-variable .ensures ∙ found-known (c .before .before .before .before .before .before .before .args .plan .now) (c .before .before .before .before .before .before .before .args .k) (c .before .before .before .before .before .record-at .result .lit / 2) (place-of (c .before .before .before .before .before .before .before .args .plan .now) (c .before .before .before .before .before .before .before .args .k) (ap (λ (r : Record). r .lit) (c .before .before .before .before .before .record-at .ensures)) (c .before .before .before .before .before .before .before .pre))) (c .if2 .left)
 
 returns-4 : tie.Need-returns-4
-returns-4 c = opens-not ((c .before .before .before .before .before .args) .plan .now) ((c .before .before .before .before .before .args) .marks .now) ((c .before .before .before .before .before .args) .log .now) ((c .before .before .before .before .before .args) .at) ((c .before .before .before .record-at) .result .lit) _ _ (ap (λ (r : Record). r .lit) ((c .before .before .before .record-at) .ensures)) ((c .before .before .word-at) .ensures) ((c .before .word-of) .ensures) ((c .if1) .left)
+returns-4 c = opens-not (c .before .before .before .before .before .args .plan .now) (c .before .before .before .before .before .args .marks .now) (c .before .before .before .before .before .args .log .now) (c .before .before .before .before .before .args .at) (c .before .before .before .record-at .result .lit) _ _ (ap (λ (r : Record). r .lit) (c .before .before .before .record-at .ensures)) (c .before .before .word-at .ensures) (c .before .word-of .ensures) (c .if1 .left)
 
 pub opens-spec : {M : Type 1} → statement M
 opens-spec =
@@ -48,9 +44,8 @@ opens-spec =
     record-at-requires
     word-at-requires
     word-of-requires
-    cast-x
-    known-requires
-    search-requires
+    cast-is-variable
+    is-variable-requires
     marked-requires
     returns
     returns-2
