@@ -1,6 +1,6 @@
 // The calls of the C host against the Rust's GraphDivision: the same calls on the same plans, in one run. A search makes the list of
-// calls once, on the Rust; both sides then replay it, and their answers are compared call by call. The Rust is the copy that
-// tests/rust/compile makes: one search takes the match that document 01 fixes.
+// calls once, on the Rust; both sides then replay it, and the numbers that they answer are compared call by call, the tables at the end.
+// The Rust is the copy that tests/rust/compile makes: one search takes the match that document 01 fixes.
 #![allow(dead_code)]
 use std::time::{Duration, Instant};
 
@@ -10,23 +10,18 @@ mod sat;
 #[path = "../../tests/rust/solver.rs"]
 mod solver;
 
+#[path = "../../tests/rust/host.rs"]
+mod host;
+
 mod graph_division {
     include!(env!("GRAPH_DIVISION_COPY"));
     include!("../../tests/rust/first_match.rs");
 }
 
 use graph_division::{GraphDivision, GraphDivisionOptions};
+use host::{Given, Host, CONFLICT};
 use sat::{CustomPropagator, Lit};
 use solver::Solver;
-
-extern "C" {
-    fn zuntjev_build(vertices: *const i32, n: usize, edges: *const i32, m: usize, same_size: i32, extra_walls: i32, state: *mut u8, state_len: usize) -> i32;
-    fn zuntjev_propagate(state: *mut u8, sn: usize, table: *mut u8, tn: usize, list: *mut u8, ln: usize, log: *mut u8, gn: usize, cursor: *mut u8, cn: usize, lit: i32, pending: i32) -> i32;
-    fn zuntjev_undo(state: *mut u8, sn: usize, log: *const u8, gn: usize, cursor: *mut u8, cn: usize, lit: i32) -> i32;
-    fn zuntjev_calc_reason(state: *const u8, sn: usize, log: *const u8, gn: usize, cursor: *const u8, cn: usize, lit: i32, buffer: *mut u8, bn: usize) -> i32;
-}
-
-const CONFLICT: i32 = -100;
 
 struct Rng(u64);
 
@@ -85,33 +80,21 @@ impl Plan {
     }
 
     fn host(&self) -> Host {
-        let (mut vs, mut es) = (vec![0i32; 4288], vec![0i32; 384]);
-        for v in 0..self.n {
-            vs[67 * v] = 1;
-            vs[67 * v + 1] = self.k as i32;
-            vs[67 * v + 2] = self.k as i32 - 1;
-            for j in 0..self.k {
-                vs[67 * v + 3 + j] = j as i32 + 1;
-            }
-            for j in 0..self.k - 1 {
-                vs[67 * v + 35 + j] = 2 * (v * (self.k - 1) + j) as i32;
-            }
-        }
-        for (g, &(u, v)) in self.edges.iter().enumerate() {
-            es[3 * g] = u as i32;
-            es[3 * g + 1] = v as i32;
-            es[3 * g + 2] = 2 * (self.n * (self.k - 1) + g) as i32;
-        }
-        let count = self.variables();
-        let mut state = vec![0u8; 133440];
-        let built = unsafe { zuntjev_build(vs.as_ptr(), self.n, es.as_ptr(), self.m, 0, 0, state.as_mut_ptr(), state.len()) };
-        assert_eq!(built, 0, "building");
-        Host { state, table: vec![0; count], list: vec![0; 4 * count], log: vec![0; 16 * count], cursor: vec![0; 8], buffer: vec![0; 2 * (self.m + 2 * self.n + 4)] }
+        let sizes: Vec<i32> = (1..=self.k as i32).collect();
+        let lits = |v: usize| (0..self.k - 1).map(|j| 2 * (v * (self.k - 1) + j) as i32).collect();
+        let edge_lit = |g: usize| 2 * (self.n * (self.k - 1) + g) as i32;
+        let given = Given {
+            vertices: (0..self.n).map(|v| (1, sizes.clone(), lits(v))).collect(),
+            edges: self.edges.iter().enumerate().map(|(g, e)| [e.0 as i32, e.1 as i32, edge_lit(g)]).collect(),
+            ..Given::default()
+        };
+        given.build(self.variables(), 2 * self.variables())
     }
 }
 
 // Answers as the host gives them.
 trait Side {
+    fn initialize(&mut self) -> i32;
     fn propagate(&mut self, lit: i32) -> i32;
     fn undo(&mut self, lit: i32) -> i32;
     fn reason(&mut self, lit: i32) -> i32;
@@ -124,6 +107,10 @@ struct Rust {
 }
 
 impl Side for Rust {
+    fn initialize(&mut self) -> i32 {
+        self.solver.handed.clear();
+        if self.d.initialize(&mut self.solver) { self.solver.handed.len() as i32 } else { CONFLICT }
+    }
     fn propagate(&mut self, lit: i32) -> i32 {
         self.solver.handed.clear();
         if self.d.propagate(&mut self.solver, Lit(lit), 0) { self.solver.handed.len() as i32 } else { CONFLICT }
@@ -140,26 +127,18 @@ impl Side for Rust {
     }
 }
 
-struct Host {
-    state: Vec<u8>,
-    table: Vec<u8>,
-    list: Vec<u8>,
-    log: Vec<u8>,
-    cursor: Vec<u8>,
-    buffer: Vec<u8>,
-}
-
 impl Side for Host {
+    fn initialize(&mut self) -> i32 {
+        Host::initialize(self)
+    }
     fn propagate(&mut self, lit: i32) -> i32 {
-        unsafe {
-            zuntjev_propagate(self.state.as_mut_ptr(), self.state.len(), self.table.as_mut_ptr(), self.table.len(), self.list.as_mut_ptr(), self.list.len(), self.log.as_mut_ptr(), self.log.len(), self.cursor.as_mut_ptr(), self.cursor.len(), lit, 0)
-        }
+        Host::propagate(self, lit, 0)
     }
     fn undo(&mut self, lit: i32) -> i32 {
-        unsafe { zuntjev_undo(self.state.as_mut_ptr(), self.state.len(), self.log.as_ptr(), self.log.len(), self.cursor.as_mut_ptr(), self.cursor.len(), lit) }
+        Host::undo(self, lit)
     }
     fn reason(&mut self, lit: i32) -> i32 {
-        unsafe { zuntjev_calc_reason(self.state.as_ptr(), self.state.len(), self.log.as_ptr(), self.log.len(), self.cursor.as_ptr(), self.cursor.len(), lit, self.buffer.as_mut_ptr(), self.buffer.len()) }
+        Host::reason(self, lit)
     }
     fn table(&mut self) -> &mut [u8] {
         &mut self.table
@@ -320,6 +299,40 @@ fn search(plan: &Plan, r: &mut Rng, calls: usize) -> (Vec<Op>, Vec<Op>) {
     (vec![], ops)
 }
 
+fn print(name: &str, calls: usize, rust: Duration, host: Duration) {
+    let each = |t: Duration| t.as_nanos() as f64 / calls.max(1) as f64 / 1000.0;
+    println!("  {name:24} {calls:7} calls  Rust {:8.2} us  host {:8.2} us  ratio {:.2}", each(rust), each(host), each(host) / each(rust));
+}
+
+// Initialise, on built states whose table has half of the edges of the division.
+fn initialise(plans: &[Plan], times: usize) {
+    let (mut rust, mut host, mut calls) = (Duration::ZERO, Duration::ZERO, 0);
+    for plan in plans {
+        let mut r = Rng(11);
+        let edges = plan.n * (plan.k - 1);
+        let set: Vec<Op> = plan.truth[edges..].iter().filter(|_| r.below(2) == 0).map(|&l| Op::Set(l as usize / 2, 1 + (l & 1) as u8)).collect();
+        let mut a: Vec<Rust> = (0..times).map(|_| plan.rust()).collect();
+        let mut b: Vec<Host> = (0..times).map(|_| plan.host()).collect();
+        for &op in &set {
+            a.iter_mut().for_each(|s| {
+                apply(s, op);
+            });
+            b.iter_mut().for_each(|s| {
+                apply(s, op);
+            });
+        }
+        let start = Instant::now();
+        let given: Vec<i32> = a.iter_mut().map(|s| s.initialize()).collect();
+        rust += start.elapsed();
+        let start = Instant::now();
+        let found: Vec<i32> = b.iter_mut().map(|s| Side::initialize(s)).collect();
+        host += start.elapsed();
+        assert!(given == found && a[0].table() == b[0].table(), "initialise: the answers differ");
+        calls += times;
+    }
+    print("initialise", calls, rust, host);
+}
+
 fn compare(name: &str, plans: &[Plan], make: impl Fn(&Plan) -> (Vec<Op>, Vec<Op>)) {
     let (mut rust, mut host, mut calls) = (Duration::ZERO, Duration::ZERO, 0);
     for plan in plans {
@@ -330,13 +343,12 @@ fn compare(name: &str, plans: &[Plan], make: impl Fn(&Plan) -> (Vec<Op>, Vec<Op>
         }
         let (x, given) = timed(&mut a, &ops);
         let (y, found) = timed(&mut b, &ops);
-        assert!(given == found, "{name}: the answers differ");
+        assert!(given == found && a.table() == b.table(), "{name}: the answers differ");
         rust += x;
         host += y;
         calls += ops.iter().filter(|op| !matches!(op, Op::Set(..))).count();
     }
-    let each = |t: Duration| t.as_nanos() as f64 / calls.max(1) as f64 / 1000.0;
-    println!("  {name:24} {calls:7} calls  Rust {:8.2} us  host {:8.2} us  ratio {:.2}", each(rust), each(host), each(host) / each(rust));
+    print(name, calls, rust, host);
 }
 
 fn main() {
@@ -344,6 +356,7 @@ fn main() {
         let mut r = Rng(7);
         let plans: Vec<Plan> = (0..4).map(|_| Plan::new(&mut r, n, m, k)).collect();
         println!("{n} vertices, {m} edges, {} literals:", plans[0].variables());
+        initialise(&plans, 20);
         compare("notify and undo", &plans, |p| notify_undo(p, &mut Rng(11), 3));
         compare("fetch", &plans, |p| fetches(p, &mut Rng(11), 20));
         compare("search", &plans, |p| search(p, &mut Rng(11), 2000));

@@ -1,7 +1,8 @@
-// Compares the program `yard` with the Rust's `GraphDivision` on random sessions: plans, then values of the table, initialise, notify, undo
-// and fetch, refused calls among them. Every line that the program writes is compared: verdicts, handed-on literals, reasons, lists
-// and refusals; the table shows in what is handed on and in which proposals are false.
-//   differential run YARD SEED CALLS   sessions until CALLS calls were made; the first that differs is made shorter and printed
+// Compares the program `yard` and the C host with the Rust's `GraphDivision` on random sessions: plans, then values of the table,
+// initialise, notify, undo and fetch, refused calls among them. Every line that the program writes is compared: verdicts, handed-on
+// literals, reasons, lists and refusals. The host is asked the same, and after each call its table is compared too; in between it is lent
+// damaged or short buffers, which must be refused with 7 and left as they were.
+//   differential run YARD SEED CALLS   sessions until CALLS calls were made; the first that differ are made shorter and printed
 //   differential answers               the answers to the sessions of standard input, each ended by a line `---`
 //   differential sessions SEED COUNT   prints COUNT sessions
 // What the Rust does not test (refusals 8 to 11, 15) is tested here, by document 01's text; refusals 12, 13, 14 and 16 are where the Rust
@@ -16,6 +17,9 @@ mod sat;
 
 #[path = "../rust/solver.rs"]
 mod solver;
+
+#[path = "../rust/host.rs"]
+mod host;
 
 #[path = "../analysis/generate.rs"]
 mod generate;
@@ -42,6 +46,7 @@ mod graph_division {
 
 use generate::Rng;
 use graph_division::{GraphDivision, GraphDivisionOptions};
+use host::{Given, Host};
 use sat::{CustomPropagator, Lit, SolverManipulator};
 use solver::{code, Solver};
 
@@ -304,41 +309,199 @@ impl Session {
         }
     }
 
+}
+
+impl Side for Session {
+    fn initialize(&mut self) -> String {
+        Session::initialize(self)
+    }
+    fn propagate(&mut self, lit: i32, pending: i32) -> String {
+        Session::propagate(self, lit, pending)
+    }
+    fn undo(&mut self, lit: i32) -> String {
+        Session::undo(self, lit)
+    }
+    fn reason(&mut self, lit: i32) -> String {
+        Session::reason(self, lit)
+    }
+    fn last(&mut self) -> String {
+        say("R", self.d.last())
+    }
+    fn table(&mut self) -> &mut [u8] {
+        &mut self.table
+    }
+}
+
+// One that answers a session's calls, as the program's lines do.
+trait Side {
+    fn initialize(&mut self) -> String;
+    fn propagate(&mut self, lit: i32, pending: i32) -> String;
+    fn undo(&mut self, lit: i32) -> String;
+    fn reason(&mut self, lit: i32) -> String;
+    fn last(&mut self) -> String;
+    fn table(&mut self) -> &mut [u8];
+
     fn line(&mut self, letter: &str, f: &[&str]) -> String {
         let n = |i: usize| f[i].parse::<i32>().expect("a number");
         match letter {
             "V" => {
-                self.table[n(0) as usize] = n(1) as u8;
+                self.table()[n(0) as usize] = n(1) as u8;
                 String::new()
             }
             "I" => self.initialize(),
             "N" => self.propagate(n(0), n(1)),
             "U" => self.undo(n(0)),
-            "R" if f[0] == "-" => say("R", self.d.last()),
+            "R" if f[0] == "-" => self.last(),
             "R" => self.reason(n(0)),
             _ => panic!("a line of a session: {letter}"),
         }
     }
 }
 
-fn answers(text: &str) -> String {
+// The C host, lent a whole table and the other buffers as short as they may be.
+struct Hosted {
+    host: Host,
+    // The first literal of the plan, if any, and its numbers of vertices and edges.
+    some_lit: Option<i32>,
+    vertices: usize,
+    edges: usize,
+    // The entries that a table must have.
+    entries: usize,
+    calls: usize,
+}
+
+impl Hosted {
+    fn new(plan: Plan) -> Hosted {
+        let lits: Vec<i32> = plan.build().lits().iter().map(|l| l.0).collect();
+        let numbers = |ls: &[Lit]| ls.iter().map(|l| l.0).collect::<Vec<_>>();
+        let given = Given {
+            vertices: (0..plan.weights.len()).map(|v| (plan.weights[v], plan.domains[v].clone(), numbers(&plan.dom_lits[v]))).collect(),
+            edges: plan.edges.iter().zip(&plan.edge_lits).map(|(e, l)| [e.0 as i32, e.1 as i32, l.0]).collect(),
+            same_size: plan.opts.0,
+            extra_walls: plan.opts.1,
+        };
+        let entries = lits.last().map_or(0, |l| *l as usize / 2 + 1);
+        Hosted { host: given.build(4096, lits.len()), some_lit: lits.first().copied(), vertices: plan.weights.len(), edges: plan.edges.len(), entries, calls: 0 }
+    }
+
+    // An answer's number as the program prints it, with what is at the start of `bytes`.
+    fn answer(&mut self, letter: &str, code: i32, bytes: &[u8]) -> String {
+        let answered = match code {
+            host::CONFLICT => "X\n".into(),
+            host::NOTED => "L\n".into(),
+            refused if refused < 0 => format!("E\t{}\n", -refused),
+            given => say(letter, &host::literals(bytes, given).into_iter().map(Lit).collect::<Vec<_>>()),
+        };
+        self.calls += 1;
+        answered + &self.damaged()
+    }
+
+    // Now and then a call with one thing wrong: nothing to say where it is refused with 7 and leaves all bytes.
+    fn damaged(&mut self) -> String {
+        if self.calls % 8 != 3 {
+            return String::new();
+        }
+        let (lit, which) = (self.some_lit.unwrap_or(0), self.calls / 8 % 10);
+        let whole = self.host.clone();
+        let h = &mut self.host;
+        match which {
+            0 => h.table[self.calls % 4096] = 5,
+            1 if self.entries > 0 => h.table.truncate(self.entries - 1),
+            2 if !h.list.is_empty() => h.list.truncate(h.list.len() - 1),
+            3 => h.buffer.truncate(h.buffer.len() - 1),
+            4 if !h.log.is_empty() => h.log.truncate(h.log.len() - 1),
+            5 => h.cursor[2] = 255,
+            6 => h.cursor[4] ^= 1,
+            // A noted word: an edge's state, or a vertex's lower bound.
+            7 if self.edges > 0 => h.state[61220 + 4 * (self.calls % self.edges)] ^= 3,
+            8 if self.vertices > 0 => h.state[61220 + 4 * (128 + self.calls % self.vertices)] ^= 1,
+            // The plan's number of vertices; a state that ends early.
+            9 => h.state[0] = 65,
+            _ => h.state.truncate(host::STATE_LEN - 1),
+        }
+        let lent = h.clone();
+        let code = match which {
+            3 => h.last(),
+            0 | 1 | 2 if self.calls / 80 % 2 == 0 => h.initialize(),
+            4 | 6 | 8 => h.undo(lit),
+            5 => h.reason(lit),
+            _ => h.propagate(lit, 0),
+        };
+        let kept = *h == lent;
+        self.host = whole;
+        if code == -7 && kept { String::new() } else { format!("damage {which} is answered with {code}, all bytes kept: {kept}\n") }
+    }
+}
+
+impl Side for Hosted {
+    fn initialize(&mut self) -> String {
+        let code = self.host.initialize();
+        self.answer("C", code, &self.host.list.clone())
+    }
+    fn propagate(&mut self, lit: i32, pending: i32) -> String {
+        let at = if (0..8192).contains(&lit) && self.host.table[lit as usize / 2] == 0 { Some(lit as usize / 2) } else { None };
+        if let Some(v) = at {
+            self.host.table[v] = code(Lit(lit));
+        }
+        let code = self.host.propagate(lit, pending);
+        if let (Some(v), -99..=-1) = (at, code) {
+            self.host.table[v] = 0;
+        }
+        self.answer("C", code, &self.host.list.clone())
+    }
+    fn undo(&mut self, lit: i32) -> String {
+        let code = self.host.undo(lit);
+        if code == 0 {
+            self.host.table[lit as usize / 2] = 0;
+        }
+        self.answer("C", code, &[])
+    }
+    fn reason(&mut self, lit: i32) -> String {
+        let code = self.host.reason(lit);
+        self.answer("R", code, &self.host.buffer.clone())
+    }
+    fn last(&mut self) -> String {
+        let code = self.host.last();
+        self.answer("R", code, &self.host.buffer.clone())
+    }
+    fn table(&mut self) -> &mut [u8] {
+        &mut self.host.table
+    }
+}
+
+// The answers to a session, each followed by a line T with the table's entries that are set.
+fn replay<S: Side>(text: &str, begin: impl Fn(Plan) -> S) -> String {
     let mut plan = Some(Plan::default());
-    let mut session = None;
+    let mut side = None;
     let mut out = String::new();
     for line in text.lines() {
         let mut fields = line.split('\t');
         let letter = fields.next().unwrap();
         let f: Vec<&str> = fields.collect();
-        if session.is_none() {
+        if side.is_none() {
             let numbers: Vec<i32> = f.iter().map_while(|x| x.parse().ok()).collect();
             if plan.as_mut().unwrap().take(letter, &numbers) {
                 continue;
             }
-            session = Some(Session::new(plan.take().unwrap()));
+            side = Some(begin(plan.take().unwrap()));
         }
-        out += &session.as_mut().unwrap().line(letter, &f);
+        let side = side.as_mut().unwrap();
+        out += &side.line(letter, &f);
+        out.push('T');
+        for (v, c) in side.table().iter().enumerate().filter(|x| *x.1 != 0) {
+            out += &format!(" {v}:{c}");
+        }
+        out.push('\n');
     }
     out
+}
+
+fn without_tables(answers: &str) -> String {
+    answers.split_inclusive('\n').filter(|l| !l.starts_with('T')).collect()
+}
+
+fn answers(text: &str) -> String {
+    without_tables(&replay(text, Session::new))
 }
 
 // The plan of a random block, and calls on it. The literals are mostly the plan's, undone mostly the newest.
@@ -422,6 +585,17 @@ fn calls_in(text: &str) -> usize {
     text.lines().filter(|l| matches!(l.as_bytes()[0], b'I' | b'N' | b'U' | b'R')).count()
 }
 
+// Which of the two answers otherwise than the Rust, if one does.
+fn differs(yard: &str, text: &str, right: &str) -> Option<&'static str> {
+    if without_tables(right) != ask(yard, text) {
+        Some("yard")
+    } else if right != replay(text, Hosted::new) {
+        Some("the host")
+    } else {
+        None
+    }
+}
+
 // Lines are left out one at a time, as long as the answers still differ, until none can be.
 fn shorter(yard: &str, text: &str) -> String {
     let mut lines: Vec<&str> = text.lines().collect();
@@ -436,8 +610,8 @@ fn shorter(yard: &str, text: &str) -> String {
             let mut fewer = lines.clone();
             fewer.remove(i);
             let t = fewer.join("\n") + "\n";
-            let right = catch_unwind(AssertUnwindSafe(|| answers(&t)));
-            if matches!(right, Ok(a) if a != ask(yard, &t)) {
+            let right = catch_unwind(AssertUnwindSafe(|| replay(&t, Session::new)));
+            if matches!(right, Ok(a) if differs(yard, &t, &a).is_some()) {
                 lines = fewer;
             }
         }
@@ -454,21 +628,25 @@ fn run(yard: &str, seed: u64, calls: usize) -> bool {
     let mut refused = [0usize; 20];
     while made < calls {
         let text = session(&mut r);
-        let right = answers(&text);
-        let found = ask(yard, &text);
+        let right = replay(&text, Session::new);
         sessions += 1;
         made += calls_in(&text);
-        for l in right.lines() {
+        for l in right.lines().filter(|l| !l.starts_with('T')) {
             answered[l.as_bytes()[0] as usize] += 1;
             if let Some(n) = l.strip_prefix("E\t") {
                 refused[n.parse::<usize>().unwrap()] += 1;
             }
         }
-        if right != found {
+        if differs(yard, &text, &right).is_some() {
             failed += 1;
             if failed <= 3 {
                 let t = shorter(yard, &text);
-                println!("session {sessions} of seed {seed}:\n{t}the Rust:\n{}yard:\n{}", answers(&t), ask(yard, &t));
+                let right = replay(&t, Session::new);
+                let (who, found) = match differs(yard, &t, &right) {
+                    Some("yard") => ("yard", ask(yard, &t)),
+                    _ => ("the host", replay(&t, Hosted::new)),
+                };
+                println!("session {sessions} of seed {seed}:\n{t}the Rust:\n{right}{who}:\n{found}");
             }
         }
     }

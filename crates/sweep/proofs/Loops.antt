@@ -1,16 +1,18 @@
 -- What each loop of the crate keeps: the lowest that passes a test, a part of a list, what is handed on.
 use Prim.Native.Nat.{ℕ, zero, suc, _+_, _-_, _%_, _<_, _≤_}
 use native.Mathlib.Omega.{arith}
-use native.Mathlib.Nat.{le-step, lt-suc-self}
+use native.Mathlib.Nat.{le-step, lt-suc-self, eq-or-lt-of-le}
 use native.Mathlib.Numerals.{add-one}
 use mathlib.Core.Path.{_≡_, refl, sym, ap, ap₂, _∙_}
 use mathlib.Core.Logic.{⊎-elim}
 use mathlib.Core.Bool.{Bool, true, false, true≢false, _||_}
 use mathlib.Core.List.{List, [], _∷_, _++_, append-assoc}
 use lib.ListN.{length, getD, take, drop, length-set, drop-of-length-le}
-use lib.Seq.{drop-cons, take-nil, sets, sets-eq, take-at, drop-at, length-take-le}
+use lib.Seq.{drop-cons, take-nil, set-out, sets, sets-eq, take-at, drop-at, length-take-le}
 use borrow.Author.Tests.{le-ltb}
 use Rattle.base.specs.Iter.{iter}
+use Rattle.base.specs.Lists.{filled}
+use Rattle.base.proofs.Filled.{filled-length}
 use Rattle.base.proofs.Loop.{pick-yes, pick-no, pick-ind, eq-or-not, tested, iter-ind}
 use Rattle.division.specs.Regions.{lowest}
 use Rattle.division.proofs.Phases.{lowest-true}
@@ -19,6 +21,15 @@ use Rattle.calls.specs.Table.{unsetIn, currentIn, someCurrent, enter}
 use Rattle.walks.specs.Written.{Out, outOf, pushed}
 use Rattle.walks.proofs.Written.{pushed-length}
 use Rattle.sweep.specs.Sweep.{Handed, handing, handed, handedAt}
+
+-- ---- what is stored past the end is lost
+pub filled-all : (f : ℕ → ℕ) (l : List ℕ) (m n : ℕ) → length l ≤ m → m ≤ n → filled 0 n f l ≡ filled 0 m f l
+unfolding filled iter
+filled-all f l m zero h k = ap (λ (j : ℕ). filled 0 j f l) {x = 0} {y = m} (omega arith)
+filled-all f l m (suc n) h k = ⊎-elim
+    (λ (e : m ≡ suc n). ap (λ (j : ℕ). filled 0 j f l) (sym e))
+    (λ (q : m < suc n). set-out (filled 0 n f l) (0 + n) (f n) (omega (arith, filled-length 0 f l n)) ∙ filled-all f l m n h (omega arith))
+    (eq-or-lt-of-le {n = m} {m = suc n} k)
 
 -- ---- the lowest that passes
 module _ (t : ℕ → Bool) where

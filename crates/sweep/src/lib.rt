@@ -5,14 +5,20 @@ pub mod table;
 ghost use mathlib.Core.Path.{_≡_};
 ghost use Rattle.walks.specs.Written.{outOf, pushed};
 ghost use Rattle.plan.specs.Words.{uniqueLitAt};
-ghost use lib.ListN.{set};
+ghost use Prim.Native.Nat.{_≤_};
+ghost use lib.ListN.{length};
+ghost use Rattle.base.specs.Lists.{filled};
 ghost use Rattle.sweep.specs.Sweep.{proposedAt, cleared, falseAt, firstFalseAt, handing, handed, handedAt, handedOn};
 
-fn clear_word(proposals: &mut [u64], i: usize)
-    ensures { λ _. ⌜ now (proposals .exit) ≡ set (now (proposals .entry)) i 0 ⌝ }
+// The first n words become 0.
+fn clear_words(proposals: &mut [u64], n: usize)
+    requires { ⌜ n ≤ length (now proposals) ⌝ }
+    ensures { λ _. ⌜ now (proposals .exit) ≡ filled 0 n (λ i. 0) (now (proposals .entry)) ⌝ }
 {
-    if i < proposals.len() {
+    let mut i = 0;
+    while i < n {
         proposals[i] = 0;
+        i += 1;
     }
 }
 
@@ -21,10 +27,11 @@ pub fn clear(plan: &[u32; 15241], proposals: &mut [u64])
     ensures { λ _. ⌜ now (proposals .exit) ≡ cleared (now (plan .entry)) (now (proposals .entry)) ⌝ }
 {
     let n = 4 * (plan::num_variables(plan) as usize);
-    let mut i = 0;
-    while i < n {
-        clear_word(proposals, i);
-        i += 1;
+    let len = proposals.len();
+    if n < len {
+        clear_words(proposals, n);
+    } else {
+        clear_words(proposals, len);
     }
 }
 

@@ -1,0 +1,210 @@
+/*
+ * host_loop.c: a search over the C host, as a controller would run it. It lays the twelve pens of examples/dozen_pens.txt into groups of
+ * permitted sizes, prints them, and checks them by itself. docs/HOST.md explains it. To build it, after `rt staticlib host`:
+ *
+ *     cc -Iinclude examples/host_loop.c target/staticlib/libhost.a -o host_loop
+ */
+#include "zuntjev.h"
+#include <stdio.h>
+#include <stdlib.h>
+#include <string.h>
+
+enum { PENS = 12, GATES = 17, VARIABLES = 21 };
+
+/* A pen's heads, and the two sizes that its group may have with the literal that says "the second"; 0 and 0: any size, no literal. */
+static const struct { int32_t heads, sizes[2], lit; } pens[PENS] = {
+    {6, {10, 18}, 34}, {4, {0, 0}, 0}, {5, {0, 0}, 0}, {3, {8, 16}, 36}, {7, {0, 0}, 0}, {2, {15, 22}, 38},
+    {6, {0, 0}, 0}, {4, {0, 0}, 0}, {5, {0, 0}, 0}, {5, {0, 0}, 0}, {3, {0, 0}, 0}, {6, {9, 13}, 40}};
+
+/* Gate g joins these two pens; literal 2g says that it is shut, 2g + 1 that it is open. */
+static const int32_t gates[GATES][2] = {{0, 1}, {1, 2}, {2, 3}, {4, 5}, {5, 6}, {6, 7}, {8, 9}, {9, 10}, {10, 11},
+                                        {0, 4}, {1, 5}, {2, 6}, {3, 7}, {4, 8}, {5, 9}, {6, 10}, {7, 11}};
+
+/* What the host is lent. */
+static uint8_t state[ZUNTJEV_STATE_LEN], table[VARIABLES], list[ZUNTJEV_LIST_LEN], undo_log[ZUNTJEV_LOG_LEN];
+static uint8_t cursor[ZUNTJEV_CURSOR_LEN], buffer[ZUNTJEV_REASON_LEN];
+
+/* The search: each variable's value (-1 unset) and level, the literals notified, and for each level where it began and its decision. */
+static int value[VARIABLES], level_of[VARIABLES], level;
+static int32_t notified[VARIABLES], waiting[VARIABLES];
+static int count, queued, begins[VARIABLES + 1];
+static int32_t decision[VARIABLES + 1];
+
+static void stop(const char *call, int32_t answer)
+{
+    fprintf(stderr, "%s is refused with %d\n", call, (int)-answer);
+    exit(1);
+}
+
+static void build(void)
+{
+    static int32_t vertices[4288], edges[384];
+    for (int v = 0; v < PENS; v++) {
+        int k = pens[v].sizes[1] ? 2 : 0;
+        const int32_t numbers[] = {pens[v].heads, k, k ? 1 : 0, pens[v].sizes[0], pens[v].sizes[1]};
+        memcpy(vertices + 67 * v, numbers, sizeof numbers);
+        vertices[67 * v + 35] = pens[v].lit;
+    }
+    for (int g = 0; g < GATES; g++) {
+        const int32_t numbers[] = {gates[g][0], gates[g][1], 2 * g};
+        memcpy(edges + 3 * g, numbers, sizeof numbers);
+    }
+    int32_t answer = zuntjev_build(vertices, PENS, edges, GATES, 0, 0, state, sizeof state);
+    if (answer < 0)
+        stop("building", answer);
+}
+
+/* The table's codes: 0 unset, 1 true and 2 false at an earlier level, 3 true and 4 false at this one. */
+static void fill_table(void)
+{
+    for (int v = 0; v < VARIABLES; v++)
+        table[v] = value[v] < 0 ? 0 : (uint8_t)((level_of[v] == level ? 3 : 1) + !value[v]);
+}
+
+static void set(int32_t lit)
+{
+    value[lit / 2] = lit % 2 == 0;
+    level_of[lit / 2] = level;
+    waiting[queued++] = lit;
+}
+
+/* The literals that a call handed on are set, and wait to be notified. */
+static void take_handed_on(int32_t n)
+{
+    for (int32_t i = 0; i < n; i++)
+        set(list[2 * i] + 256 * list[2 * i + 1]);
+}
+
+/* Notifies what waits; only the last is analyzed, the others are noted. Answers 0 for a conflict. */
+static int notify_all(void)
+{
+    while (queued > 0) {
+        int32_t lit = waiting[--queued];
+        fill_table();
+        int32_t answer = zuntjev_propagate(state, sizeof state, table, sizeof table, list, sizeof list, undo_log, sizeof undo_log,
+                                           cursor, sizeof cursor, lit, queued);
+        if (answer < 0 && answer > ZUNTJEV_CONFLICT)
+            stop("notifying", answer);
+        notified[count++] = lit;
+        if (answer == ZUNTJEV_CONFLICT)
+            return 0;
+        if (answer != ZUNTJEV_NOTED)
+            take_handed_on(answer);
+    }
+    return 1;
+}
+
+/* Takes this level's notifications back, the newest first, and unsets what the level set. */
+static void undo_level(void)
+{
+    queued = 0;
+    while (count > begins[level]) {
+        int32_t answer = zuntjev_undo(state, sizeof state, undo_log, sizeof undo_log, cursor, sizeof cursor, notified[--count]);
+        if (answer < 0)
+            stop("undoing", answer);
+    }
+    for (int v = 0; v < VARIABLES; v++)
+        if (level_of[v] == level)
+            value[v] = -1;
+    level--;
+}
+
+static void decide(int32_t lit)
+{
+    level++;
+    begins[level] = count;
+    decision[level] = lit;
+    set(lit);
+}
+
+/* A conflict: the newest decision that was "open" (an odd literal) is tried shut. Answers 0 where there is none. */
+static int turn_back(void)
+{
+    while (level > 0) {
+        int32_t lit = decision[level];
+        undo_level();
+        if (lit % 2 == 1) {
+            decide(lit - 1);
+            return 1;
+        }
+    }
+    return 0;
+}
+
+static int first_unset(void)
+{
+    for (int v = 0; v < VARIABLES; v++)
+        if (value[v] < 0)
+            return v;
+    return -1;
+}
+
+/* Sets every variable, or answers 0: there is no such division. */
+static int search(void)
+{
+    for (int v = 0; v < VARIABLES; v++)
+        value[v] = level_of[v] = -1;
+    fill_table();
+    int32_t answer = zuntjev_initialize(state, sizeof state, table, sizeof table, list, sizeof list, undo_log, sizeof undo_log, cursor,
+                                        sizeof cursor);
+    if (answer == ZUNTJEV_CONFLICT)
+        return 0;
+    if (answer < 0)
+        stop("initialising", answer);
+    take_handed_on(answer);
+    for (;;) {
+        if (!notify_all()) {
+            int32_t n = zuntjev_calc_last(state, sizeof state, undo_log, sizeof undo_log, cursor, sizeof cursor, buffer, sizeof buffer);
+            if (n < 0)
+                stop("fetching", n);
+            if (!turn_back())
+                return 0;
+            continue;
+        }
+        int v = first_unset();
+        if (v < 0)
+            return 1;
+        decide(2 * v + 1);
+    }
+}
+
+/* Document 01's valid division, tested with no help of the host: groups by open gates, shut gates between groups, sizes permitted. */
+static int print_and_check(void)
+{
+    int group[PENS], heads[PENS] = {0}, good = 1;
+    for (int v = 0; v < PENS; v++)
+        group[v] = v;
+    for (int round = 0; round < PENS; round++)
+        for (int g = 0; g < GATES; g++)
+            if (!value[g]) {
+                int a = group[gates[g][0]], b = group[gates[g][1]];
+                group[gates[g][0]] = group[gates[g][1]] = a < b ? a : b;
+            }
+    for (int v = 0; v < PENS; v++)
+        heads[group[v]] += pens[v].heads;
+    for (int g = 0; g < GATES; g++)
+        good &= !value[g] || group[gates[g][0]] != group[gates[g][1]];
+    for (int v = 0; v < PENS; v++)
+        if (pens[v].sizes[1])
+            good &= heads[group[v]] == pens[v].sizes[value[pens[v].lit / 2]];
+    for (int a = 0; a < PENS; a++)
+        if (group[a] == a) {
+            printf("%d heads: pens", heads[a]);
+            for (int v = 0; v < PENS; v++)
+                if (group[v] == a)
+                    printf(" %d", v);
+            printf("\n");
+        }
+    puts(good ? "a valid division" : "NOT a valid division");
+    return good;
+}
+
+int main(void)
+{
+    build();
+    if (!search()) {
+        puts("no valid division");
+        return 1;
+    }
+    return print_and_check() ? 0 : 1;
+}
