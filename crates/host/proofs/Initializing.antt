@@ -2,7 +2,7 @@
 use Prim.Native.Nat.{ℕ, _≤_, _<_}
 use native.Mathlib.Omega.{arith}
 use mathlib.Core.Path.{_≡_, refl, sym, ap, _∙_, subst}
-use mathlib.Core.Bool.{Bool, true, false, not, true≢false}
+use mathlib.Core.Bool.{true, false, not, true≢false}
 use mathlib.Core.Logic.{inl, inr}
 use mathlib.Core.List.{List, []}
 use lib.Dec.{eqb}
@@ -17,7 +17,7 @@ use Rattle.graph_division.specs.declared.Answer.the-variants.{Consistent, Confl
 use Rattle.graph_division.specs.Calls.{Called}
 use Rattle.lent.specs.declared.Done.{Done}
 use Rattle.lent.specs.Lent.{stateOf, stateAfter, calledOf, withInitialized, isConsistent, begunAfter, begunOf}
-use Rattle.host.specs.Bytes.{wordAt, putWord}
+use Rattle.host.specs.Bytes.{putWord}
 use Rattle.host.specs.Codes.{isRefused}
 use Rattle.host.specs.Layout.{wordsIn, stateIn, cursorIn}
 use Rattle.host.specs.Host.{Left, left, leftBy, leftOf, StateAfter, AfterOf, initializedIn, hostInitialized, tooShort, short}

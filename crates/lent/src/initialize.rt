@@ -112,7 +112,8 @@ fn begin(
 }
 
 // Notifies, in rising order, the plan's literals that are true in the table on entry, and analyzes once more. The list last left stands
-// in `left`, up to `last_len`; the words are those of all its analyses, where they were all 0 before.
+// in `left`, up to `last_len`, and `done` says whether an initialise was consistent before. The words are those of all its analyses,
+// where they were all 0 before.
 pub fn initialize(
     plan: &[u32; 15241],
     edges: [[u8; 2]; 128],

@@ -1,4 +1,4 @@
-use mathlib.Core.Path.{_≡_, sym, _∙_}
+use mathlib.Core.Path.{sym, _∙_}
 use Rattle.host.specs.Layout.{cursorIn}
 use Rattle.host.specs.Host.{initializedIn}
 use Rattle.host.proofs.Leaving.{short-is, short-state, long-state, left-back}
@@ -18,8 +18,9 @@ same-length-2 c = search needs
 
 returns : tie.Need-returns
 returns c =
+    let a = (c .before .before .before .before .before .before .before .before .before .args) in
     let t = sym (c .before .too-short .ensures) ∙ (c .if1 .taken) in
-    (begun-short (c .before .before .before .before .before .before .before .before .before .args .state .now) (c .before .before .before .before .before .before .before .before .before .args .table .now) (c .before .before .before .before .before .before .before .before .before .args .list .now) (c .before .before .before .before .before .before .before .before .before .args .log .now) (c .before .before .before .before .before .before .before .before .before .args .cursor .now) t, short-state (initializedIn (c .before .before .before .before .before .before .before .before .before .args .state .now) (c .before .before .before .before .before .before .before .before .before .args .table .now) (c .before .before .before .before .before .before .before .before .before .args .list .now) (c .before .before .before .before .before .before .before .before .before .args .log .now) (c .before .before .before .before .before .before .before .before .before .args .cursor .now) .outcome) _ _ t)
+    (begun-short (a .state .now) (a .table .now) (a .list .now) (a .log .now) (a .cursor .now) t, short-state (initializedIn (a .state .now) (a .table .now) (a .list .now) (a .log .now) (a .cursor .now) .outcome) _ _ t)
 
 initialize-requires : tie.Need-initialize-requires
 initialize-requires c κs = short-is _ _ (sym (c .before .before .before .before .before .before .too-short .ensures) ∙ (c .before .before .before .before .before .if1 .left))
@@ -41,10 +42,11 @@ same-length-7 c = search needs
 
 returns-2 : tie.Need-returns-2
 returns-2 c =
+    let a = (c .before .before .before .before .before .before .before .before .before .before .before .before .before .before .before .before .before .before .before .before .before .before .before .before .before .args) in
     let t = sym (c .before .before .before .before .before .before .before .before .before .before .before .before .before .before .before .before .before .too-short .ensures) ∙ (c .before .before .before .before .before .before .before .before .before .before .before .before .before .before .before .before .if1 .left) in (
-      begun-long (c .before .before .before .before .before .before .before .before .before .before .before .before .before .before .before .before .before .before .before .before .before .before .before .before .before .args .state .now) (c .before .before .before .before .before .before .before .before .before .before .before .before .before .before .before .before .before .before .before .before .before .before .before .before .before .args .table .now) (c .before .before .before .before .before .before .before .before .before .before .before .before .before .before .before .before .before .before .before .before .before .before .before .before .before .args .list .now) (c .before .before .before .before .before .before .before .before .before .before .before .before .before .before .before .before .before .before .before .before .before .before .before .before .before .args .log .now) (c .before .before .before .before .before .before .before .before .before .before .before .before .before .before .before .before .before .before .before .before .before .before .before .before .before .args .cursor .now) _ t
-          (left-back (cursorIn (c .before .before .before .before .before .before .before .before .before .before .before .before .before .before .before .before .before .before .before .before .before .before .before .before .before .args .cursor .now)) _ (c .before .before .before .before .before .before .before .before .before .before .before .before .before .before .before .before .before .before .before .before .before .before .before .before .before .args .list .now) (c .before .before .before .before .before .before .before .before .before .before .before .before .before .before .before .before .before .before .before .before .before .before .before .before .before .args .log .now) (c .before .before .before .before .before .before .before .before .before .before .before .before .before .before .before .before .before .before .before .before .before .before .before .before .before .args .cursor .now) _ _ _ _ _ ((c .before .before .before .before .before .before .before .before .before .before .initialize .ensures .0))),
-      long-state (initializedIn (c .before .before .before .before .before .before .before .before .before .before .before .before .before .before .before .before .before .before .before .before .before .before .before .before .before .args .state .now) (c .before .before .before .before .before .before .before .before .before .before .before .before .before .before .before .before .before .before .before .before .before .before .before .before .before .args .table .now) (c .before .before .before .before .before .before .before .before .before .before .before .before .before .before .before .before .before .before .before .before .before .before .before .before .before .args .list .now) (c .before .before .before .before .before .before .before .before .before .before .before .before .before .before .before .before .before .before .before .before .before .before .before .before .before .args .log .now) (c .before .before .before .before .before .before .before .before .before .before .before .before .before .before .before .before .before .before .before .before .before .before .before .before .before .args .cursor .now) .outcome) _ _ _ t ((c .before .before .before .before .before .before .before .before .before .before .initialize .ensures .1)),
+      begun-long (a .state .now) (a .table .now) (a .list .now) (a .log .now) (a .cursor .now) _ t
+          (left-back (cursorIn (a .cursor .now)) _ (a .list .now) (a .log .now) (a .cursor .now) _ _ _ _ _ ((c .before .before .before .before .before .before .before .before .before .before .initialize .ensures .0))),
+      long-state (initializedIn (a .state .now) (a .table .now) (a .list .now) (a .log .now) (a .cursor .now) .outcome) _ _ _ t ((c .before .before .before .before .before .before .before .before .before .before .initialize .ensures .1)),
     )
 
 pub zuntjev-initialize-spec : {M : Type 1} → statement M

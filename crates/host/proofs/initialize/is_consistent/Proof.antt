@@ -1,4 +1,4 @@
-use mathlib.Core.Path.{_≡_, sym, ap}
+use mathlib.Core.Path.{sym, ap}
 use Rattle.lent.specs.Lent.{isConsistent}
 use borrow.Author.Needs.{needs}
 use Rattle.host.proofs.initialize.is_consistent.Statement.{statement}

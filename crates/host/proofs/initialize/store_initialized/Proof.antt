@@ -17,10 +17,11 @@ same-length : tie.Need-same-length
 same-length c = search needs
 
 returns : tie.Need-returns
-returns c = (
-  λ u. ap stateIn (c .before .before .put-word .ensures) ∙ mark-stored (c .before .before .before .before .before .before .before .args .state .now) (c .before .before .before .before .before .before .before .pre),
-  λ (u : isConsistent (c .before .before .before .before .before .before .before .args .answer) ≡ false). absurd (true≢false (sym (sym (c .before .before .before .before .before .is-consistent .ensures) ∙ (c .before .before .before .before .if1 .taken)) ∙ u)),
-)
+returns c =
+    let a = (c .before .before .before .before .before .before .before .args) in (
+      λ u. ap stateIn (c .before .before .put-word .ensures) ∙ mark-stored (a .state .now) (c .before .before .before .before .before .before .before .pre),
+      λ (u : isConsistent (a .answer) ≡ false). absurd (true≢false (sym (sym (c .before .before .before .before .before .is-consistent .ensures) ∙ (c .before .before .before .before .if1 .taken)) ∙ u)),
+    )
 
 returns-2 : tie.Need-returns-2
 returns-2 c = (

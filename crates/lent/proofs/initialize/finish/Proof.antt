@@ -1,4 +1,4 @@
-use mathlib.Core.Path.{_≡_, refl, sym, ap, _∙_}
+use mathlib.Core.Path.{refl}
 use Rattle.base.specs.Iter.{pick}
 use Rattle.graph_division.specs.declared.Answer.the-variants as answer
 use Rattle.graph_division.specs.Calls.{withNoted, refuse}
@@ -41,10 +41,12 @@ same-length-2 c = search needs
 
 returns : tie.Need-returns
 unfolding begunOf begunAfter isConsistent stateAfter pick
-returns c = λ ends rs last len b words left.
-    let s = (stateOf (c .before .before .before .before .before .before .before .before .before .before .before .before .before .before .before .before .args .plan .now) ends (c .before .before .before .before .before .before .before .before .before .before .before .before .before .before .before .before .args .noted .now) rs last len b) in
-    end-fine s (c .before .before .before .before .before .before .before .before .before .before .before .before .before .before .before .before .args .cursor) (c .before .before .before .before .before .before .before .before .before .before .before .before .before .before .before .before .args .entry .now) (c .before .before .before .before .before .before .before .before .before .before .before .before .before .before .before .before .args .log .now) words left (c .before .before .before .before .before .before .before .before .before .before .before .before .before .before .before .before .args .x) _ _ _ _ _ _ _ (c .before .before .before .before .before .before .before .before .before .enum-told .given .1) (c .before .before .before .before .before .before .before .copy .ensures)
-    (taken-done s (c .before .before .before .before .before .before .before .before .before .before .before .before .before .before .before .before .args .cursor) (c .before .before .before .before .before .before .before .before .before .before .before .before .before .before .before .before .args .entry .now) (c .before .before .before .before .before .before .before .before .before .before .before .before .before .before .before .before .args .log .now) words left (c .before .before .before .before .before .before .before .before .before .before .before .before .before .before .before .before .args .x) _ _ _ (c .before .before .note-up-to .ensures) (answer.Consistent ((c .before .before .before .before .before .before .before .before .before .before .before .before .before .before .before .before .args .x) .handed)))
+returns c =
+    let a = (c .before .before .before .before .before .before .before .before .before .before .before .before .before .before .before .before .args) in
+    λ ends rs last len b words left.
+    let s = (stateOf (a .plan .now) ends (a .noted .now) rs last len b) in
+    end-fine s (a .cursor) (a .entry .now) (a .log .now) words left (a .x) _ _ _ _ _ _ _ (c .before .before .before .before .before .before .before .before .before .enum-told .given .1) (c .before .before .before .before .before .before .before .copy .ensures)
+    (taken-done s (a .cursor) (a .entry .now) (a .log .now) words left (a .x) _ _ _ (c .before .before .note-up-to .ensures) (answer.Consistent ((a .x) .handed)))
 
 same-length-3 : tie.Need-same-length-3
 same-length-3 c = search needs
@@ -54,19 +56,23 @@ same-length-4 c = search needs
 
 returns-2 : tie.Need-returns-2
 unfolding begunOf begunAfter isConsistent stateAfter pick
-returns-2 c = λ ends rs last len b words left.
-    let s = (stateOf (c .before .before .before .before .before .before .before .before .before .before .before .before .before .before .before .before .args .plan .now) ends (c .before .before .before .before .before .before .before .before .before .before .before .before .before .before .before .before .args .noted .now) rs last len b) in
-    end-clash s (c .before .before .before .before .before .before .before .before .before .before .before .before .before .before .before .before .args .cursor) (c .before .before .before .before .before .before .before .before .before .before .before .before .before .before .before .before .args .entry .now) (c .before .before .before .before .before .before .before .before .before .before .before .before .before .before .before .before .args .log .now) words left (c .before .before .before .before .before .before .before .before .before .before .before .before .before .before .before .before .args .x) _ _ _ _ _ _ _ _ (c .before .before .before .before .before .before .before .before .before .enum-told2 .given .1) (c .before .before .before .before .before .before .before .copy2 .ensures)
-    (taken-over s (c .before .before .before .before .before .before .before .before .before .before .before .before .before .before .before .before .args .cursor) (c .before .before .before .before .before .before .before .before .before .before .before .before .before .before .before .before .args .entry .now) (c .before .before .before .before .before .before .before .before .before .before .before .before .before .before .before .before .args .log .now) words left (c .before .before .before .before .before .before .before .before .before .before .before .before .before .before .before .before .args .x) _ _ _ (c .before .before .note-up-to2 .ensures) answer.Conflict)
+returns-2 c =
+    let a = (c .before .before .before .before .before .before .before .before .before .before .before .before .before .before .before .before .args) in
+    λ ends rs last len b words left.
+    let s = (stateOf (a .plan .now) ends (a .noted .now) rs last len b) in
+    end-clash s (a .cursor) (a .entry .now) (a .log .now) words left (a .x) _ _ _ _ _ _ _ _ (c .before .before .before .before .before .before .before .before .before .enum-told2 .given .1) (c .before .before .before .before .before .before .before .copy2 .ensures)
+    (taken-over s (a .cursor) (a .entry .now) (a .log .now) words left (a .x) _ _ _ (c .before .before .note-up-to2 .ensures) answer.Conflict)
 
 same-length-5 : tie.Need-same-length-5
 same-length-5 c = search needs
 
 returns-3 : tie.Need-returns-3
 unfolding begunOf begunAfter isConsistent stateAfter pick withNoted refuse
-returns-3 c = λ ends rs last len b words left.
-    let s = (stateOf (c .before .before .before .before .before .before .before .before .before .before .before .before .args .plan .now) ends (c .before .before .before .before .before .before .before .before .before .before .before .before .args .noted .now) rs last len b) in
-    end-stopped s (c .before .before .before .before .before .before .before .before .before .before .before .before .args .cursor) (c .before .before .before .before .before .before .before .before .before .before .before .before .args .entry .now) (c .before .before .before .before .before .before .before .before .before .before .before .before .args .log .now) words left (c .before .before .before .before .before .before .before .before .before .before .before .before .args .x) _ _ _ _ _ _ _ (c .before .before .before .before .before .found .given .1) (c .before .before .restore .ensures) refl
+returns-3 c =
+    let a = (c .before .before .before .before .before .before .before .before .before .before .before .before .args) in
+    λ ends rs last len b words left.
+    let s = (stateOf (a .plan .now) ends (a .noted .now) rs last len b) in
+    end-stopped s (a .cursor) (a .entry .now) (a .log .now) words left (a .x) _ _ _ _ _ _ _ (c .before .before .before .before .before .found .given .1) (c .before .before .restore .ensures) refl
 
 pub finish-spec : {M : Type 1} → statement M
 finish-spec =
