@@ -43,10 +43,11 @@ same-length-7 c = search needs
 returns-2 : tie.Need-returns-2
 returns-2 c =
     let a = (c .before .before .before .before .before .before .before .before .before .before .before .before .before .before .before .before .before .before .before .before .before .before .before .before .before .args) in
+    let g = (c .before .before .before .before .before .before .before .before .before .before .initialize) in
     let t = sym (c .before .before .before .before .before .before .before .before .before .before .before .before .before .before .before .before .before .too-short .ensures) ∙ (c .before .before .before .before .before .before .before .before .before .before .before .before .before .before .before .before .if1 .left) in (
       begun-long (a .state .now) (a .table .now) (a .list .now) (a .log .now) (a .cursor .now) _ t
-          (left-back (cursorIn (a .cursor .now)) _ (a .list .now) (a .log .now) (a .cursor .now) _ _ _ _ _ ((c .before .before .before .before .before .before .before .before .before .before .initialize .ensures .0))),
-      long-state (initializedIn (a .state .now) (a .table .now) (a .list .now) (a .log .now) (a .cursor .now) .outcome) _ _ _ t ((c .before .before .before .before .before .before .before .before .before .before .initialize .ensures .1)),
+          (left-back (cursorIn (a .cursor .now)) _ (a .list .now) (a .log .now) (a .cursor .now) _ _ _ _ _ ((g .ensures .0))),
+      long-state (initializedIn (a .state .now) (a .table .now) (a .list .now) (a .log .now) (a .cursor .now) .outcome) _ _ _ t ((g .ensures .1)),
     )
 
 pub zuntjev-initialize-spec : {M : Type 1} → statement M
