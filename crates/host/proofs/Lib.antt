@@ -6,3 +6,4 @@ pub mod Storing
 pub mod Leaving
 pub mod Fetching
 pub mod Undoing
+pub mod Initializing
