@@ -20,8 +20,10 @@ use Rattle.calls.specs.Look.{unjoined, gone}
 use Rattle.plan.specs.Words.{verticesOf, edgesOf}
 use Rattle.plan.specs.Plan.{planOf}
 use Rattle.plan.proofs.Abstract.{proper-plan}
+use Rattle.sat.specs.declared.OptLit.{OptLit}
+use Rattle.sat.specs.declared.OptLit.the-variants.{Some, Nothing}
 use Rattle.noting.specs.Words.{stateOf, litsOf, lowerLitOf, upperLitOf}
-use Rattle.reasons.specs.Reason.{meaning}
+use Rattle.reasons.specs.Reason.{litsIn, meaning}
 use Rattle.reasons.specs.declared.reason.Reason.{Reason}
 use Rattle.reasons.specs.declared.reason.Reason.the-variants.{NotPropagated, EdgeInSameGroup, EdgeBetweenDifferentGroups, TooLargeIfRegionsAreMerged, RegionAlreadyLarge, RegionAlreadySmall, InconsistentBoundsIfRegionsAreMerged, BoundPropagationWithinRegion, AdjacentSameSizeRegions}
 use Rattle.walks.specs.declared.Listed.the-variants.{Past}
@@ -60,6 +62,11 @@ proposed-within d s l r (ruleSpreadLow p u j hp hu i a b c) = (hp, hu)
 proposed-within d s l r (ruleSpreadHigh p u j hp hu i a b c) = (hp, hu)
 proposed-within d s l r (ruleSameSize a la ua b lb ub u g x h z ha hla hua hb hlb hub hu) = (ha, hb, hu)
 
+pub one-opt : (x : OptLit) → length (litsIn x) ≤ 1
+unfolding litsIn
+one-opt (Some l) = omega arith
+one-opt Nothing = omega arith
+
 pub one-lit : (x : ℕ) → length (litsOf x) ≤ 1
 unfolding litsOf
 one-lit x = pick-ind (λ (l : List ℕ). length l ≤ 1) _ _ _ (λ _. zero-le) (λ _. omega arith)
@@ -90,16 +97,16 @@ module _ (ws : List ℕ) (es : List (List ℕ)) (noted : List ℕ) (k : Held ws 
       let n = or-none _ _ e in
       simp length-append (omega (arith, path-fits _ _ (k .proper .fine .within h i .a) (n .0), path-fits _ _ (k .proper .fine .within h i .b) (n .1)))
   short (TooLargeIfRegionsAreMerged g l) = λ h e.
-      simp length-append (omega (arith, decided-fits _ (k .proper .fine .within g h .a), decided-fits _ (k .proper .fine .within g h .b), one-lit l))
+      simp length-append (omega (arith, decided-fits _ (k .proper .fine .within g h .a), decided-fits _ (k .proper .fine .within g h .b), one-opt l))
   short (RegionAlreadyLarge v) = λ h e. omega (arith, decided-fits v h)
   short (RegionAlreadySmall v) = λ h e. omega (arith, potential-short d s v)
   short (InconsistentBoundsIfRegionsAreMerged g a b flip) = λ (h, i, j) e.
       let n = or-none _ _ e in
       simp length-append (omega (arith, path-fits _ _ (near-in ws es noted k g flip h) (n .0), path-fits _ _ (far-in ws es noted k g flip h) (n .1), one-lit (upperLitOf noted a), one-lit (lowerLitOf noted b)))
-  short (BoundPropagationWithinRegion l p u) = λ (h, i) e. simp length-append (omega (arith, path-fits p u h e, one-lit l))
+  short (BoundPropagationWithinRegion l p u) = λ (h, i) e. simp length-append (omega (arith, path-fits p u h e, one-opt l))
   short (AdjacentSameSizeRegions a la ua b lb ub u) = λ (h, i, j) e.
       simp length-append
-      (omega (arith, decided-few d s (proper-plan ws es (k .proper)) a h, decided-fits b i, decided-fits u j, one-lit la, one-lit ua, one-lit lb, one-lit ub))
+      (omega (arith, decided-few d s (proper-plan ws es (k .proper)) a h, decided-fits b i, decided-fits u j, one-opt la, one-opt ua, one-opt lb, one-opt ub))
 
   -- Refusal 7, "reason buffer under gates + 2 × pens + 4": there is room in any that is not
   pub reason-fits : (r : Reason) (q : abstract.Reason) → meaning r ≡ q ∷ [] → Within d q → gone d s q ≡ false → length (abstract.listOf d s q) ≤ edgesOf ws + 2 * verticesOf ws + 4

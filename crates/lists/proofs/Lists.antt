@@ -12,22 +12,26 @@ use Rattle.division.specs.Reasons as abstract
 use Rattle.calls.specs.Look.{unjoined, gone}
 use Rattle.plan.specs.Words.{verticesOf, edgesOf, edgeLitOf}
 use Rattle.plan.specs.Plan.{planOf}
+use Rattle.sat.specs.declared.OptLit.{OptLit}
 use Rattle.noting.specs.Words.{stateOf, litsOf, lowerLitOf, upperLitOf}
-use Rattle.reasons.specs.Reason.{meaning}
+use Rattle.reasons.specs.Reason.{litsIn, meaning}
 use Rattle.reasons.specs.declared.reason.Reason.{Reason}
 use Rattle.reasons.specs.declared.reason.Reason.the-variants.{NotPropagated, EdgeInSameGroup, EdgeBetweenDifferentGroups, TooLargeIfRegionsAreMerged, RegionAlreadyLarge, RegionAlreadySmall, InconsistentBoundsIfRegionsAreMerged, BoundPropagationWithinRegion, AdjacentSameSizeRegions}
 use Rattle.walks.specs.declared.Listed.the-variants.{Missing}
 use Rattle.walks.specs.Written.{Out, written}
 use Rattle.walks.specs.Answers.{Answer, given}
 use Rattle.lists.specs.declared.Ends.{Ends}
-use Rattle.lists.specs.Parts.{endsFrom, then, path, inside, twoPaths, twoRegions, threeRegions, andWord, andLit}
+use Rattle.lists.specs.Parts.{endsFrom, then, path, inside, twoPaths, twoRegions, threeRegions, andWord, andLit, andOpt}
 use Rattle.lists.specs.Lists.{between, tooLarge, mismatched, spread, sameSized, reasonLits}
 use Rattle.lists.specs.Within.{Held, Within}
-use Rattle.lists.proofs.Walks.{then-given, word-given, lit-given, then-lost, word-lost, lit-lost, next-lost, path-there, path-gone, decided-there, potential-there, near, far, ends-are, near-in, far-in}
+use Rattle.lists.proofs.Walks.{then-given, word-given, opt-given, lit-given, then-lost, word-lost, opt-lost, lit-lost, next-lost, path-there, path-gone, decided-there, potential-there, near, far, ends-are, near-in, far-in}
 
 -- a literal after what was given
 pub word-after : (x : ℕ) (a : Answer) (l m : List ℕ) (o : Out) → a ≡ given l o → l ++ (x ∷ []) ≡ m → andWord x a ≡ given m o
 word-after x a l m o e q = ap (andWord x) e ∙ word-given x l o ∙ ap (λ (n : List ℕ). given n o) q
+
+opt-after : (x : OptLit) (a : Answer) (l m : List ℕ) (o : Out) → a ≡ given l o → l ++ litsIn x ≡ m → andOpt x a ≡ given m o
+opt-after x a l m o e q = ap (andOpt x) e ∙ opt-given x l o ∙ ap (λ (n : List ℕ). given n o) q
 
 pub lit-after : (x : ℕ) (a : Answer) (l m : List ℕ) (o : Out) → a ≡ given l o → l ++ litsOf x ≡ m → andLit x a ≡ given m o
 lit-after x a l m o e q = ap (andLit x) e ∙ lit-given x l o ∙ ap (λ (n : List ℕ). given n o) q
@@ -86,9 +90,9 @@ module _ (ws : List ℕ) (es : List (List ℕ)) (noted : List ℕ) (k : Held ws 
   between-ends h g flip o hh hg =
       ap₂ (λ (p : Ends) (q : Ends). andWord (edgeLitOf ws h) (twoPaths ws es noted (endsFrom (p .u) (q .u)) (endsFrom (p .v) (q .v)) o)) (ends-are ws es noted k h false hh) (ends-are ws es noted k g flip hg)
 
-  large-ends : (g l : ℕ) (o : Out) → g < edgesOf ws → tooLarge ws es noted g l o ≡ andLit l (twoRegions ws es noted (left d g) (right d g) o)
+  large-ends : (g : ℕ) (l : OptLit) (o : Out) → g < edgesOf ws → tooLarge ws es noted g l o ≡ andOpt l (twoRegions ws es noted (left d g) (right d g) o)
   unfolding tooLarge pick
-  large-ends g l o h = ap (λ (p : Ends). andLit l (twoRegions ws es noted (p .u) (p .v) o)) (ends-are ws es noted k g false h)
+  large-ends g l o h = ap (λ (p : Ends). andOpt l (twoRegions ws es noted (p .u) (p .v) o)) (ends-are ws es noted k g false h)
 
   mismatch-ends : (g a b : ℕ) (flip : Bool) (o : Out) → g < edgesOf ws →
       mismatched ws es noted g a b flip o ≡ andLit (lowerLitOf noted b) (andLit (upperLitOf noted a) (twoPaths ws es noted (endsFrom (near ws es noted k g flip) a) (endsFrom (far ws es noted k g flip) b) o))
@@ -109,15 +113,15 @@ module _ (ws : List ℕ) (es : List (List ℕ)) (noted : List ℕ) (k : Held ws 
       between-ends h g flip o i j ∙
       word-after _ _ _ _ o (paths-there _ _ _ _ o (k .proper .fine .within h i .a) (near-in ws es noted k g flip j) (k .proper .fine .within h i .b) (far-in ws es noted k g flip j) e) (simp append-assoc)
   writes (TooLargeIfRegionsAreMerged g l) o = λ h e.
-      large-ends g l o h ∙ lit-after _ _ _ _ o (regions-there _ _ o (k .proper .fine .within g h .a) (k .proper .fine .within g h .b)) (simp append-assoc)
+      large-ends g l o h ∙ opt-after _ _ _ _ o (regions-there _ _ o (k .proper .fine .within g h .a) (k .proper .fine .within g h .b)) (simp append-assoc)
   writes (RegionAlreadyLarge v) o = λ h e. decided-there ws es noted k v o h
   writes (RegionAlreadySmall v) o = λ h e. potential-there ws es noted k v o h
   writes (InconsistentBoundsIfRegionsAreMerged g a b flip) o = λ (h, i, j) e.
       mismatch-ends g a b flip o h ∙
       lit-after _ _ _ _ o (lit-after _ _ _ _ o (paths-there _ _ _ _ o (near-in ws es noted k g flip h) i (far-in ws es noted k g flip h) j e) refl) (simp append-assoc)
-  writes (BoundPropagationWithinRegion l p u) o = λ (h, i) e. lit-after _ _ _ _ o (path-there ws es noted k p u o h i e) refl
+  writes (BoundPropagationWithinRegion l p u) o = λ (h, i) e. opt-after _ _ _ _ o (path-there ws es noted k p u o h i e) refl
   writes (AdjacentSameSizeRegions a la ua b lb ub u) o = λ (h, i, j) e.
-      lit-after _ _ _ _ o (lit-after _ _ _ _ o (lit-after _ _ _ _ o (lit-after _ _ _ _ o (three-there a b u o h i j) refl) refl) refl) (simp append-assoc)
+      opt-after _ _ _ _ o (opt-after _ _ _ _ o (opt-after _ _ _ _ o (opt-after _ _ _ _ o (three-there a b u o h i j) refl) refl) refl) (simp append-assoc)
 
   -- `get_reason_lits` gives the list of the reason where its paths are there
   pub reason-listed : (r : Reason) (q : abstract.Reason) (o : Out) → meaning r ≡ q ∷ [] → Within d q → gone d s q ≡ false → reasonLits ws es noted r o ≡ given (abstract.listOf d s q) o
@@ -140,7 +144,7 @@ module _ (ws : List ℕ) (es : List (List ℕ)) (noted : List ℕ) (k : Held ws 
   misses (InconsistentBoundsIfRegionsAreMerged g a b flip) o = λ (h, i, j) e.
       ap (λ (a : Answer). a .listed) (mismatch-ends g a b flip o h) ∙
       lit-lost _ _ (lit-lost _ _ (paths-gone _ _ _ _ o (near-in ws es noted k g flip h) i (far-in ws es noted k g flip h) j e))
-  misses (BoundPropagationWithinRegion l p u) o = λ (h, i) e. lit-lost _ _ (path-gone ws es noted k p u o h i e)
+  misses (BoundPropagationWithinRegion l p u) o = λ (h, i) e. opt-lost _ _ (path-gone ws es noted k p u o h i e)
   misses (AdjacentSameSizeRegions a la ua b lb ub u) o = λ h e. absurd (false≢true e)
 
   -- Refusal 16, "recorded path gone": then there is none

@@ -8,7 +8,11 @@ use denote.Enum.Declared.{tagOf}
 use borrow.Author.Tests.{eq-eqb, ne-eqb}
 use Rattle.base.proofs.Loop.{pick-yes, pick-no}
 use Rattle.plan.specs.Words.{edgeLitOf}
+use Rattle.sat.specs.declared.Lit.{Lit}
+use Rattle.sat.specs.declared.OptLit.{OptLit}
+use Rattle.sat.specs.declared.OptLit.the-variants.{Some, Nothing}
 use Rattle.noting.specs.Words.{litsOf, lowerLitOf, upperLitOf}
+use Rattle.reasons.specs.Reason.{litsIn}
 use Rattle.reasons.specs.declared.reason.Reason.{Reason}
 use Rattle.reasons.specs.declared.reason.Reason.the-variants.{NotPropagated, EdgeInSameGroup, EdgeBetweenDifferentGroups, TooLargeIfRegionsAreMerged, RegionAlreadyLarge, RegionAlreadySmall, InconsistentBoundsIfRegionsAreMerged, BoundPropagationWithinRegion, AdjacentSameSizeRegions}
 use Rattle.reasons.proofs.reason.Reason.{the-type}
@@ -18,7 +22,7 @@ use Rattle.walks.specs.declared.Shape.{Shape}
 use Rattle.walks.specs.Written.{Out, outOf, pushed, written}
 use Rattle.walks.specs.Answers.{Answer, answerOf, given, missing, connectedPath, decidedRegion, potentialRegion}
 use Rattle.lists.specs.declared.Ends.{Ends}
-use Rattle.lists.specs.Parts.{shapeOf, endsFrom, endsOf, after, then, path, decided, potential, inside, twoPaths, twoRegions, threeRegions, andWord, andLit}
+use Rattle.lists.specs.Parts.{shapeOf, endsFrom, endsOf, after, then, path, decided, potential, inside, twoPaths, twoRegions, threeRegions, andWord, andLit, andOpt}
 use Rattle.lists.specs.Lists.{between, tooLarge, mismatched, spread, sameSized, reasonLits, mismatch, sameSize}
 
 -- a part after a list, and after none
@@ -52,6 +56,14 @@ pub lit-some : (x : ℕ) (a b : Answer) → (x ≡ 65535 → ⊥) → b ≡ andW
 unfolding andWord andLit litsOf
 lit-some x a b h k = k ∙ ap (λ (l : List ℕ). then a (given l)) (sym (pick-no _ _ (ne-eqb x 65535 h)))
 
+pub opt-none : (r : Listed) (x : OptLit) (t : List ℕ) → x ≡ Nothing → answerOf r t ≡ andOpt x (answerOf r t)
+unfolding andOpt litsIn
+opt-none r x t h = then-nothing r t ∙ ap (λ (l : OptLit). then (answerOf r t) (given (litsIn l))) (sym h)
+
+pub opt-some : (x : OptLit) (l : Lit) (a b : Answer) → x ≡ Some l → b ≡ andWord (l .0) a → b ≡ andOpt x a
+unfolding andWord andOpt litsIn
+opt-some x l a b h k = k ∙ ap (λ (m : OptLit). then a (given (litsIn m))) (sym h)
+
 module _ (ws : List ℕ) (es : List (List ℕ)) (noted : List ℕ) where
   -- the walks, with the shape that was made
   pub path-by : (z : Shape) (p : Ends) (o : Out) (b : Answer) → z ≡ shapeOf ws → b ≡ connectedPath es noted ws z (p .u) (p .v) o → b ≡ path ws es noted p o
@@ -76,13 +88,13 @@ module _ (ws : List ℕ) (es : List (List ℕ)) (noted : List ℕ) where
   between-by h g flip o d e a b x p q k l m =
       m ∙ ap₂ andWord l (k ∙ ap₂ (λ (d : Ends) (e : Ends). twoPaths ws es noted (endsFrom (d .u) (e .u)) (endsFrom (d .v) (e .v)) o) p q)
 
-  pub large-by : (g l : ℕ) (o : Out) (e : Ends) (a b : Answer) → e ≡ endsOf es g false → a ≡ twoRegions ws es noted (e .u) (e .v) o → b ≡ andLit l a → b ≡ tooLarge ws es noted g l o
+  pub large-by : (g : ℕ) (l : OptLit) (o : Out) (e : Ends) (a b : Answer) → e ≡ endsOf es g false → a ≡ twoRegions ws es noted (e .u) (e .v) o → b ≡ andOpt l a → b ≡ tooLarge ws es noted g l o
   unfolding tooLarge
-  large-by g l o e a b p k m = m ∙ ap (andLit l) (k ∙ ap (λ (e : Ends). twoRegions ws es noted (e .u) (e .v) o) p)
+  large-by g l o e a b p k m = m ∙ ap (andOpt l) (k ∙ ap (λ (e : Ends). twoRegions ws es noted (e .u) (e .v) o) p)
 
-  pub spread-by : (k u l : ℕ) (o : Out) (a b : Answer) → a ≡ path ws es noted (endsFrom k u) o → b ≡ andLit l a → b ≡ spread ws es noted k u l o
+  pub spread-by : (k u : ℕ) (l : OptLit) (o : Out) (a b : Answer) → a ≡ path ws es noted (endsFrom k u) o → b ≡ andOpt l a → b ≡ spread ws es noted k u l o
   unfolding spread
-  spread-by k u l o a b h m = m ∙ ap (andLit l) h
+  spread-by k u l o a b h m = m ∙ ap (andOpt l) h
 
   pub mismatch-by : (r : Reason) (g a b : ℕ) (flip : Bool) (o : Out) (e : Ends) (l m : ℕ) (x y z : Answer) → r ≡ InconsistentBoundsIfRegionsAreMerged g a b flip → e ≡ endsOf es g flip →
       x ≡ twoPaths ws es noted (endsFrom (e .u) a) (endsFrom (e .v) b) o → l ≡ upperLitOf noted a → y ≡ andLit l x → m ≡ lowerLitOf noted b → z ≡ andLit m y → z ≡ mismatch ws es noted r o
@@ -90,11 +102,11 @@ module _ (ws : List ℕ) (es : List (List ℕ)) (noted : List ℕ) where
   mismatch-by r g a b flip o e l m x y z h p k hl i hm j =
       j ∙ ap₂ andLit hm (i ∙ ap₂ andLit hl (k ∙ ap (λ (e : Ends). twoPaths ws es noted (endsFrom (e .u) a) (endsFrom (e .v) b) o) p)) ∙ sym (ap (λ (q : Reason). mismatch ws es noted q o) h)
 
-  pub same-by : (r : Reason) (a la ua b lb ub u : ℕ) (o : Out) (x y z v w : Answer) → r ≡ AdjacentSameSizeRegions a la ua b lb ub u → x ≡ threeRegions ws es noted a b u o → y ≡ andLit la x →
-      z ≡ andLit ua y → v ≡ andLit lb z → w ≡ andLit ub v → w ≡ sameSize ws es noted r o
+  pub same-by : (r : Reason) (a : ℕ) (la ua : OptLit) (b : ℕ) (lb ub : OptLit) (u : ℕ) (o : Out) (x y z v w : Answer) → r ≡ AdjacentSameSizeRegions a la ua b lb ub u → x ≡ threeRegions ws es noted a b u o → y ≡ andOpt la x →
+      z ≡ andOpt ua y → v ≡ andOpt lb z → w ≡ andOpt ub v → w ≡ sameSize ws es noted r o
   unfolding sameSize sameSized
   same-by r a la ua b lb ub u o x y z v w h e₁ e₂ e₃ e₄ e₅ =
-      e₅ ∙ ap (andLit ub) (e₄ ∙ ap (andLit lb) (e₃ ∙ ap (andLit ua) (e₂ ∙ ap (andLit la) e₁))) ∙ sym (ap (λ (q : Reason). sameSize ws es noted q o) h)
+      e₅ ∙ ap (andOpt ub) (e₄ ∙ ap (andOpt lb) (e₃ ∙ ap (andOpt ua) (e₂ ∙ ap (andOpt la) e₁))) ∙ sym (ap (λ (q : Reason). sameSize ws es noted q o) h)
 
   -- another kind of reason has none of these lists
   pub mismatch-other : (r : Reason) (o : Out) → OneOf (0 ∷ 1 ∷ 2 ∷ 3 ∷ 4 ∷ 5 ∷ 7 ∷ 8 ∷ []) (tagOf the-type r) → missing o ≡ mismatch ws es noted r o
@@ -129,6 +141,6 @@ module _ (ws : List ℕ) (es : List (List ℕ)) (noted : List ℕ) where
   unfolding reasonLits mismatch
   mismatch-arm r g a b flip o x e k = arm r _ o x e (k ∙ ap (λ (q : Reason). mismatch ws es noted q o) e)
 
-  pub same-arm : (r : Reason) (a la ua b lb ub u : ℕ) (o : Out) (x : Answer) → r ≡ AdjacentSameSizeRegions a la ua b lb ub u → x ≡ sameSize ws es noted r o → x ≡ reasonLits ws es noted r o
+  pub same-arm : (r : Reason) (a : ℕ) (la ua : OptLit) (b : ℕ) (lb ub : OptLit) (u : ℕ) (o : Out) (x : Answer) → r ≡ AdjacentSameSizeRegions a la ua b lb ub u → x ≡ sameSize ws es noted r o → x ≡ reasonLits ws es noted r o
   unfolding reasonLits sameSize
   same-arm r a la ua b lb ub u o x e k = arm r _ o x e (k ∙ ap (λ (q : Reason). sameSize ws es noted q o) e)

@@ -20,7 +20,9 @@ use Rattle.calls.specs.Look.{unjoined}
 use Rattle.plan.specs.Words.{verticesOf, edgesOf, entry, edgeLitOf}
 use Rattle.plan.specs.Plan.{planOf}
 use Rattle.plan.proofs.Abstract.{proper-plan}
+use Rattle.sat.specs.declared.OptLit.{OptLit}
 use Rattle.noting.specs.Words.{stateOf, litsOf}
+use Rattle.reasons.specs.Reason.{litsIn}
 use Rattle.walks.specs.declared.Listed.{Listed}
 use Rattle.walks.specs.declared.Listed.the-variants.{Past, Missing}
 use Rattle.walks.specs.Written.{Out, written}
@@ -29,7 +31,7 @@ use Rattle.walks.specs.Answers.{Answer, answerOf, given, missing, startable, re
 use Rattle.walks.proofs.Answers.{ready-yes}
 use Rattle.walks.proofs.Written.{written-append}
 use Rattle.walks.proofs.Same.{path-same, decided-same, potential-same}
-use Rattle.lists.specs.Parts.{shapeOf, endsFrom, endsOf, after, then, path, decided, potential, andWord, andLit}
+use Rattle.lists.specs.Parts.{shapeOf, endsFrom, endsOf, after, then, path, decided, potential, andWord, andLit, andOpt}
 use Rattle.lists.specs.Within.{Held}
 
 -- ---- one list after the other
@@ -40,6 +42,10 @@ then-given l m o f e = e ∙ ap (λ (x : Out). answerOf (Past (x .place)) (x .te
 pub word-given : (x : ℕ) (l : List ℕ) (o : Out) → andWord x (given l o) ≡ given (l ++ (x ∷ [])) o
 unfolding andWord
 word-given x l o = then-given l (x ∷ []) o _ refl
+
+pub opt-given : (x : OptLit) (l : List ℕ) (o : Out) → andOpt x (given l o) ≡ given (l ++ litsIn x) o
+unfolding andOpt
+opt-given x l o = then-given l (litsIn x) o _ refl
 
 pub lit-given : (x : ℕ) (l : List ℕ) (o : Out) → andLit x (given l o) ≡ given (l ++ litsOf x) o
 unfolding andLit
@@ -57,6 +63,10 @@ then-lost a f e = after-lost f (a .listed) (a .text) e
 pub word-lost : (x : ℕ) (a : Answer) → a .listed ≡ Missing → andWord x a .listed ≡ Missing
 unfolding andWord
 word-lost x a e = then-lost a _ e
+
+pub opt-lost : (x : OptLit) (a : Answer) → a .listed ≡ Missing → andOpt x a .listed ≡ Missing
+unfolding andOpt
+opt-lost x a e = then-lost a _ e
 
 pub lit-lost : (x : ℕ) (a : Answer) → a .listed ≡ Missing → andLit x a .listed ≡ Missing
 unfolding andLit

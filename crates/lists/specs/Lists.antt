@@ -2,13 +2,14 @@
 use mathlib.Core.Bool.{Bool, false}
 use mathlib.Core.List.{List}
 use Prim.Native.Nat.{ℕ}
+use Rattle.sat.specs.declared.OptLit.{OptLit}
 use Rattle.plan.specs.Words.{edgeLitOf}
 use Rattle.noting.specs.Words.{lowerLitOf, upperLitOf}
 use Rattle.reasons.specs.declared.reason.Reason.{Reason}
 use Rattle.reasons.specs.declared.reason.Reason.the-variants.{NotPropagated, EdgeInSameGroup, EdgeBetweenDifferentGroups, TooLargeIfRegionsAreMerged, RegionAlreadyLarge, RegionAlreadySmall, InconsistentBoundsIfRegionsAreMerged, BoundPropagationWithinRegion, AdjacentSameSizeRegions}
 use Rattle.walks.specs.Written.{Out}
 use Rattle.walks.specs.Answers.{Answer, missing}
-use Rattle.lists.specs.Parts.{endsFrom, endsOf, path, decided, potential, inside, twoPaths, twoRegions, threeRegions, andWord, andLit}
+use Rattle.lists.specs.Parts.{endsFrom, endsOf, path, decided, potential, inside, twoPaths, twoRegions, threeRegions, andWord, andLit, andOpt}
 
 module _ (ws : List ℕ) (es : List (List ℕ)) (noted : List ℕ) where
   unfoldable pub between : ℕ → ℕ → Bool → Out → Answer
@@ -17,10 +18,10 @@ module _ (ws : List ℕ) (es : List (List ℕ)) (noted : List ℕ) where
       let e = endsOf es g flip in
       andWord (edgeLitOf ws h) (twoPaths ws es noted (endsFrom (d .u) (e .u)) (endsFrom (d .v) (e .v)) o)
 
-  unfoldable pub tooLarge : ℕ → ℕ → Out → Answer
+  unfoldable pub tooLarge : ℕ → OptLit → Out → Answer
   tooLarge g l o =
       let e = endsOf es g false in
-      andLit l (twoRegions ws es noted (e .u) (e .v) o)
+      andOpt l (twoRegions ws es noted (e .u) (e .v) o)
 
   -- the upper bound of a and the lower bound of b
   unfoldable pub mismatched : ℕ → ℕ → ℕ → Bool → Out → Answer
@@ -28,11 +29,11 @@ module _ (ws : List ℕ) (es : List (List ℕ)) (noted : List ℕ) where
       let e = endsOf es g flip in
       andLit (lowerLitOf noted b) (andLit (upperLitOf noted a) (twoPaths ws es noted (endsFrom (e .u) a) (endsFrom (e .v) b) o))
 
-  unfoldable pub spread : ℕ → ℕ → ℕ → Out → Answer
-  spread k u l o = andLit l (path ws es noted (endsFrom k u) o)
+  unfoldable pub spread : ℕ → ℕ → OptLit → Out → Answer
+  spread k u l o = andOpt l (path ws es noted (endsFrom k u) o)
 
-  unfoldable pub sameSized : ℕ → ℕ → ℕ → ℕ → ℕ → ℕ → ℕ → Out → Answer
-  sameSized a la ua b lb ub u o = andLit ub (andLit lb (andLit ua (andLit la (threeRegions ws es noted a b u o))))
+  unfoldable pub sameSized : ℕ → OptLit → OptLit → ℕ → OptLit → OptLit → ℕ → Out → Answer
+  sameSized a la ua b lb ub u o = andOpt ub (andOpt lb (andOpt ua (andOpt la (threeRegions ws es noted a b u o))))
 
   -- `get_reason_lits`; no reason has no list
   unfoldable pub reasonLits : Reason → Out → Answer

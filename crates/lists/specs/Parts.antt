@@ -6,7 +6,9 @@ use lib.Dec.{ltb}
 use lib.ListN.{getD}
 use Rattle.base.specs.Iter.{pick}
 use Rattle.plan.specs.Words.{verticesOf, edgesOf}
+use Rattle.sat.specs.declared.OptLit.{OptLit}
 use Rattle.noting.specs.Words.{litsOf}
+use Rattle.reasons.specs.Reason.{litsIn}
 use Rattle.walks.specs.declared.Listed.{Listed}
 use Rattle.walks.specs.declared.Listed.the-variants.{Past, Missing}
 use Rattle.walks.specs.declared.Shape.{Shape}
@@ -67,3 +69,7 @@ andWord x a = then a (given (x ∷ []))
 -- one more, if it is one
 unfoldable pub andLit : ℕ → Answer → Answer
 andLit x a = then a (given (litsOf x))
+
+-- one that a reason holds, if it holds one
+unfoldable pub andOpt : OptLit → Answer → Answer
+andOpt l a = then a (given (litsIn l))

@@ -3,12 +3,13 @@
 pub mod conflict;
 
 use reasons::reason::Reason;
+use sat::OptLit;
 use walks::Listed;
 use walks::Shape;
 ghost use mathlib.Core.Path.{_≡_};
 ghost use Rattle.walks.specs.Written.{outOf, pushed};
 ghost use Rattle.walks.specs.Answers.{answerOf};
-ghost use Rattle.lists.specs.Parts.{shapeOf, endsOf, path, decided, potential, andWord, andLit, inside, twoPaths, twoRegions, threeRegions};
+ghost use Rattle.lists.specs.Parts.{shapeOf, endsOf, path, decided, potential, andWord, andLit, andOpt, inside, twoPaths, twoRegions, threeRegions};
 ghost use Rattle.lists.specs.Lists.{between, tooLarge, mismatch, spread, sameSize, reasonLits};
 
 // The ends of an edge, or of a path.
@@ -108,7 +109,17 @@ pub fn and_word(r: Listed, x: u32, out: &mut [u32]) -> Listed
     }
 }
 
-// One literal after a list, if it is one.
+// A bound's literal after a list, if it is due to one.
+fn and_opt(r: Listed, l: OptLit, out: &mut [u32]) -> Listed
+    ensures { λ a. ⌜ answerOf a (now (out .exit)) ≡ andOpt l (answerOf r (now (out .entry))) ⌝ }
+{
+    match l {
+        OptLit::Some(lit) => and_word(r, lit.0 as u32, out),
+        OptLit::Nothing => r,
+    }
+}
+
+// The same of a noted word.
 fn and_lit(r: Listed, x: u32, out: &mut [u32]) -> Listed
     ensures { λ a. ⌜ answerOf a (now (out .exit)) ≡ andLit x (answerOf r (now (out .entry))) ⌝ }
 {
@@ -195,7 +206,7 @@ fn too_large(
     edges: [[u8; 2]; 128],
     noted: &[u32; 384],
     g: u8,
-    l: u16,
+    l: OptLit,
     out: &mut [u32],
     at: usize,
 ) -> Listed
@@ -203,7 +214,7 @@ fn too_large(
 {
     let e = ends_of(edges, g as usize, false);
     let r = two_regions(plan, edges, noted, e.u, e.v, out, at);
-    and_lit(r, l as u32, out)
+    and_opt(r, l, out)
 }
 
 // InconsistentBoundsIfRegionsAreMerged; no list for any other reason.
@@ -246,7 +257,7 @@ fn spread(
     noted: &[u32; 384],
     k: u8,
     u: u8,
-    l: u16,
+    l: OptLit,
     out: &mut [u32],
     at: usize,
 ) -> Listed
@@ -257,7 +268,7 @@ fn spread(
         v: u as usize,
     };
     let r = path(plan, edges, noted, p, out, at);
-    and_lit(r, l as u32, out)
+    and_opt(r, l, out)
 }
 
 // Two regions and a third one.
@@ -310,10 +321,10 @@ fn same_size(
             out,
             at,
         );
-        let s = and_lit(r, la as u32, out);
-        let t = and_lit(s, ua as u32, out);
-        let w = and_lit(t, lb as u32, out);
-        return and_lit(w, ub as u32, out);
+        let s = and_opt(r, la, out);
+        let t = and_opt(s, ua, out);
+        let w = and_opt(t, lb, out);
+        return and_opt(w, ub, out);
     }
     Listed::Missing
 }

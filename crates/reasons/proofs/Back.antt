@@ -6,13 +6,15 @@ use mathlib.Core.List.{List, [], _∷_}
 use Prim.Native.Nat.{ℕ, _+_, _*_, _/_, _%_, _<_, _≤_}
 use native.Mathlib.Omega.{arith}
 use lib.Dec.{eqb}
-use borrow.Author.Tests.{eq-eqb}
+use borrow.Author.Tests.{eq-eqb, ne-eqb, eqb-false}
 use Rattle.base.specs.Iter.{pick}
 use Rattle.base.proofs.Loop.{pick-yes, pick-no, tested}
 use Rattle.division.specs.Reasons as abstract
+use Rattle.sat.specs.declared.OptLit.{OptLit}
+use Rattle.sat.specs.declared.OptLit.the-variants.{Some, Nothing}
 use Rattle.noting.specs.Words.{litsOf}
 use Rattle.reasons.specs.Words.{packed, packedLits, litWord, bit, firstWord, secondWord}
-use Rattle.reasons.specs.Reason.{kindOf, byte1, byte2, byte3, half, quarter0, quarter1, quarter2, quarter3, laterReason, reasonOf, firstWordOf, secondWordOf, meaning, InRange, OneLit, Fits, coded}
+use Rattle.reasons.specs.Reason.{optOf, optWord, litsIn, optIn, Held, kindOf, byte1, byte2, byte3, half, quarter0, quarter1, quarter2, quarter3, laterReason, reasonOf, firstWordOf, secondWordOf, meaning, InRange, OneLit, Fits, coded}
 use Rattle.reasons.specs.declared.reason.Reason.{Reason}
 use Rattle.reasons.specs.declared.reason.Reason.the-variants.{NotPropagated, EdgeInSameGroup, EdgeBetweenDifferentGroups, TooLargeIfRegionsAreMerged, RegionAlreadyLarge, RegionAlreadySmall, InconsistentBoundsIfRegionsAreMerged, BoundPropagationWithinRegion, AdjacentSameSizeRegions}
 
@@ -21,6 +23,9 @@ third-as w k a b c d x e h = e ∙ ap (λ (y : ℕ). packed k a b y x) h
 
 pub last-as : (w k a b c x y : ℕ) → w ≡ packed k a b c x → x ≡ y → w ≡ packed k a b c y
 last-as w k a b c x y e h = e ∙ ap (packed k a b c) h
+
+pub lits-as : {a₁ b₁ c₁ d₁ : ℕ} (w a b c d : ℕ) → w ≡ packedLits a b c d → a ≡ a₁ → b ≡ b₁ → c ≡ c₁ → d ≡ d₁ → w ≡ packedLits a₁ b₁ c₁ d₁
+lits-as w a b c d e p q r s = e ∙ ap₂ (λ (i j : ℕ). packedLits i j c d) p q ∙ ap₂ (packedLits _ _) r s
 
 -- ---- the parts of a word
 record Parts (w k a b c x : ℕ) : Type 0 where
@@ -118,7 +123,7 @@ module _ (x y : ℕ) where
   unfolding reasonOf pick
   kind-2 e = rw e
 
-  kind-3 : kindOf x ≡ 3 → reasonOf x y ≡ TooLargeIfRegionsAreMerged (byte1 x) (half x)
+  kind-3 : kindOf x ≡ 3 → reasonOf x y ≡ TooLargeIfRegionsAreMerged (byte1 x) (optOf (half x))
   unfolding reasonOf pick
   kind-3 e = rw e
 
@@ -134,11 +139,11 @@ module _ (x y : ℕ) where
   unfolding reasonOf laterReason pick
   kind-6 e = rw e
 
-  kind-7 : kindOf x ≡ 7 → reasonOf x y ≡ BoundPropagationWithinRegion (half x) (byte1 x) (byte2 x)
+  kind-7 : kindOf x ≡ 7 → reasonOf x y ≡ BoundPropagationWithinRegion (optOf (half x)) (byte1 x) (byte2 x)
   unfolding reasonOf laterReason pick
   kind-7 e = rw e
 
-  kind-8 : kindOf x ≡ 8 → reasonOf x y ≡ AdjacentSameSizeRegions (byte1 x) (quarter0 y) (quarter1 y) (byte2 x) (quarter2 y) (quarter3 y) (byte3 x)
+  kind-8 : kindOf x ≡ 8 → reasonOf x y ≡ AdjacentSameSizeRegions (byte1 x) (optOf (quarter0 y)) (optOf (quarter1 y)) (byte2 x) (optOf (quarter2 y)) (optOf (quarter3 y)) (byte3 x)
   unfolding reasonOf laterReason pick
   kind-8 e = rw e
 
@@ -151,6 +156,21 @@ bit-small : (b : Bool) → bit b < 256
 unfolding bit pick
 bit-small true = omega arith
 bit-small false = omega arith
+
+-- a bound's literal, stored and read
+opt-small : (o : OptLit) → Held o → optWord o < 65536
+unfolding optWord
+opt-small (Some l) h = omega (arith, h)
+opt-small Nothing h = omega arith
+
+opt-back : (o : OptLit) → Held o → optOf (optWord o) ≡ o
+unfolding optOf optWord
+opt-back (Some l) h = pick-no _ _ (ne-eqb (l .0) 65535 (λ (e : l .0 ≡ 65535). omega (arith, h)))
+opt-back Nothing h = pick-yes _ _ (eq-eqb 65535 65535 refl)
+
+-- the same, from what was read
+opt-read : (o : OptLit) (n : ℕ) → Held o → n ≡ optWord o → optOf n ≡ o
+opt-read o n h e = ap optOf e ∙ opt-back o h
 
 none-back : reasonOf 0 0 ≡ NotPropagated
 unfolding reasonOf laterReason pick
@@ -168,8 +188,8 @@ reason-back (EdgeBetweenDifferentGroups h g flip) (m, n) =
     let f = ap (λ (i : ℕ). not (eqb i 0)) (p .three) ∙ bit-back flip in
     kind-2 _ 0 (p .kind) ∙ cc
 reason-back (TooLargeIfRegionsAreMerged g l) (m, n) =
-    let p = parts 3 g 0 0 l (omega arith) m (omega arith) (omega arith) n in
-    kind-3 _ 0 (p .kind) ∙ cc
+    let p = parts 3 g 0 0 (optWord l) (omega arith) m (omega arith) (omega arith) (opt-small l n) in
+    kind-3 _ 0 (p .kind) ∙ ap₂ TooLargeIfRegionsAreMerged (p .one) (opt-read l _ n (p .half))
 reason-back (RegionAlreadyLarge v) h =
     let p = parts 4 v 0 0 0 (omega arith) h (omega arith) (omega arith) (omega arith) in
     kind-4 _ 0 (p .kind) ∙ ap RegionAlreadyLarge (p .one)
@@ -181,32 +201,38 @@ reason-back (InconsistentBoundsIfRegionsAreMerged g a b flip) (m, n, o) =
     let f = ap (λ (i : ℕ). not (eqb i 0)) (p .half) ∙ bit-back flip in
     kind-6 _ 0 (p .kind) ∙ cc
 reason-back (BoundPropagationWithinRegion l k u) (m, n, o) =
-    let p = parts 7 k u 0 l (omega arith) n o (omega arith) m in
+    let p = parts 7 k u 0 (optWord l) (omega arith) n o (omega arith) (opt-small l m) in
+    let e = opt-read l _ m (p .half) in
     kind-7 _ 0 (p .kind) ∙ cc
 reason-back (AdjacentSameSizeRegions a la ua b lb ub u) (m, n, o, hla, hua, hlb, hub) =
     let p = parts 8 a b u 0 (omega arith) m n o (omega arith) in
-    let q0 = quarter0-is la ua lb ub hla hua hlb hub in
-    let q1 = quarter1-is la ua lb ub hla hua hlb hub in
-    let q2 = quarter2-is la ua lb ub hla hua hlb hub in
-    let q3 = quarter3-is la ua lb ub hla hua hlb hub in
+    let q0 = opt-read la _ hla (quarter0-is (optWord la) (optWord ua) (optWord lb) (optWord ub) (opt-small la hla) (opt-small ua hua) (opt-small lb hlb) (opt-small ub hub)) in
+    let q1 = opt-read ua _ hua (quarter1-is (optWord la) (optWord ua) (optWord lb) (optWord ub) (opt-small la hla) (opt-small ua hua) (opt-small lb hlb) (opt-small ub hub)) in
+    let q2 = opt-read lb _ hlb (quarter2-is (optWord la) (optWord ua) (optWord lb) (optWord ub) (opt-small la hla) (opt-small ua hua) (opt-small lb hlb) (opt-small ub hub)) in
+    let q3 = opt-read ub _ hub (quarter3-is (optWord la) (optWord ua) (optWord lb) (optWord ub) (opt-small la hla) (opt-small ua hua) (opt-small lb hlb) (opt-small ub hub)) in
     kind-8 _ _ (p .kind) ∙ cc
 
 -- ---- what is meant
-lit-back : (ls : List ℕ) → OneLit ls → (litsOf (litWord ls) ≡ ls) × (litWord ls < 65536)
-unfolding litsOf litWord
-lit-back ls o = subst (λ (m : List ℕ). (litsOf (litWord m) ≡ m) × (litWord m < 65536)) (sym (o .is)) (tested (eqb (o .lit) 65535)
-    (λ e. subst (λ (m : List ℕ). (litsOf (litWord m) ≡ m) × (litWord m < 65536)) (sym (pick-yes _ _ e)) (pick-yes _ _ (eq-eqb 65535 65535 refl), omega arith))
-    (λ e. subst (λ (m : List ℕ). (litsOf (litWord m) ≡ m) × (litWord m < 65536)) (sym (pick-no _ _ e)) (pick-no _ _ e, omega (arith, o .small))))
+lit-back : (ls : List ℕ) → OneLit ls → (litsIn (optIn ls) ≡ ls) × Held (optIn ls)
+unfolding litsOf litsIn optIn
+lit-back ls o = subst (λ (m : List ℕ). (litsIn (optIn m) ≡ m) × Held (optIn m)) (sym (o .is)) (tested (eqb (o .lit) 65535)
+    (λ e. subst (λ (m : List ℕ). (litsIn (optIn m) ≡ m) × Held (optIn m)) (sym (pick-yes _ _ e)) (refl, tt))
+    (λ e. subst (λ (m : List ℕ). (litsIn (optIn m) ≡ m) × Held (optIn m)) (sym (pick-no _ _ e)) (refl, omega (arith, o .small, eqb-false (o .lit) 65535 e))))
+
+word-in : (ls : List ℕ) → litWord ls ≡ optWord (optIn ls)
+unfolding litWord optWord optIn
+word-in [] = refl
+word-in (l ∷ ls) = refl
 
 coded-first : (r : abstract.Reason) → firstWord r ≡ firstWordOf (coded r)
 unfolding firstWord firstWordOf coded
 coded-first (abstract.edgeInSameGroup g) = refl
 coded-first (abstract.edgeBetweenDifferentGroups h g flip) = refl
-coded-first (abstract.tooLargeIfRegionsAreMerged g ls) = refl
+coded-first (abstract.tooLargeIfRegionsAreMerged g ls) = ap (packed 3 g 0 0) (word-in ls)
 coded-first (abstract.regionAlreadyLarge v) = refl
 coded-first (abstract.regionAlreadySmall v) = refl
 coded-first (abstract.inconsistentBoundsIfRegionsAreMerged g a b flip) = refl
-coded-first (abstract.boundPropagationWithinRegion k u ls) = refl
+coded-first (abstract.boundPropagationWithinRegion k u ls) = ap (packed 7 k u 0) (word-in ls)
 coded-first (abstract.adjacentSameSizeRegions a la ua b lb ub u) = refl
 
 coded-second : (r : abstract.Reason) → secondWord r ≡ secondWordOf (coded r)
@@ -218,7 +244,12 @@ coded-second (abstract.regionAlreadyLarge v) = refl
 coded-second (abstract.regionAlreadySmall v) = refl
 coded-second (abstract.inconsistentBoundsIfRegionsAreMerged g a b flip) = refl
 coded-second (abstract.boundPropagationWithinRegion k u ls) = refl
-coded-second (abstract.adjacentSameSizeRegions a la ua b lb ub u) = refl
+coded-second (abstract.adjacentSameSizeRegions a la ua b lb ub u) =
+    let e₁ = word-in la in
+    let e₂ = word-in ua in
+    let e₃ = word-in lb in
+    let e₄ = word-in ub in
+    cc
 
 coded-range : (r : abstract.Reason) → Fits r → InRange (coded r)
 unfolding coded

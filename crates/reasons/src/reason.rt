@@ -1,12 +1,13 @@
 // Why a literal is proposed: the Rust's `Reason`, and its two words.
 use crate::packed;
 use crate::packed_lits;
+use sat::Lit;
+use sat::OptLit;
 ghost use mathlib.Core.Path.{_≡_};
 ghost use Prim.Native.Nat.{_%_};
 ghost use Rattle.reasons.specs.Words.{packed, bit};
-ghost use Rattle.reasons.specs.Reason.{laterReason, reasonOf, firstWordOf, secondWordOf};
+ghost use Rattle.reasons.specs.Reason.{optOf, optWord, laterReason, reasonOf, firstWordOf, secondWordOf};
 
-// A literal 65535 (undo_log::NO_LIT) is none.
 pub enum Reason {
     NotPropagated,
     // Both ends of the edge are in one group: it is to be connected.
@@ -23,7 +24,7 @@ pub enum Reason {
     // If the regions of the edge's ends were merged, the region would be too large.
     TooLargeIfRegionsAreMerged {
         disconnected_edge_idx: u8,
-        upper_bound_lit: u16,
+        upper_bound_lit: OptLit,
     },
     // The vertex's decided region is so large that its lower bound rises.
     RegionAlreadyLarge {
@@ -43,18 +44,18 @@ pub enum Reason {
     },
     // The bound of one vertex is known, and the other is in its region.
     BoundPropagationWithinRegion {
-        known_bound_lit: u16,
+        known_bound_lit: OptLit,
         known_bound_idx: u8,
         unknown_bound_idx: u8,
     },
     // If the edge were connected, two regions of one size would be adjacent.
     AdjacentSameSizeRegions {
         region1_vertex: u8,
-        region1_lower_bound: u16,
-        region1_upper_bound: u16,
+        region1_lower_bound: OptLit,
+        region1_upper_bound: OptLit,
         region2_vertex: u8,
-        region2_lower_bound: u16,
-        region2_upper_bound: u16,
+        region2_lower_bound: OptLit,
+        region2_upper_bound: OptLit,
         region3_vertex: u8,
     },
 }
@@ -69,6 +70,25 @@ fn two_bytes(w: u64) -> u16
     ensures { λ r. ⌜ r ≡ w % 65536 ⌝ }
 {
     (w % 65536) as u16
+}
+
+// A bound's literal, if it is due to one: in two bytes 65535 is none.
+fn opt_lit(n: u16) -> OptLit
+    ensures { λ r. ⌜ r ≡ optOf n ⌝ }
+{
+    if n == 65535 {
+        return OptLit::Nothing;
+    }
+    OptLit::Some(Lit(n))
+}
+
+fn lit_word(l: OptLit) -> u16
+    ensures { λ r. ⌜ r ≡ optWord l ⌝ }
+{
+    match l {
+        OptLit::Some(lit) => lit.0,
+        OptLit::Nothing => 65535,
+    }
 }
 
 fn bit(b: bool) -> u8
@@ -97,7 +117,7 @@ fn later_reason(kind: u8, first: u64, second: u64) -> Reason
     }
     if kind == 7 {
         return Reason::BoundPropagationWithinRegion {
-            known_bound_lit: two_bytes(first / 4294967296),
+            known_bound_lit: opt_lit(two_bytes(first / 4294967296)),
             known_bound_idx: byte(first / 256),
             unknown_bound_idx: byte(first / 65536),
         };
@@ -105,11 +125,11 @@ fn later_reason(kind: u8, first: u64, second: u64) -> Reason
     if kind == 8 {
         return Reason::AdjacentSameSizeRegions {
             region1_vertex: byte(first / 256),
-            region1_lower_bound: two_bytes(second),
-            region1_upper_bound: two_bytes(second / 65536),
+            region1_lower_bound: opt_lit(two_bytes(second)),
+            region1_upper_bound: opt_lit(two_bytes(second / 65536)),
             region2_vertex: byte(first / 65536),
-            region2_lower_bound: two_bytes(second / 4294967296),
-            region2_upper_bound: two_bytes(second / 281474976710656),
+            region2_lower_bound: opt_lit(two_bytes(second / 4294967296)),
+            region2_upper_bound: opt_lit(two_bytes(second / 281474976710656)),
             region3_vertex: byte(first / 16777216),
         };
     }
@@ -136,7 +156,7 @@ pub fn reason_of(first: u64, second: u64) -> Reason
     if kind == 3 {
         return Reason::TooLargeIfRegionsAreMerged {
             disconnected_edge_idx: byte(first / 256),
-            upper_bound_lit: two_bytes(first / 4294967296),
+            upper_bound_lit: opt_lit(two_bytes(first / 4294967296)),
         };
     }
     if kind == 4 {
@@ -166,7 +186,7 @@ pub fn first_word(r: Reason) -> u64
         Reason::TooLargeIfRegionsAreMerged {
             disconnected_edge_idx: g,
             upper_bound_lit: l,
-        } => word(3, g, 0, 0, l),
+        } => word(3, g, 0, 0, lit_word(l)),
         Reason::RegionAlreadyLarge { vertex_idx } => word(4, vertex_idx, 0, 0, 0),
         Reason::RegionAlreadySmall { vertex_idx } => word(5, vertex_idx, 0, 0, 0),
         Reason::InconsistentBoundsIfRegionsAreMerged {
@@ -179,7 +199,7 @@ pub fn first_word(r: Reason) -> u64
             known_bound_lit: l,
             known_bound_idx: k,
             unknown_bound_idx: u,
-        } => word(7, k, u, 0, l),
+        } => word(7, k, u, 0, lit_word(l)),
         Reason::AdjacentSameSizeRegions {
             region1_vertex: a,
             region2_vertex: b,
@@ -207,6 +227,11 @@ pub fn second_word(r: Reason) -> u64
             region2_lower_bound: lb,
             region2_upper_bound: ub,
             ..
-        } => packed_lits(la as u32, ua as u32, lb as u32, ub as u32),
+        } => packed_lits(
+            lit_word(la) as u32,
+            lit_word(ua) as u32,
+            lit_word(lb) as u32,
+            lit_word(ub) as u32,
+        ),
     }
 }

@@ -19,35 +19,23 @@ cast-three-regions-3 c = search needs
 three-regions-requires : tie.Need-three-regions-requires
 three-regions-requires c κs = search needs
 
-cast-and-lit : tie.Need-cast-and-lit
-cast-and-lit c = search needs
+and-opt-requires : tie.Need-and-opt-requires
+and-opt-requires c κs = search needs
 
-and-lit-requires : tie.Need-and-lit-requires
-and-lit-requires c κs = search needs
+and-opt-requires-2 : tie.Need-and-opt-requires-2
+and-opt-requires-2 c κs = search needs
 
-cast-and-lit-2 : tie.Need-cast-and-lit-2
-cast-and-lit-2 c = search needs
+and-opt-requires-3 : tie.Need-and-opt-requires-3
+and-opt-requires-3 c κs = search needs
 
-and-lit-requires-2 : tie.Need-and-lit-requires-2
-and-lit-requires-2 c κs = search needs
-
-cast-and-lit-3 : tie.Need-cast-and-lit-3
-cast-and-lit-3 c = search needs
-
-and-lit-requires-3 : tie.Need-and-lit-requires-3
-and-lit-requires-3 c κs = search needs
-
-cast-and-lit-4 : tie.Need-cast-and-lit-4
-cast-and-lit-4 c = search needs
-
-and-lit-requires-4 : tie.Need-and-lit-requires-4
-and-lit-requires-4 c κs = search needs
+and-opt-requires-4 : tie.Need-and-opt-requires-4
+and-opt-requires-4 c κs = search needs
 
 same-length : tie.Need-same-length
 same-length c = search needs
 
 returns : tie.Need-returns
-returns c = same-by _ _ _ _ _ _ _ _ _ _ _ _ _ _ _ _ _ ((c .before .before .before .before .before .before .before .before .before .before .before .before .before .before .before .before .before .before .before .before .before .reason .given) .1) (c .before .before .before .before .before .before .before .before .before .before .before .before .before .before .before .before .before .before .three-regions .ensures) (c .before .before .before .before .before .before .before .before .before .before .before .before .before .before .and-lit .ensures) (c .before .before .before .before .before .before .before .before .before .before .and-lit2 .ensures) (c .before .before .before .before .before .before .and-lit3 .ensures) (c .before .before .and-lit4 .ensures)
+returns c = same-by _ _ _ _ _ _ _ _ _ _ _ _ _ _ _ _ _ ((c .before .before .before .before .before .before .before .before .before .before .before .before .before .before .before .before .before .before .before .before .before .reason .given) .1) (c .before .before .before .before .before .before .before .before .before .before .before .before .before .before .before .before .before .before .three-regions .ensures) (c .before .before .before .before .before .before .before .before .before .before .before .before .before .before .and-opt .ensures) (c .before .before .before .before .before .before .before .before .before .before .and-opt2 .ensures) (c .before .before .before .before .before .before .and-opt3 .ensures) (c .before .before .and-opt4 .ensures)
 
 returns-2 : tie.Need-returns-2
 unfolding missing
@@ -62,14 +50,10 @@ same-size-spec =
     cast-three-regions-2
     cast-three-regions-3
     three-regions-requires
-    cast-and-lit
-    and-lit-requires
-    cast-and-lit-2
-    and-lit-requires-2
-    cast-and-lit-3
-    and-lit-requires-3
-    cast-and-lit-4
-    and-lit-requires-4
+    and-opt-requires
+    and-opt-requires-2
+    and-opt-requires-3
+    and-opt-requires-4
     same-length
     returns
     returns-2)

@@ -26,6 +26,9 @@ word-requires-2 c κs = search needs
 enum-known-r-3 : tie.Need-enum-known-r-3
 enum-known-r-3 c = search needs
 
+lit-word-requires : tie.Need-lit-word-requires
+lit-word-requires c κs = search needs
+
 word-requires-3 : tie.Need-word-requires-3
 word-requires-3 c κs = search needs
 
@@ -56,6 +59,9 @@ word-requires-6 c κs = search needs
 enum-known-r-7 : tie.Need-enum-known-r-7
 enum-known-r-7 c = search needs
 
+lit-word-requires-2 : tie.Need-lit-word-requires-2
+lit-word-requires-2 c κs = search needs
+
 word-requires-7 : tie.Need-word-requires-7
 word-requires-7 c κs = search needs
 
@@ -79,7 +85,7 @@ returns-3 c = third-as _ _ _ _ _ _ _ (c .word2 .ensures) (c .before .bit .ensure
 
 returns-4 : tie.Need-returns-4
 unfolding firstWordOf
-returns-4 c = (c .word3 .ensures) ∙ sym (ap firstWordOf (c .before .before .r3 .given .1))
+returns-4 c = last-as _ _ _ _ _ _ _ (c .word3 .ensures) (c .before .lit-word .ensures) ∙ sym (ap firstWordOf (c .before .before .before .r3 .given .1))
 
 returns-5 : tie.Need-returns-5
 unfolding firstWordOf
@@ -95,7 +101,7 @@ returns-7 c = last-as _ _ _ _ _ _ _ (c .word6 .ensures) (c .before .bit2 .ensure
 
 returns-8 : tie.Need-returns-8
 unfolding firstWordOf
-returns-8 c = (c .word7 .ensures) ∙ sym (ap firstWordOf (c .before .before .r7 .given .1))
+returns-8 c = last-as _ _ _ _ _ _ _ (c .word7 .ensures) (c .before .lit-word2 .ensures) ∙ sym (ap firstWordOf (c .before .before .before .r7 .given .1))
 
 returns-9 : tie.Need-returns-9
 unfolding firstWordOf
@@ -112,6 +118,7 @@ first-word-spec =
     bit-requires
     word-requires-2
     enum-known-r-3
+    lit-word-requires
     word-requires-3
     enum-known-r-4
     word-requires-4
@@ -122,6 +129,7 @@ first-word-spec =
     cast-word
     word-requires-6
     enum-known-r-7
+    lit-word-requires-2
     word-requires-7
     enum-known-r-8
     word-requires-8

@@ -36,9 +36,12 @@ byte-requires-6 c κs = search needs
 two-bytes-requires : tie.Need-two-bytes-requires
 two-bytes-requires c κs = search needs
 
+opt-lit-requires : tie.Need-opt-lit-requires
+opt-lit-requires c κs = search needs
+
 returns-3 : tie.Need-returns-3
 unfolding reasonOf
-returns-3 c = simp ((c .before .byte6 .ensures), (c .two-bytes .ensures)) (sym (pick-no _ _ (ne-eqb _ _ (λ e. (c .before .before .before .before .if1 .left) ((c .before .before .before .before .before .byte .ensures) ∙ e))) ∙ pick-no _ _ (ne-eqb _ _ (λ e. (c .before .before .before .if2 .left) ((c .before .before .before .before .before .byte .ensures) ∙ e))) ∙ pick-yes _ _ (eq-eqb _ _ (sym (c .before .before .before .before .before .byte .ensures) ∙ (c .before .before .if3 .taken)))))
+returns-3 c = simp ((c .before .before .byte6 .ensures), (c .opt-lit .ensures), (c .before .two-bytes .ensures)) (sym (pick-no _ _ (ne-eqb _ _ (λ e. (c .before .before .before .before .before .if1 .left) ((c .before .before .before .before .before .before .byte .ensures) ∙ e))) ∙ pick-no _ _ (ne-eqb _ _ (λ e. (c .before .before .before .before .if2 .left) ((c .before .before .before .before .before .before .byte .ensures) ∙ e))) ∙ pick-yes _ _ (eq-eqb _ _ (sym (c .before .before .before .before .before .before .byte .ensures) ∙ (c .before .before .before .if3 .taken)))))
 
 byte-requires-7 : tie.Need-byte-requires-7
 byte-requires-7 c κs = search needs
@@ -74,6 +77,7 @@ reason-of-spec =
     returns-2
     byte-requires-6
     two-bytes-requires
+    opt-lit-requires
     returns-3
     byte-requires-7
     returns-4

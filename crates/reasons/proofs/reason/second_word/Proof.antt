@@ -1,5 +1,6 @@
 use mathlib.Core.Path.{sym, _∙_, ap}
 use Rattle.reasons.specs.Reason.{secondWordOf}
+use Rattle.reasons.proofs.Back.{lits-as}
 use borrow.Author.Needs.{needs}
 use Rattle.reasons.proofs.reason.second_word.Statement.{statement}
 use Rattle.reasons.proofs.reason.second_word.Tie as tie
@@ -31,14 +32,26 @@ enum-told-8 c = search needs
 enum-known-r : tie.Need-enum-known-r
 enum-known-r c = search needs
 
+lit-word-requires : tie.Need-lit-word-requires
+lit-word-requires c κs = search needs
+
 cast-packed-lits : tie.Need-cast-packed-lits
 cast-packed-lits c = search needs
+
+lit-word-requires-2 : tie.Need-lit-word-requires-2
+lit-word-requires-2 c κs = search needs
 
 cast-packed-lits-2 : tie.Need-cast-packed-lits-2
 cast-packed-lits-2 c = search needs
 
+lit-word-requires-3 : tie.Need-lit-word-requires-3
+lit-word-requires-3 c κs = search needs
+
 cast-packed-lits-3 : tie.Need-cast-packed-lits-3
 cast-packed-lits-3 c = search needs
+
+lit-word-requires-4 : tie.Need-lit-word-requires-4
+lit-word-requires-4 c κs = search needs
 
 cast-packed-lits-4 : tie.Need-cast-packed-lits-4
 cast-packed-lits-4 c = search needs
@@ -80,7 +93,7 @@ returns-8 c = sym (ap secondWordOf ((c .enum-told8 .given) .1))
 
 returns-9 : tie.Need-returns-9
 unfolding secondWordOf
-returns-9 c = (c .packed-lits .ensures) ∙ sym (ap secondWordOf (c .before .before .r .given .1))
+returns-9 c = lits-as _ _ _ _ _ (c .packed-lits .ensures) (c .before .before .before .before .lit-word .ensures) (c .before .before .before .lit-word2 .ensures) (c .before .before .lit-word3 .ensures) (c .before .lit-word4 .ensures) ∙ sym (ap secondWordOf (c .before .before .before .before .before .before .r .given .1))
 
 pub second-word-spec : {M : Type 1} → statement M
 second-word-spec =
@@ -95,9 +108,13 @@ second-word-spec =
     enum-told-7
     enum-told-8
     enum-known-r
+    lit-word-requires
     cast-packed-lits
+    lit-word-requires-2
     cast-packed-lits-2
+    lit-word-requires-3
     cast-packed-lits-3
+    lit-word-requires-4
     cast-packed-lits-4
     packed-lits-requires
     returns
