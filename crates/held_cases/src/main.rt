@@ -58,14 +58,7 @@ fn put_answer(a: Answer, list: &[u32]) {
 }
 
 // A vertex with two sizes and so one literal.
-fn put_vertex(
-    vertices: &mut [i32; 4288],
-    v: usize,
-    weight: i32,
-    size: i32,
-    larger: i32,
-    lit: i32,
-)
+fn put_vertex(vertices: &mut [i32; 4288], v: usize, weight: i32, size: i32, larger: i32, lit: i32)
     requires { ⌜ v < 64 ⌝ }
 {
     vertices[67 * v] = weight;
