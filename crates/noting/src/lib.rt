@@ -11,6 +11,16 @@ ghost use Prim.Native.Nat.{ℕ, _+_, _≤_, _<_};
 ghost use Rattle.base.specs.Lists.{filled};
 ghost use Rattle.noting.specs.Words.{edgeStateOf, boundAt, lowerOf, upperOf, lowerLitOf, upperLitOf, capped, firstSize, lastSize, fresh};
 
+// An edge's states: the Rust's `EdgeState`.
+pub const UNDECIDED: u32 = 0;
+
+pub const DISCONNECTED: u32 = 1;
+
+pub const CONNECTED: u32 = 2;
+
+// The word of a bound that is due to no literal: undo_log::NO_LIT.
+pub const NO_BOUND_LIT: u32 = 65535;
+
 pub fn edge_state(noted: &[u32; 384], g: usize) -> u32
     ensures { λ r. ⌜ r ≡ edgeStateOf (now (noted .entry)) g ⌝ }
 {
@@ -46,13 +56,13 @@ pub fn upper_bound(noted: &[u32; 384], v: usize) -> u32
 pub fn lower_bound_lit(noted: &[u32; 384], v: usize) -> u32
     ensures { λ r. ⌜ r ≡ lowerLitOf (now (noted .entry)) v ⌝ }
 {
-    bound_at(noted, 256, 65535, v)
+    bound_at(noted, 256, NO_BOUND_LIT, v)
 }
 
 pub fn upper_bound_lit(noted: &[u32; 384], v: usize) -> u32
     ensures { λ r. ⌜ r ≡ upperLitOf (now (noted .entry)) v ⌝ }
 {
-    bound_at(noted, 320, 65535, v)
+    bound_at(noted, 320, NO_BOUND_LIT, v)
 }
 
 fn capped(n: u32, most: u32) -> usize
@@ -125,9 +135,9 @@ pub fn fresh(plan: &[u32; 15241], noted: &mut [u32; 384])
 {
     let vertices = capped(plan::num_vertices(plan), 64);
     let edges = capped(plan::num_edges(plan), 128);
-    fill(noted, 0, edges, 0);
+    fill(noted, 0, edges, UNDECIDED);
     fill_first(plan, noted, vertices);
     fill_last(plan, noted, vertices);
-    fill(noted, 320, vertices, 65535);
-    fill(noted, 256, vertices, 65535);
+    fill(noted, 320, vertices, NO_BOUND_LIT);
+    fill(noted, 256, vertices, NO_BOUND_LIT);
 }

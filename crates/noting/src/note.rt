@@ -1,11 +1,18 @@
 // The Rust's `notify`: a literal is noted in the noted words and in the undo log.
+use crate::CONNECTED;
+use crate::DISCONNECTED;
 use crate::lower_bound;
 use crate::lower_bound_lit;
 use crate::upper_bound;
 use crate::upper_bound_lit;
 use undo_log::Cursor;
+use undo_log::EDGE;
+use undo_log::LEVEL_BOUNDARY;
+use undo_log::LOWER_BOUND;
+use undo_log::NO_LIT;
 use undo_log::Pushed;
 use undo_log::Record;
+use undo_log::UPPER_BOUND;
 ghost use mathlib.Core.Path.{_≡_};
 ghost use mathlib.Core.Bool.{_&&_};
 ghost use Prim.Native.Nat.{ℕ, _+_, _-_, _≤_, _<_};
@@ -15,7 +22,11 @@ ghost use Rattle.undo_log.specs.Log.{pushWords};
 ghost use Rattle.plan.specs.Words.{variablesOf, variableAt, startAt, occurrenceAt};
 ghost use Rattle.noting.specs.Note.{effect, sizeEffect, edgeEffect, effectOf, undoRecord, boundSet, edgeSet, applied, noting, pushedTo, noteSlot, boundary, oneMore, levelPushed, halved, placeIn, known, noteAt, note};
 
-// What a literal says of one vertex or edge: `LiteralInfo` of the Rust. The kinds are the undo log's; 0 is nothing.
+// An effect's kind where a literal says nothing new.
+pub const NOTHING: u8 = 0;
+
+// What a literal says of one vertex or edge: `LiteralInfo` of the Rust. The kinds are the undo log's EDGE, LOWER_BOUND and
+// UPPER_BOUND, or NOTHING; an edge's value is its state.
 pub struct Effect {
     pub kind: u8,
     pub index: u8,
@@ -36,13 +47,13 @@ fn size_effect(plan: &[u32; 15241], noted: &[u32; 384], holds: bool, v: usize, j
         let x = plan::domain(plan, v, j + 1);
         if lower_bound(noted, v) < x {
             return Effect {
-                kind: 2,
+                kind: LOWER_BOUND,
                 index: v as u8,
                 value: x,
             };
         }
         return Effect {
-            kind: 0,
+            kind: NOTHING,
             index: 0,
             value: 0,
         };
@@ -50,13 +61,13 @@ fn size_effect(plan: &[u32; 15241], noted: &[u32; 384], holds: bool, v: usize, j
     let x = plan::domain(plan, v, j);
     if x < upper_bound(noted, v) {
         return Effect {
-            kind: 3,
+            kind: UPPER_BOUND,
             index: v as u8,
             value: x,
         };
     }
     Effect {
-        kind: 0,
+        kind: NOTHING,
         index: 0,
         value: 0,
     }
@@ -68,15 +79,15 @@ fn edge_effect(holds: bool, g: usize) -> Effect
 {
     if holds {
         return Effect {
-            kind: 1,
+            kind: EDGE,
             index: g as u8,
-            value: 1,
+            value: DISCONNECTED,
         };
     }
     Effect {
-        kind: 1,
+        kind: EDGE,
         index: g as u8,
-        value: 2,
+        value: CONNECTED,
     }
 }
 
@@ -91,7 +102,7 @@ pub(crate) fn effect_of(plan: &[u32; 15241], noted: &[u32; 384], lit: u16, s: us
         return edge_effect(holds, s - 2048);
     }
     Effect {
-        kind: 0,
+        kind: NOTHING,
         index: 0,
         value: 0,
     }
@@ -101,7 +112,7 @@ pub(crate) fn undo_record(noted: &[u32; 384], e: Effect) -> Record
     ensures { λ r. ⌜ r ≡ undoRecord (now (noted .entry)) e ⌝ }
 {
     let v = e.index as usize;
-    if e.kind == 2 {
+    if e.kind == LOWER_BOUND {
         let lit = lower_bound_lit(noted, v);
         return Record {
             kind: e.kind,
@@ -110,7 +121,7 @@ pub(crate) fn undo_record(noted: &[u32; 384], e: Effect) -> Record
             lit: (lit % 65536) as u16,
         };
     }
-    if e.kind == 3 {
+    if e.kind == UPPER_BOUND {
         let lit = upper_bound_lit(noted, v);
         return Record {
             kind: e.kind,
@@ -123,7 +134,7 @@ pub(crate) fn undo_record(noted: &[u32; 384], e: Effect) -> Record
         kind: e.kind,
         index: e.index,
         bound: 0,
-        lit: 65535,
+        lit: NO_LIT,
     }
 }
 
@@ -150,15 +161,15 @@ pub fn apply(noted: &mut [u32; 384], e: Effect, lit: u16)
     ensures { λ r. ⌜ now (noted .exit) ≡ applied e lit (now (noted .entry)) ⌝ }
 {
     let i = e.index as usize;
-    if e.kind == 1 {
+    if e.kind == EDGE {
         set_edge(noted, i, e.value);
         return;
     }
-    if e.kind == 2 {
+    if e.kind == LOWER_BOUND {
         set_bound(noted, 128, i, e.value, lit);
         return;
     }
-    if e.kind == 3 {
+    if e.kind == UPPER_BOUND {
         set_bound(noted, 192, i, e.value, lit);
     }
 }
@@ -186,7 +197,7 @@ fn note_slot(
     ensures { λ c. ⌜ noting (now (noted .exit)) (now (log .exit)) c ≡ noteSlot (now (plan .entry)) lit s (noting (now (noted .entry)) (now (log .entry)) cursor) ⌝ }
 {
     let e = effect_of(plan, noted, lit, s);
-    if e.kind == 0 {
+    if e.kind == NOTHING {
         return cursor;
     }
     let r = undo_record(noted, e);
@@ -235,7 +246,7 @@ fn push_level(log: &mut [u64], cursor: Cursor, lit: u16) -> Cursor
     ensures { λ c. ⌜ (c ≡ oneMore (now (log .entry)) (pushedTo (now (log .entry)) cursor)) × (now (log .exit) ≡ pushWords (now (log .entry)) cursor (boundary lit)) ⌝ }
 {
     let r = Record {
-        kind: 0,
+        kind: LEVEL_BOUNDARY,
         index: 0,
         bound: 0,
         lit,

@@ -4,6 +4,7 @@ use crate::edge_state;
 use crate::fresh;
 use crate::lower_bound;
 use crate::lower_bound_lit;
+use crate::note::NOTHING;
 use crate::note::apply;
 use crate::note::effect_of;
 use crate::note::is_variable;
@@ -14,6 +15,7 @@ use crate::undo::record_at;
 use crate::upper_bound;
 use crate::upper_bound_lit;
 use undo_log::Cursor;
+use undo_log::LEVEL_BOUNDARY;
 use undo_log::Record;
 ghost use mathlib.Core.Path.{_≡_};
 ghost use mathlib.Core.Bool.{true, not, _||_};
@@ -65,7 +67,7 @@ fn follow_slot(
     let at = p.at;
     if p.ok {
         let e = effect_of(plan, noted, lit, s);
-        if e.kind == 0 {
+        if e.kind == NOTHING {
             return p;
         }
         let r = undo_record(noted, e);
@@ -145,7 +147,7 @@ fn opens(plan: &[u32; 15241], marks: &[u8; 2176], log: &[u64], at: usize, k: usi
 {
     let lit = record_at(log, at).lit;
     let r = Record {
-        kind: 0,
+        kind: LEVEL_BOUNDARY,
         index: 0,
         bound: 0,
         lit,
@@ -276,7 +278,7 @@ fn num_standing(log: &[u64], n: usize) -> usize
     while 0 < left {
         left -= 1;
         let r = record_at(log, left);
-        if r.kind == 0 {
+        if r.kind == LEVEL_BOUNDARY {
             count += 1;
         }
     }

@@ -1,5 +1,7 @@
 // Which literals stand: read from the log up to the cursor, and never from the state.
 use crate::undo::record_at;
+use undo_log::LEVEL_BOUNDARY;
+use undo_log::NO_LIT;
 ghost use mathlib.Core.Path.{_≡_};
 ghost use Prim.Native.Nat.{ℕ, _/_};
 ghost use Rattle.noting.specs.Undo.{recordsOf};
@@ -13,7 +15,7 @@ pub fn variable_stands(log: &[u64], used: usize, x: u16) -> bool
     while 0 < left {
         left -= 1;
         let r = record_at(log, left);
-        if r.kind == 0 {
+        if r.kind == LEVEL_BOUNDARY {
             if r.lit / 2 == x {
                 return true;
             }
@@ -30,11 +32,11 @@ pub fn newest(log: &[u64], used: usize) -> u16
     while 0 < left {
         left -= 1;
         let r = record_at(log, left);
-        if r.kind == 0 {
+        if r.kind == LEVEL_BOUNDARY {
             return r.lit;
         }
     }
-    65535
+    NO_LIT
 }
 
 // Whether the literal is not the newest that stands: refusal 11.

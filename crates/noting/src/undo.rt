@@ -1,7 +1,10 @@
 // The Rust's `undo_internal`: the records of the newest notification are taken back.
+use crate::UNDECIDED;
 use crate::note::Effect;
 use crate::note::apply;
 use undo_log::Cursor;
+use undo_log::EDGE;
+use undo_log::LEVEL_BOUNDARY;
 use undo_log::Record;
 ghost use mathlib.Core.Path.{_≡_};
 ghost use Prim.Native.Nat.{ℕ, _-_};
@@ -24,11 +27,11 @@ pub fn record_at(log: &[u64], i: usize) -> Record
 fn restore(noted: &mut [u32; 384], r: Record)
     ensures { λ _. ⌜ now (noted .exit) ≡ restored r (now (noted .entry)) ⌝ }
 {
-    if r.kind == 1 {
+    if r.kind == EDGE {
         let e = Effect {
             kind: r.kind,
             index: r.index,
-            value: 0,
+            value: UNDECIDED,
         };
         apply(noted, e, r.lit);
         return;
@@ -49,7 +52,7 @@ fn take_back(noted: &mut [u32; 384], log: &[u64], n: usize) -> usize
     while 0 < left {
         left -= 1;
         let r = record_at(log, left);
-        if r.kind == 0 {
+        if r.kind == LEVEL_BOUNDARY {
             return left;
         }
         restore(noted, r);

@@ -1,0 +1,3 @@
+pub mod LocalRecords
+pub mod LocalCursor
+pub mod Parts
