@@ -3,3 +3,4 @@ pub mod Layout
 pub mod Stores
 pub mod Codes
 pub mod Host
+pub mod Build

@@ -13,6 +13,7 @@ ghost use mathlib.Core.Path.{_≡_};
 ghost use mathlib.Core.Bool.{true, false};
 ghost use lib.ListN.{length};
 ghost use Rattle.host.specs.Host.{left, back, tooShort, hostPropagated, propagatedIn, hostUndone, undoneIn, hostReason, hostLast, AfterOf, buildCode, StateAfter};
+ghost use Rattle.host.specs.Build.{BuiltIn};
 
 fn too_short(state: &[u8], cursor: &[u8]) -> bool
     ensures { λ r. ⌜ r ≡ tooShort (now (state .entry)) (now (cursor .entry)) ⌝ }
@@ -35,6 +36,7 @@ pub extern "C" fn zuntjev_build<'a>(
     state: &mut [u8],
 ) -> i32
     ensures { λ r. ⌜ r ≡ buildCode (now (vertices .entry)) n (now (edges .entry)) m (now (state .entry)) ⌝ }
+    ensures { λ _. ⌜ BuiltIn (now (vertices .entry)) n (now (edges .entry)) m «same_size» «extra_walls» (now (state .entry)) (now (state .exit)) ⌝ }
 {
     let refusal = builder::input::refusal_of(vertices, n, edges, m);
     if refusal == 0 {
