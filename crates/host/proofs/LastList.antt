@@ -32,6 +32,10 @@ use Rattle.sweep.specs.Sweep.{Handed}
 use Rattle.graph_division.specs.declared.GraphDivision.{GraphDivision}
 use Rattle.graph_division.specs.declared.Outcome.{Outcome}
 use Rattle.graph_division.specs.Calls.{Called, withNoted, withJudged, refuse, adding, accepting, handingOn, settledBy, settled, propagated, undone}
+use Rattle.host.specs.Bytes.{wordAt}
+use Rattle.host.specs.Layout.{stateIn, cursorIn, listIn, logIn}
+use Rattle.host.specs.Host.{StateAfter, AfterOf, propagatedIn, undoneIn}
+use Rattle.host.specs.After.{Leaves}
 
 -- at most n literals
 abbrev UpTo : ℕ → Listed → Type 0
@@ -217,3 +221,28 @@ module _ (s : GraphDivision) (c : Cursor) (h : Fits s) where
   pub undone-fits : (lit : ℤ) (log : List ℕ) → Fits (undone s c lit log .state)
   unfolding undone refuse
   undone-fits lit log = pick-ind (λ (y : Outcome). Fits (y .state)) _ _ _ (λ _. noted-fits _) (λ _. h)
+
+-- ---- of bytes
+abbrev pub Bytes : List ℕ → Type 0
+Bytes b = (i : ℕ) → getD b i 0 < 256
+
+pub word-fits : (b : List ℕ) (a : ℕ) → Bytes b → wordAt b a < 4294967296
+unfolding wordAt
+word-fits b a h = omega (arith, h a, h (a + 1), h (a + 2), h (a + 3))
+
+state-fits : (b : List ℕ) → Bytes b → Fits (stateIn b)
+unfolding stateIn
+state-fits b h = word-fits b 62756 h
+
+leaves : (short : Bool) (y : Outcome) (b c : List ℕ) → Fits (y .state) → AfterOf short y b c → Leaves short y b c
+leaves short y b c f h = record { same = h .same; is = λ n. h .is n f }
+
+pub propagate-leaves : (short : Bool) (state t list log cursor : List ℕ) (lit pending : ℤ) (after : List ℕ) → Bytes state →
+    AfterOf short (propagatedIn state t list log cursor lit pending .outcome) state after → Leaves short (propagatedIn state t list log cursor lit pending .outcome) state after
+unfolding propagatedIn
+propagate-leaves short state t list log cursor lit pending after h a = leaves short _ state after (propagated-fits (stateIn state) (cursorIn cursor) (state-fits state h) lit pending t (listIn list) (logIn (cursorIn cursor) log)) a
+
+pub undo-leaves : (short : Bool) (state log cursor : List ℕ) (lit : ℤ) (after : List ℕ) → Bytes state →
+    AfterOf short (undoneIn state log cursor lit) state after → Leaves short (undoneIn state log cursor lit) state after
+unfolding undoneIn
+undo-leaves short state log cursor lit after h a = leaves short _ state after (undone-fits (stateIn state) (cursorIn cursor) (state-fits state h) lit (logIn (cursorIn cursor) log)) a

@@ -10,3 +10,4 @@ pub mod Outside
 pub mod Using
 pub mod Building
 pub mod LastList
+pub mod ReadBack

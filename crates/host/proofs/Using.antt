@@ -25,7 +25,7 @@ use Rattle.builder.proofs.Given.{given-length, given-header, kept-word, total-w
 use Rattle.host.specs.Layout.{window, sizesOf, litsOf, placesOf, indexOf, inUseOver, inUse}
 use Rattle.host.proofs.Outside.{Off, Outside, words-out}
 
-capped-is : (n m : ℕ) → n ≤ m → capped n m ≡ n
+pub capped-is : (n m : ℕ) → n ≤ m → capped n m ≡ n
 unfolding capped
 capped-is n m h = tested (ltb n m)
     (λ (t : ltb n m ≡ true). pick-yes n m t)

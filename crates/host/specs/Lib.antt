@@ -4,3 +4,4 @@ pub mod Stores
 pub mod Codes
 pub mod Host
 pub mod Build
+pub mod After

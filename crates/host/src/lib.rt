@@ -12,7 +12,8 @@ use builder::build::GraphDivisionOptions;
 ghost use mathlib.Core.Path.{_≡_};
 ghost use mathlib.Core.Bool.{true, false};
 ghost use lib.ListN.{length};
-ghost use Rattle.host.specs.Host.{left, back, tooShort, hostPropagated, propagatedIn, hostUndone, undoneIn, hostReason, hostLast, AfterOf, buildCode, StateAfter};
+ghost use Rattle.host.specs.Host.{left, back, tooShort, hostPropagated, propagatedIn, hostUndone, undoneIn, hostReason, hostLast, buildCode};
+ghost use Rattle.host.specs.After.{Leaves};
 ghost use Rattle.host.specs.Build.{BuiltIn};
 
 fn too_short(state: &[u8], cursor: &[u8]) -> bool
@@ -66,7 +67,7 @@ pub extern "C" fn zuntjev_propagate(
 ) -> i32
     ensures { λ r. ⌜ left r (now (table .exit)) (now (list .exit)) (now (log .exit)) (now (cursor .exit))
         ≡ hostPropagated (now (state .entry)) (now (table .entry)) (now (list .entry)) (now (log .entry)) (now (cursor .entry)) lit «num_pending_propagations» ⌝ }
-    ensures { λ _. ⌜ AfterOf (tooShort (now (state .entry)) (now (cursor .entry))) (propagatedIn (now (state .entry)) (now (table .entry)) (now (list .entry)) (now (log .entry)) (now (cursor .entry)) lit «num_pending_propagations» .outcome) (now (state .entry)) (now (state .exit)) ⌝ }
+    ensures { λ _. ⌜ Leaves (tooShort (now (state .entry)) (now (cursor .entry))) (propagatedIn (now (state .entry)) (now (table .entry)) (now (list .entry)) (now (log .entry)) (now (cursor .entry)) lit «num_pending_propagations» .outcome) (now (state .entry)) (now (state .exit)) ⌝ }
 {
     if too_short(state, cursor) {
         return -7;
@@ -86,7 +87,7 @@ pub extern "C" fn zuntjev_propagate(
 #[no_mangle]
 pub extern "C" fn zuntjev_undo(state: &mut [u8], log: &[u8], cursor: &mut [u8], lit: i32) -> i32
     ensures { λ r. ⌜ back r (now (cursor .exit)) ≡ hostUndone (now (state .entry)) (now (log .entry)) (now (cursor .entry)) lit ⌝ }
-    ensures { λ _. ⌜ AfterOf (tooShort (now (state .entry)) (now (cursor .entry))) (undoneIn (now (state .entry)) (now (log .entry)) (now (cursor .entry)) lit) (now (state .entry)) (now (state .exit)) ⌝ }
+    ensures { λ _. ⌜ Leaves (tooShort (now (state .entry)) (now (cursor .entry))) (undoneIn (now (state .entry)) (now (log .entry)) (now (cursor .entry)) lit) (now (state .entry)) (now (state .exit)) ⌝ }
 {
     if too_short(state, cursor) {
         return -7;

@@ -1,0 +1,137 @@
+-- Decode and encode are inverse on what the calls make: the cursor, the log and the literals that a call writes are read back as such.
+use Prim.Native.Nat.{ℕ, zero, suc, _+_, _-_, _*_, _/_, _%_, _≤_, _<_}
+use native.Mathlib.Omega.{arith}
+use native.Mathlib.Nat.{not-suc-le-zero, eq-or-lt-of-le, zero-add}
+use mathlib.Core.Path.{_≡_, refl, sym, ap, subst, _∙_}
+use mathlib.Core.Bool.{Bool, true, false}
+use mathlib.Core.Logic.{_⊎_, inl, inr, ⊎-elim}
+use mathlib.Core.List.{List}
+use lib.Dec.{ltb}
+use borrow.Author.Tests.{ltb-true, ltb-false}
+use lib.ListN.{length, getD, set, take, replicate, length-set, length-replicate}
+use lib.Seq.{getD-set-same, getD-set-other, getD-take}
+use Rattle.base.specs.Iter.{iter, pick}
+use Rattle.base.specs.Lists.{filled}
+use Rattle.base.proofs.Filled.{filled-length, filled-in}
+use Rattle.base.proofs.Loop.{pick-yes, pick-no, tested}
+use Rattle.undo_log.specs.declared.Cursor.{Cursor}
+use Rattle.noting.specs.Words.{capped}
+use Rattle.host.specs.Bytes.{wordAt, longAt, putHalf, putWord, putLong, putHalves, putLongs}
+use Rattle.host.specs.Layout.{cursorIn, roomOf, recordsIn, logIn}
+use Rattle.host.specs.Stores.{putCursor, putList, putLog}
+use Rattle.host.proofs.Filling.{capped-most, capped-less, room-is, putHalf-length, putHalves-length, putWord-length, putLong-length, putLongs-length}
+use Rattle.host.proofs.Agreeing.{Agree, agree-word, agree-long, agree-then, putWord-agrees, putWord-in, putLong-agrees, putLong-in}
+use Rattle.host.proofs.Using.{capped-is}
+
+cap-yes : (n m : ℕ) → ltb n m ≡ true → capped n m ≡ n
+unfolding capped
+cap-yes n m t = pick-yes n m t
+
+cap-no : (n m : ℕ) → ltb n m ≡ false → capped n m ≡ m
+unfolding capped
+cap-no n m t = pick-no n m t
+
+-- the cursor, where its numbers fit their 4 bytes
+pub cursor-back : (d : Cursor) (b : List ℕ) → d .used < 4294967296 → d .standing < 4294967296 → 8 ≤ length b → cursorIn (putCursor d b) ≡ d
+unfolding cursorIn putCursor
+cursor-back d b u s r =
+    let x : ℕ = d .used % 4294967296 in
+    let y : ℕ = d .standing % 4294967296 in
+    let ex : x ≡ d .used = omega arith in
+    let ey : y ≡ d .standing = omega arith in
+    let p : wordAt (putWord 4 y (putWord 0 x b)) 0 ≡ d .used =
+    agree-word 0 (putWord-agrees 4 y (putWord 0 x b) 0 4 (inl (omega arith))) (omega arith) (omega arith) ∙ (putWord-in 0 x b (omega arith) (omega arith) ∙ ex) in
+    let q : wordAt (putWord 4 y (putWord 0 x b)) 4 ≡ d .standing =
+    putWord-in 4 y (putWord 0 x b) (omega arith) (omega (arith, putWord-length 0 x b)) ∙ ey in
+    λ i. record { used = p i; standing = q i }
+
+-- the log's words from number `from` on
+module _ (l b : List ℕ) (from : ℕ) where
+  longs-agree : (n lo hi : ℕ) → (hi ≤ 8 * from) ⊎ (8 * (from + n) ≤ lo) → Agree lo hi (putLongs l from n b) b
+  unfolding putLongs iter
+  longs-agree zero lo hi h = record { at = λ i k u. refl }
+  longs-agree (suc n) lo hi h = agree-then
+      (putLong-agrees (8 * (from + n)) (getD l (from + n) 0) (putLongs l from n b) lo hi (⊎-elim (λ (k : hi ≤ 8 * from). inl (omega arith)) (λ (k : 8 * (from + suc n) ≤ lo). inr (omega arith)) h))
+      (longs-agree n lo hi (⊎-elim (λ (k : hi ≤ 8 * from). inl k) (λ (k : 8 * (from + suc n) ≤ lo). inr (omega arith)) h))
+
+  longs-in : ((i : ℕ) → getD l i 0 < 18446744073709551616) → (n i : ℕ) → i < n → 8 * (from + n) ≤ length b → longAt (putLongs l from n b) (8 * (from + i)) ≡ getD l (from + i) 0
+  unfolding putLongs iter
+  longs-in f zero i h r = absurd (not-suc-le-zero h)
+  longs-in f (suc n) i h r = ⊎-elim
+      (λ (e : i ≡ n). ap (λ (j : ℕ). longAt (putLong (8 * (from + n)) (getD l (from + n) 0) (putLongs l from n b)) (8 * (from + j))) e ∙ (putLong-in (8 * (from + n)) (getD l (from + n) 0) (putLongs l from n b) (f (from + n)) (omega (arith, putLongs-length l from n b)) ∙ ap (λ (j : ℕ). getD l (from + j) 0) (sym e)))
+      (λ (k : i < n). agree-long (8 * (from + i)) (putLong-agrees (8 * (from + n)) (getD l (from + n) 0) (putLongs l from n b) (8 * (from + i)) (8 * (from + i) + 8) (inl (omega arith))) (omega arith) (omega arith) ∙ longs-in f n i k (omega arith))
+      (eq-or-lt-of-le {n = i} {m = n} (omega arith))
+
+-- a record that is decoded is the one that stands in the bytes
+record-in : (c : Cursor) (log : List ℕ) (i : ℕ) → i < c .used → i < roomOf (length log / 8) → getD (logIn c log) i 0 ≡ longAt log (8 * i)
+unfolding logIn recordsIn
+record-in c log i h r =
+    let room : ℕ = roomOf (length log / 8) in
+    let n : ℕ = capped (c .used) room in
+    let l : i < n = tested (ltb (c .used) room)
+    (λ (t : ltb (c .used) room ≡ true). subst (λ (k : ℕ). i < k) (sym (cap-yes (c .used) room t)) h)
+    (λ (t : ltb (c .used) room ≡ false). subst (λ (k : ℕ). i < k) (sym (cap-no (c .used) room t)) r) in
+    let m : roomOf (length log / 8) ≤ 4352 = omega (arith, room-is (length log / 8), capped-most (length log / 8) 4352) in
+    getD-take room (filled 0 n (λ j. longAt log (8 * j)) (replicate 4352 0)) i 0 r
+    ∙ (ap (λ (j : ℕ). getD (filled 0 n (λ j. longAt log (8 * j)) (replicate 4352 0)) j 0) (sym (zero-add i))
+    ∙ filled-in 0 (λ j. longAt log (8 * j)) (replicate 4352 0) n i l (omega (arith, capped-most (c .used) room, length-replicate {A = ℕ} 4352 0)))
+
+-- the log up to the cursor, where its records are those that were decoded up to the cursor before, and new ones
+pub log-back : (c d : Cursor) (records log : List ℕ) → ((i : ℕ) → getD records i 0 < 18446744073709551616) → length records ≡ roomOf (length log / 8) →
+    ((i : ℕ) → i < c .used → getD records i 0 ≡ getD (logIn c log) i 0) → d .used ≤ length records →
+    (i : ℕ) → i < d .used → getD (logIn d (putLog records (c .used) (d .used) log)) i 0 ≡ getD records i 0
+unfolding putLog
+log-back c d records log small len old fits i h =
+    let room : roomOf (length log / 8) ≤ length log / 8 = omega (arith, room-is (length log / 8), capped-less (length log / 8) 4352) in
+    let e : capped (d .used) (length records) ≡ d .used = capped-is (d .used) (length records) fits in
+    let n : ℕ = capped (d .used) (length records) - c .used in
+    let after : List ℕ = putLongs records (c .used) n log in
+    let same : length after ≡ length log = putLongs-length records (c .used) n log in
+    let r : i < roomOf (length log / 8) = omega arith in
+    record-in d after i h (subst (λ (k : ℕ). i < roomOf (k / 8)) (sym same) r)
+    ∙ tested (ltb i (c .used))
+    (λ (t : ltb i (c .used) ≡ true). let k : i < c .used = ltb-true i (c .used) t in
+    agree-long (8 * i) (longs-agree records log (c .used) n (8 * i) (8 * i + 8) (inl (omega arith))) (omega arith) (omega arith) ∙ (sym (record-in c log i k r) ∙ sym (old i k)))
+    (λ (t : ltb i (c .used) ≡ false). let k : c .used ≤ i = ltb-false i (c .used) t in
+    let q : c .used + (i - c .used) ≡ i = omega arith in
+    subst (λ (j : ℕ). longAt after (8 * j) ≡ getD records j 0) q (longs-in records log (c .used) small n (i - c .used) (omega arith) (omega arith)))
+
+-- the two bytes of literal i of a list
+unfoldable pub halfAt : List ℕ → ℕ → ℕ
+halfAt b i = getD b (2 * i) 0 + 256 * getD b (2 * i + 1) 0
+
+module _ (a x : ℕ) (b : List ℕ) where
+  half-other : (i : ℕ) → (i < a) ⊎ (a + 2 ≤ i) → getD (putHalf a x b) i 0 ≡ getD b i 0
+  unfolding putHalf
+  half-other i h =
+      getD-set-other (set b a (x % 256)) (a + 1) i (x / 256 % 256) 0 (λ (e : i ≡ a + 1). ⊎-elim (λ (k : i < a). omega arith) (λ (k : a + 2 ≤ i). omega arith) h)
+      ∙ getD-set-other b a i (x % 256) 0 (λ (e : i ≡ a). ⊎-elim (λ (k : i < a). omega arith) (λ (k : a + 2 ≤ i). omega arith) h)
+
+  half-in : x < 65536 → a + 2 ≤ length b → getD (putHalf a x b) a 0 + 256 * getD (putHalf a x b) (a + 1) 0 ≡ x
+  unfolding putHalf
+  half-in h r =
+      let p : getD (set (set b a (x % 256)) (a + 1) (x / 256 % 256)) a 0 ≡ x % 256 =
+      getD-set-other (set b a (x % 256)) (a + 1) a (x / 256 % 256) 0 (λ (e : a ≡ a + 1). omega arith) ∙ getD-set-same b a (x % 256) 0 (omega arith) in
+      let q : getD (set (set b a (x % 256)) (a + 1) (x / 256 % 256)) (a + 1) 0 ≡ x / 256 % 256 =
+      getD-set-same (set b a (x % 256)) (a + 1) (x / 256 % 256) 0 (omega (arith, length-set b a (x % 256))) in
+      let s : x / 256 % 256 ≡ x / 256 = omega arith in
+      omega (arith, p, q, s)
+
+halves-back : (l b : List ℕ) → ((i : ℕ) → getD l i 0 < 65536) → (n i : ℕ) → i < n → 2 * n ≤ length b → halfAt (putHalves l n b) i ≡ getD l i 0
+unfolding putHalves iter halfAt
+halves-back l b small zero i h r = absurd (not-suc-le-zero h)
+halves-back l b small (suc n) i h r = ⊎-elim
+    (λ (e : i ≡ n). subst (λ (j : ℕ). getD (putHalf (2 * n) (getD l n 0) (putHalves l n b)) (2 * j) 0 + 256 * getD (putHalf (2 * n) (getD l n 0) (putHalves l n b)) (2 * j + 1) 0 ≡ getD l j 0) (sym e)
+    (half-in (2 * n) (getD l n 0) (putHalves l n b) (small n) (omega (arith, putHalves-length l n b))))
+    (λ (k : i < n). (λ j. half-other (2 * n) (getD l n 0) (putHalves l n b) (2 * i) (inl (omega arith)) j + 256 * half-other (2 * n) (getD l n 0) (putHalves l n b) (2 * i + 1) (inl (omega arith)) j)
+    ∙ halves-back l b small n i k (omega arith))
+    (eq-or-lt-of-le {n = i} {m = n} (omega arith))
+
+-- the literals of a list, where they fit their 2 bytes: as many as are given and as the list has
+pub list-back : (l b : List ℕ) (n : ℕ) → ((i : ℕ) → getD l i 0 < 65536) → 2 * length l ≤ length b → (i : ℕ) → i < n → i < length l → halfAt (putList l n b) i ≡ getD l i 0
+unfolding putList
+list-back l b n small r i h k = halves-back l b small (capped n (length l)) i
+    (tested (ltb n (length l))
+    (λ (t : ltb n (length l) ≡ true). subst (λ (m : ℕ). i < m) (sym (cap-yes n (length l) t)) h)
+    (λ (t : ltb n (length l) ≡ false). subst (λ (m : ℕ). i < m) (sym (cap-no n (length l) t)) k))
+    (omega (arith, capped-most n (length l)))
