@@ -10,4 +10,5 @@ pub mod Outside
 pub mod Using
 pub mod Building
 pub mod LastList
+pub mod Fitting
 pub mod ReadBack

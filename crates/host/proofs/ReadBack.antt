@@ -3,25 +3,47 @@ use Prim.Native.Nat.{ℕ, zero, suc, _+_, _-_, _*_, _/_, _%_, _≤_, _<_}
 use native.Mathlib.Omega.{arith}
 use native.Mathlib.Nat.{not-suc-le-zero, eq-or-lt-of-le, zero-add}
 use mathlib.Core.Path.{_≡_, refl, sym, ap, subst, _∙_}
-use mathlib.Core.Bool.{Bool, true, false}
+use mathlib.Core.Bool.{Bool, true, false, _||_}
 use mathlib.Core.Logic.{_⊎_, inl, inr, ⊎-elim}
 use mathlib.Core.List.{List}
-use lib.Dec.{ltb}
-use borrow.Author.Tests.{ltb-true, ltb-false}
+use lib.Dec.{ltb, eqb}
+use lib.IntN.{ℤ, pos}
+use borrow.Author.Tests.{ltb-true, ltb-false, eqb-true}
 use lib.ListN.{length, getD, set, take, replicate, length-set, length-replicate}
 use lib.Seq.{getD-set-same, getD-set-other, getD-take}
 use Rattle.base.specs.Iter.{iter, pick}
 use Rattle.base.specs.Lists.{filled}
 use Rattle.base.proofs.Filled.{filled-length, filled-in}
-use Rattle.base.proofs.Loop.{pick-yes, pick-no, tested}
+use Rattle.base.specs.Range.{inRange}
+use Rattle.base.proofs.Loop.{pick-yes, pick-no, pick-ind, tested}
+use Rattle.base.proofs.Tests.{or-none}
 use Rattle.undo_log.specs.declared.Cursor.{Cursor}
 use Rattle.noting.specs.Words.{capped}
+use Rattle.noting.specs.Note.{Noting, noting}
+use Rattle.noting.specs.Undo.{recordsOf, kept, undo}
+use Rattle.noting.specs.Buffers.{logShort}
+use Rattle.noting.specs.Replay.{logBad}
+use Rattle.plan.specs.Check.{planBad}
+use Rattle.refusals.specs.Refusals.{litNumber, stateBad, tableStateBad, propagateRefusal, undoRefusal}
+use Rattle.refusals.proofs.Accepted.{pick-zero}
+use Rattle.judge.specs.declared.Judgement.{Judgement}
+use Rattle.judge.specs.declared.Judgement.the-variants.{Fine, Clash, Stopped}
+use Rattle.judge.specs.Judge.{Judged}
+use Rattle.graph_division.specs.declared.GraphDivision.{GraphDivision}
+use Rattle.graph_division.specs.declared.Outcome.{Outcome}
+use Rattle.graph_division.specs.declared.Answer.the-variants as answer
+use Rattle.graph_division.specs.Calls.{Called, called, outcome, refuse, withNoted, notedIn, adding, accepting, handingOn, settledBy, settled, propagated, undone}
+use Rattle.host.specs.Codes.{isRefused}
+use Rattle.host.specs.Host.{leftBy, leftOf, propagatedIn, backOf, backBy, undoneIn}
 use Rattle.host.specs.Bytes.{wordAt, longAt, putHalf, putWord, putLong, putHalves, putLongs}
-use Rattle.host.specs.Layout.{cursorIn, roomOf, recordsIn, logIn}
+use Rattle.host.specs.Layout.{planIn, wordsIn, stateIn, cursorIn, roomOf, recordsIn, logIn, listIn}
 use Rattle.host.specs.Stores.{putCursor, putList, putLog}
 use Rattle.host.proofs.Filling.{capped-most, capped-less, room-is, putHalf-length, putHalves-length, putWord-length, putLong-length, putLongs-length}
 use Rattle.host.proofs.Agreeing.{Agree, agree-word, agree-long, agree-then, putWord-agrees, putWord-in, putLong-agrees, putLong-in}
 use Rattle.host.proofs.Using.{capped-is}
+use Rattle.host.proofs.Leaving.{room-length}
+use Rattle.host.proofs.LastList.{Bytes, word-fits}
+use Rattle.host.proofs.Fitting.{Kept, plan-under, words-under, log-under, note-kept, number-under, undo-less}
 
 cap-yes : (n m : ℕ) → ltb n m ≡ true → capped n m ≡ n
 unfolding capped
@@ -135,3 +157,130 @@ list-back l b n small r i h k = halves-back l b small (capped n (length l)) i
     (λ (t : ltb n (length l) ≡ true). subst (λ (m : ℕ). i < m) (sym (cap-yes n (length l) t)) h)
     (λ (t : ltb n (length l) ≡ false). subst (λ (m : ℕ). i < m) (sym (cap-no n (length l) t)) k))
     (omega (arith, capped-most n (length l)))
+
+-- ---- what calls make
+-- Of a call over bytes: the cursor's bytes after it are read as the cursor of the outcome, and the log's up to it as the records up to it.
+pub record ReadsBack (c : Cursor) (y : Called) (list log cursor : List ℕ) : Type 0 where
+  pub cursor-is : cursorIn (leftOf c y list log cursor .cursor) ≡ y .outcome .cursor
+  pub log-is : (i : ℕ) → i < y .outcome .cursor .used → getD (logIn (y .outcome .cursor) (leftOf c y list log cursor .log)) i 0 ≡ getD (y .log) i 0
+
+log-length : (c : Cursor) (log : List ℕ) → length (logIn c log) ≡ roomOf (length log / 8)
+unfolding logIn recordsIn
+log-length c log = room-length (length log / 8) (recordsIn c log) (filled-length 0 _ (replicate 4352 0) _ ∙ length-replicate {A = ℕ} 4352 0)
+
+room-few : (n : ℕ) → roomOf n ≤ 4352
+room-few n = omega (arith, room-is n, capped-most n 4352)
+
+-- 7, "cursor past the log", does not apply
+cursor-within : (ws : List ℕ) (ends : List (List ℕ)) (noted log : List ℕ) (c : Cursor) → stateBad ws ends noted log c ≡ false → c .used ≤ length log
+unfolding stateBad logBad
+cursor-within ws ends noted log c e =
+    let p = or-none (planBad ws ends) (logShort ws (length log) || logBad ws noted log c) e .1 in
+    let q = or-none (logShort ws (length log)) (logBad ws noted log c) p .1 in
+    ltb-false (length log) (c .used) (or-none (ltb (length log) (c .used)) _ q .0)
+
+propagate-within : (ws : List ℕ) (ends : List (List ℕ)) (noted t : List ℕ) (n : ℕ) (log : List ℕ) (c : Cursor) (lit : ℤ) → propagateRefusal ws ends noted t n log c lit ≡ 0 → c .used ≤ length log
+unfolding propagateRefusal tableStateBad
+propagate-within ws ends noted t n log c lit e = cursor-within ws ends noted log c (or-none (stateBad ws ends noted log c) _ (pick-zero (tableStateBad ws ends noted t n log c) 7 _ (omega arith) e .0) .0)
+
+undo-within : (ws : List ℕ) (ends : List (List ℕ)) (noted log : List ℕ) (c : Cursor) (lit : ℤ) → undoRefusal ws ends noted log c lit ≡ 0 → c .used ≤ length log
+unfolding undoRefusal
+undo-within ws ends noted log c lit e = cursor-within ws ends noted log c (pick-zero (stateBad ws ends noted log c) 7 _ (omega arith) e .0)
+
+module _ (state t list log cursor : List ℕ) (lit pending : ℤ) (hs : Bytes state) (hl : Bytes log) (hc : Bytes cursor) (long : 8 ≤ length cursor) where
+  abbrev c : Cursor
+  c = cursorIn cursor
+
+  abbrev s : GraphDivision
+  s = stateIn state
+
+  abbrev records : List ℕ
+  records = logIn c log
+
+  few : length records ≤ 4352
+  few = omega (arith, log-length c log, room-few (length log / 8))
+
+  start : Kept c records records c
+  unfolding cursorIn
+  start = record {
+    long = refl;
+    old = λ i k. refl;
+    further = omega arith;
+    used = word-fits cursor 0 hc;
+    standing = word-fits cursor 4 hc;
+    room = λ k. k;
+    words = log-under c log hl;
+  }
+
+  -- the literal is noted
+  noted-kept : (l : ℕ) → l < 65536 → Kept c records (notedIn s c l records .log) (notedIn s c l records .cursor)
+  unfolding notedIn stateIn
+  noted-kept l h = note-kept c records few (planIn state) (plan-under state hs) l h (noting (wordsIn state 61220 384) records c) (start, words-under state 61220 384 hs) .0
+
+  kept-back : (d : Cursor) (after : List ℕ) → c .used ≤ length records → Kept c records after d →
+      (cursorIn (putCursor d cursor) ≡ d) × ((i : ℕ) → i < d .used → getD (logIn d (putLog after (c .used) (d .used) log)) i 0 ≡ getD after i 0)
+  kept-back d after r k = (
+    cursor-back d cursor (k .used) (k .standing) long,
+    log-back c d after log (k .words) (k .long ∙ log-length c log) (k .old) (omega (arith, k .room r, k .long)),
+  )
+
+  refused-back : (n : ℕ) (t′ l : List ℕ) → ReadsBack c (called (refuse n s c) t′ l records) list log cursor
+  unfolding refuse leftOf leftBy isRefused pick
+  refused-back n t′ l = record { cursor-is = refl; log-is = λ i k. refl }
+
+  module _ (l : ℕ) (small : l < 65536) (r : c .used ≤ length records) where
+    noted-back : (t′ list′ : List ℕ) → ReadsBack c (adding s c l t′ list′ records) list log cursor
+    unfolding adding leftOf leftBy isRefused pick
+    noted-back t′ list′ = let k = kept-back (notedIn s c l records .cursor) (notedIn s c l records .log) r (noted-kept l small) in record { cursor-is = k .0; log-is = k .1 }
+
+    settled-by-back : (j : Judged) (x : Judgement) (t′ list′ : List ℕ) → ReadsBack c (settledBy s c l j x t′ list′ records) list log cursor
+    unfolding settledBy handingOn accepting leftOf leftBy isRefused pick
+    settled-by-back j Fine t′ list′ = let k = kept-back (notedIn s c l records .cursor) (notedIn s c l records .log) r (noted-kept l small) in record { cursor-is = k .0; log-is = k .1 }
+    settled-by-back j (Clash n) t′ list′ = let k = kept-back (notedIn s c l records .cursor) (notedIn s c l records .log) r (noted-kept l small) in record { cursor-is = k .0; log-is = k .1 }
+    settled-by-back j (Stopped n) t′ list′ = refused-back n t′ list′
+
+    settled-back : (t′ list′ : List ℕ) → ReadsBack c (settled s c l t′ list′ records) list log cursor
+    unfolding settled
+    settled-back t′ list′ = settled-by-back _ _ t′ list′
+
+  -- `zuntjev_propagate`, accepted or refused
+  pub propagate-reads-back : ReadsBack c (propagatedIn state t list log cursor lit pending) list log cursor
+  unfolding propagatedIn propagated propagateRefusal
+  propagate-reads-back = pick-ind (λ (y : Called). ReadsBack c y list log cursor) (eqb (propagateRefusal (s .plan) (s .edges .ends) (s .noted) t (length (listIn list)) records c lit) 0) _ _
+      (λ (e : eqb (propagateRefusal (s .plan) (s .edges .ends) (s .noted) t (length (listIn list)) records c lit) 0 ≡ true).
+      let r : c .used ≤ length records = propagate-within (s .plan) (s .edges .ends) (s .noted) t (length (listIn list)) records c lit (eqb-true _ 0 e) in
+      pick-ind (λ (y : Called). ReadsBack c y list log cursor) (inRange (pos 0) pending) _ _
+      (λ _. settled-back (litNumber lit) (number-under lit) r t (listIn list))
+      (λ _. noted-back (litNumber lit) (number-under lit) r t (listIn list)))
+      (λ _. refused-back _ t (listIn list))
+
+-- `zuntjev_undo`: the log's bytes stay, and are read up to the cursor after it as they were before
+module _ (state log cursor : List ℕ) (lit : ℤ) (hc : Bytes cursor) (long : 8 ≤ length cursor) where
+  abbrev UndoBack : Outcome → Type 0
+  UndoBack y = (cursorIn (backBy y cursor .cursor) ≡ y .cursor) × ((i : ℕ) → i < y .cursor .used → getD (logIn (y .cursor) log) i 0 ≡ getD (logIn (cursorIn cursor) log) i 0)
+
+  shorter : (d : Cursor) → d .used ≤ wordAt cursor 0 → wordAt cursor 0 ≤ length (logIn (cursorIn cursor) log) → (i : ℕ) → i < d .used → getD (logIn d log) i 0 ≡ getD (logIn (cursorIn cursor) log) i 0
+  unfolding cursorIn
+  shorter d h r i k =
+      let l : i < roomOf (length log / 8) = omega (arith, log-length (cursorIn cursor) log) in
+      record-in d log i k l ∙ sym (record-in (cursorIn cursor) log i (omega arith) l)
+
+  undone-back : wordAt cursor 0 ≤ length (logIn (cursorIn cursor) log) → (noted : List ℕ) →
+      UndoBack (outcome (withNoted (undo (noting noted (logIn (cursorIn cursor) log) (cursorIn cursor)) .noted) (stateIn state)) (undo (noting noted (logIn (cursorIn cursor) log) (cursorIn cursor)) .cursor) answer.Undone)
+  unfolding backBy backOf isRefused pick undo cursorIn
+  undone-back r noted =
+      let n : ℕ = wordAt cursor 0 in
+      let d : Cursor = record { used = kept (recordsOf (logIn (cursorIn cursor) log) n); standing = wordAt cursor 4 - 1 } in
+      let u : d .used ≤ n = undo-less (logIn (cursorIn cursor) log) n in
+      (cursor-back d cursor (omega (arith, word-fits cursor 0 hc)) (omega (arith, word-fits cursor 4 hc)) long, shorter d u r)
+
+  refused-same : (n : ℕ) → UndoBack (refuse n (stateIn state) (cursorIn cursor))
+  unfolding backBy backOf isRefused pick refuse
+  refused-same n = (refl, λ i k. refl)
+
+  pub undo-reads-back : UndoBack (undoneIn state log cursor lit)
+  unfolding undoneIn undone refuse cursorIn
+  undo-reads-back = pick-ind UndoBack (eqb (undoRefusal (stateIn state .plan) (stateIn state .edges .ends) (stateIn state .noted) (logIn (cursorIn cursor) log) (cursorIn cursor) lit) 0) _ _
+      (λ (e : eqb (undoRefusal (stateIn state .plan) (stateIn state .edges .ends) (stateIn state .noted) (logIn (cursorIn cursor) log) (cursorIn cursor) lit) 0 ≡ true).
+      undone-back (undo-within (stateIn state .plan) (stateIn state .edges .ends) (stateIn state .noted) (logIn (cursorIn cursor) log) (cursorIn cursor) lit (eqb-true _ 0 e)) (stateIn state .noted))
+      (λ _. refused-same _)
