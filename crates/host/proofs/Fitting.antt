@@ -44,12 +44,12 @@ module _ (k : ℕ) where
   set-under (x ∷ l) (suc p) v h q zero = h 0
   set-under (x ∷ l) (suc p) v h q (suc i) = set-under l p v (λ j. h (suc j)) q i
 
-  none-under : (n : ℕ) → 0 < k → Under k (replicate n 0)
+  pub none-under : (n : ℕ) → 0 < k → Under k (replicate n 0)
   none-under zero h i = h
   none-under (suc n) h zero = h
   none-under (suc n) h (suc i) = none-under n h i
 
-  take-under : (n : ℕ) (l : List ℕ) → 0 < k → Under k l → Under k (take n l)
+  pub take-under : (n : ℕ) (l : List ℕ) → 0 < k → Under k l → Under k (take n l)
   take-under zero l z h i = z
   take-under (suc n) [] z h i = z
   take-under (suc n) (x ∷ l) z h zero = h 0

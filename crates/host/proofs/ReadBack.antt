@@ -15,7 +15,7 @@ use Rattle.base.specs.Iter.{iter, pick}
 use Rattle.base.specs.Lists.{filled}
 use Rattle.base.proofs.Filled.{filled-length, filled-in}
 use Rattle.base.specs.Range.{inRange}
-use Rattle.base.proofs.Loop.{pick-yes, pick-no, pick-ind, tested}
+use Rattle.base.proofs.Loop.{pick-yes, pick-no, pick-ind, iter-ind, tested}
 use Rattle.base.proofs.Tests.{or-none}
 use Rattle.undo_log.specs.declared.Cursor.{Cursor}
 use Rattle.noting.specs.Words.{capped}
@@ -24,6 +24,11 @@ use Rattle.noting.specs.Undo.{recordsOf, kept, undo}
 use Rattle.noting.specs.Buffers.{logShort}
 use Rattle.noting.specs.Replay.{logBad}
 use Rattle.plan.specs.Check.{planBad}
+use Rattle.plan.specs.Words.{variablesOf, uniqueLitAt}
+use Rattle.plan.specs.Proper.{ProperWords}
+use Rattle.plan.proofs.Proper.{proper}
+use Rattle.sweep.specs.Sweep.{Handed, handing, handed, handedAt, handedOn}
+use Rattle.walks.specs.Written.{Out, pushed}
 use Rattle.refusals.specs.Refusals.{litNumber, stateBad, tableStateBad, propagateRefusal, undoRefusal}
 use Rattle.refusals.proofs.Accepted.{pick-zero}
 use Rattle.judge.specs.declared.Judgement.{Judgement}
@@ -41,9 +46,9 @@ use Rattle.host.specs.Stores.{putCursor, putList, putLog}
 use Rattle.host.proofs.Filling.{capped-most, capped-less, room-is, putHalf-length, putHalves-length, putWord-length, putLong-length, putLongs-length}
 use Rattle.host.proofs.Agreeing.{Agree, agree-word, agree-long, agree-then, putWord-agrees, putWord-in, putLong-agrees, putLong-in}
 use Rattle.host.proofs.Using.{capped-is}
-use Rattle.host.proofs.Leaving.{room-length}
+use Rattle.host.proofs.Leaving.{room-length, list-room}
 use Rattle.host.proofs.LastList.{Bytes, word-fits}
-use Rattle.host.proofs.Fitting.{Kept, plan-under, words-under, log-under, note-kept, number-under, undo-less}
+use Rattle.host.proofs.Fitting.{Under, set-under, none-under, take-under, Kept, plan-under, words-under, log-under, note-kept, number-under, undo-less}
 
 cap-yes : (n m : ℕ) → ltb n m ≡ true → capped n m ≡ n
 unfolding capped
@@ -253,6 +258,67 @@ module _ (state t list log cursor : List ℕ) (lit pending : ℤ) (hs : Bytes st
       (λ _. settled-back (litNumber lit) (number-under lit) r t (listIn list))
       (λ _. noted-back (litNumber lit) (number-under lit) r t (listIn list)))
       (λ _. refused-back _ t (listIn list))
+
+-- the literals that are handed on are those of the plan
+module _ (ws : List ℕ) (ends : List (List ℕ)) (k : ProperWords ws ends) where
+  unique-under : (p : ℕ) → p < 2 * variablesOf ws → uniqueLitAt ws p < 65536
+  unique-under p h = omega (arith, k .listed (p / 2) (omega arith) .range)
+
+  -- and the list is as long as it was
+  abbrev Lits : ℕ → List ℕ → Type 0
+  Lits n l = Under 65536 l × (length l ≡ n)
+
+  at-under : (n : ℕ) (words : List ℕ) (p : ℕ) (x : Handed) → p < 2 * variablesOf ws → Lits n (x .out .text) → Lits n (handedAt ws words p x .out .text)
+  unfolding handedAt handed pushed
+  at-under n words p x l v =
+      let small = unique-under p l in
+      pick-ind (λ (y : Handed). Lits n (y .out .text)) _ _ _
+      (λ _. pick-ind (λ (y : Handed). Lits n (y .out .text)) _ _ _
+      (λ _. pick-ind (λ (o : Out). Lits n (o .text)) _ _ _
+      (λ _. (set-under 65536 (x .out .text) (x .out .place) (uniqueLitAt ws p % 4294967296) (v .0) (omega arith), length-set (x .out .text) (x .out .place) (uniqueLitAt ws p % 4294967296) ∙ v .1)) (λ _. v))
+      (λ _. v))
+      (λ _. v)
+
+  handed-under : (n : ℕ) (words : List ℕ) (h : Handed) → Lits n (h .out .text) → Lits n (handedOn ws words h .out .text)
+  unfolding handedOn
+  handed-under n words h u = iter-ind (λ i (x : Handed). Lits n (x .out .text)) (handedAt ws words) h (2 * variablesOf ws) u (λ p x l v. at-under n words p x l v)
+
+propagate-proper : (ws : List ℕ) (ends : List (List ℕ)) (noted t : List ℕ) (n : ℕ) (log : List ℕ) (c : Cursor) (lit : ℤ) → propagateRefusal ws ends noted t n log c lit ≡ 0 → ProperWords ws ends
+unfolding propagateRefusal tableStateBad stateBad
+propagate-proper ws ends noted t n log c lit e =
+    let p = or-none (stateBad ws ends noted log c) _ (pick-zero (tableStateBad ws ends noted t n log c) 7 _ (omega arith) e .0) .0 in
+    proper ws ends (or-none (planBad ws ends) _ p .0)
+
+-- `zuntjev_propagate`: the literals handed on are read back from the list's bytes
+module _ (state t list log cursor : List ℕ) (lit pending : ℤ) where
+  abbrev Handing : Called → Type 0
+  Handing y = Under 65536 (y .list) × (length (y .list) ≡ length (listIn list))
+
+  blank-under : Under 65536 (listIn list) × (length (listIn list) ≡ length (listIn list))
+  unfolding listIn
+  blank-under = (take-under 65536 (roomOf (length list / 2)) (replicate 4352 0) (omega arith) (none-under 65536 4352 (omega arith)), refl)
+
+  settled-under : (ends : List (List ℕ)) (s : GraphDivision) (c : Cursor) → ProperWords (s .plan) ends → (l : ℕ) (j : Judged) (x : Judgement) (records : List ℕ) → Handing (settledBy s c l j x t (listIn list) records)
+  unfolding settledBy handingOn accepting
+  settled-under ends s c k l j Fine records = handed-under (s .plan) ends k (length (listIn list)) (j .proposals) (handing t (listIn list) 0) blank-under
+  settled-under ends s c k l j (Clash n) records = blank-under
+  settled-under ends s c k l j (Stopped n) records = blank-under
+
+  given-under : Handing (propagatedIn state t list log cursor lit pending)
+  unfolding propagatedIn propagated settled adding
+  given-under =
+      let s = stateIn state in
+      let c = cursorIn cursor in
+      pick-ind Handing (eqb (propagateRefusal (s .plan) (s .edges .ends) (s .noted) t (length (listIn list)) (logIn c log) c lit) 0) _ _
+      (λ (e : eqb (propagateRefusal (s .plan) (s .edges .ends) (s .noted) t (length (listIn list)) (logIn c log) c lit) 0 ≡ true).
+      pick-ind Handing (inRange (pos 0) pending) _ _
+      (λ _. settled-under (s .edges .ends) s c (propagate-proper (s .plan) (s .edges .ends) (s .noted) t (length (listIn list)) (logIn c log) c lit (eqb-true _ 0 e)) (litNumber lit) _ _ (logIn c log))
+      (λ _. blank-under))
+      (λ _. blank-under)
+
+  pub handed-reads-back : (n i : ℕ) → i < n → i < length (propagatedIn state t list log cursor lit pending .list) →
+      halfAt (putList (propagatedIn state t list log cursor lit pending .list) n list) i ≡ getD (propagatedIn state t list log cursor lit pending .list) i 0
+  handed-reads-back n i h k = list-back (propagatedIn state t list log cursor lit pending .list) list n (given-under .0) (omega (arith, given-under .1, list-room list)) i h k
 
 -- `zuntjev_undo`: the log's bytes stay, and are read up to the cursor after it as they were before
 module _ (state log cursor : List ℕ) (lit : ℤ) (hc : Bytes cursor) (long : 8 ≤ length cursor) where
