@@ -7,3 +7,9 @@ pub mod Leaving
 pub mod Fetching
 pub mod Undoing
 pub mod Initializing
+pub mod Outside
+pub mod Using
+pub mod Building
+pub mod LastList
+pub mod Fitting
+pub mod ReadBack

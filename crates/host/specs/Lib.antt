@@ -3,3 +3,5 @@ pub mod Layout
 pub mod Stores
 pub mod Codes
 pub mod Host
+pub mod Build
+pub mod After

@@ -1,9 +1,10 @@
 -- What a call writes to the bytes. What it does not write stays.
 use mathlib.Core.Bool.{Bool}
-use mathlib.Core.List.{List}
+use mathlib.Core.List.{List, []}
 use Prim.Native.Nat.{ℕ, _+_, _-_, _*_, _/_, _%_}
-use lib.ListN.{length, getD}
+use lib.ListN.{length, getD, set}
 use Rattle.base.specs.Iter.{iter, pick}
+use Rattle.base.specs.Lists.{filled}
 use Rattle.undo_log.specs.declared.Cursor.{Cursor}
 use Rattle.plan.specs.Words.{variablesOf}
 use Rattle.noting.specs.Words.{capped}
@@ -34,3 +35,14 @@ putList l n b = putHalves l (capped n (length l)) b
 -- the log's records from one cursor to the other
 unfoldable pub putLog : List ℕ → ℕ → ℕ → List ℕ → List ℕ
 putLog l from to b = putLongs l from (capped to (length l) - from) b
+
+-- the two ends of edge g of the table, and those of all
+unfoldable pub putEnds : List (List ℕ) → ℕ → List ℕ → List ℕ
+putEnds t g b = set (set b (60964 + 2 * g) (getD (getD t g []) 0 0)) (60965 + 2 * g) (getD (getD t g []) 1 0)
+
+unfoldable pub putEdges : List (List ℕ) → List ℕ → List ℕ
+putEdges t b = iter (putEnds t) 128 b
+
+-- no list left, not initialized, and no reasons
+unfoldable pub cleared : List ℕ → List ℕ
+cleared b = filled 62756 70684 (λ i. 0) b

@@ -4,16 +4,17 @@ use crate::decode::no_notes;
 use crate::store::store_noted;
 use builder::build::GraphDivisionOptions;
 ghost use mathlib.Core.Path.{_≡_};
-ghost use mathlib.Core.Bool.{not};
+ghost use mathlib.Core.Bool.{not, false};
 ghost use Prim.Native.Nat.{ℕ, _+_, _*_, _≤_, _<_};
 ghost use lib.IntN.{pos};
 ghost use lib.ListN.{length, getD};
-ghost use Rattle.base.specs.Lists.{filled};
 ghost use Rattle.base.specs.Range.{inRange};
-ghost use Rattle.builder.specs.Build.{planWords, edgeTable};
-ghost use Rattle.noting.specs.Words.{fresh};
-ghost use Rattle.host.specs.Bytes.{putWords};
-ghost use Rattle.host.specs.Stores.{putNoted};
+ghost use Rattle.builder.specs.Input.{refusal};
+ghost use Rattle.graph_division.specs.New.{built};
+ghost use Rattle.host.specs.Bytes.{wordAt, putWords};
+ghost use Rattle.host.specs.Layout.{wordsIn};
+ghost use Rattle.host.specs.Stores.{putNoted, putEnds, putEdges, cleared};
+ghost use Rattle.host.specs.Build.{BuildAfter};
 
 // An option other than 0 counts as 1.
 pub(crate) fn option(n: i32) -> bool
@@ -27,7 +28,7 @@ pub(crate) fn option(n: i32) -> bool
 
 fn store_ends(state: &mut [u8], table: &[[u8; 2]; 128], g: usize)
     requires { ⌜ (133440 ≤ length (now state)) × (g < 128) ⌝ }
-    ensures { λ _. ⌜ length (now (state .exit)) ≡ length (now (state .entry)) ⌝ }
+    ensures { λ _. ⌜ now (state .exit) ≡ putEnds (now (table .entry)) g (now (state .entry)) ⌝ }
 {
     state[60964 + 2 * g] = table[g][0];
     state[60965 + 2 * g] = table[g][1];
@@ -35,7 +36,7 @@ fn store_ends(state: &mut [u8], table: &[[u8; 2]; 128], g: usize)
 
 fn store_edges(state: &mut [u8], table: &[[u8; 2]; 128])
     requires { ⌜ 133440 ≤ length (now state) ⌝ }
-    ensures { λ _. ⌜ length (now (state .exit)) ≡ length (now (state .entry)) ⌝ }
+    ensures { λ _. ⌜ now (state .exit) ≡ putEdges (now (table .entry)) (now (state .entry)) ⌝ }
 {
     let mut g = 0;
     while g < 128 {
@@ -47,7 +48,7 @@ fn store_edges(state: &mut [u8], table: &[[u8; 2]; 128])
 // No list left, not initialized, and no reasons.
 fn clear(state: &mut [u8])
     requires { ⌜ 133440 ≤ length (now state) ⌝ }
-    ensures { λ _. ⌜ now (state .exit) ≡ filled 62756 70684 (λ i. 0) (now (state .entry)) ⌝ }
+    ensures { λ _. ⌜ now (state .exit) ≡ cleared (now (state .entry)) ⌝ }
 {
     let mut i = 0;
     while i < 70684 {
@@ -56,12 +57,21 @@ fn clear(state: &mut [u8])
     }
 }
 
-// The plan's words and the noted ones.
-fn store_words<'a>(state: &mut [u8], plan: &'a [u32; 15241], noted: &'a [u32; 384])
-    requires { ⌜ 133440 ≤ length (now state) ⌝ }
-    ensures { λ _. ⌜ length (now (state .exit)) ≡ length (now (state .entry)) ⌝ }
+// The plan's words: each reads back.
+fn store_plan(state: &mut [u8], plan: &[u32])
+    requires { ⌜ (133440 ≤ length (now state)) × (length (now plan) ≡ 15241) ⌝ }
+    ensures { λ _. ⌜ (now (state .exit) ≡ putWords 0 (now (plan .entry)) 15241 (now (state .entry))) × ((i : ℕ) → i < 15241 → wordAt (now (state .exit)) (4 * i) ≡ getD (now (plan .entry)) i 0) ⌝ }
 {
     write_words(state, 0, plan, 15241);
+}
+
+// And the noted ones.
+fn store_words<'a>(state: &mut [u8], plan: &'a [u32; 15241], noted: &'a [u32; 384])
+    requires { ⌜ 133440 ≤ length (now state) ⌝ }
+    ensures { λ _. ⌜ (now (state .exit) ≡ putNoted (now (noted .entry)) (putWords 0 (now (plan .entry)) 15241 (now (state .entry))))
+        × ((i : ℕ) → i < 15241 → wordAt (now (state .exit)) (4 * i) ≡ getD (now (plan .entry)) i 0) × (wordsIn (now (state .exit)) 61220 384 ≡ now (noted .entry)) ⌝ }
+{
+    store_plan(state, plan);
     store_noted(state, noted);
 }
 
@@ -73,8 +83,8 @@ pub(crate) fn build<'a>(
     options: GraphDivisionOptions,
     state: &mut [u8],
 )
-    requires { ⌜ 133440 ≤ length (now state) ⌝ }
-    ensures { λ _. ⌜ length (now (state .exit)) ≡ length (now (state .entry)) ⌝ }
+    requires { ⌜ (133440 ≤ length (now state)) × (refusal (now vertices) n (now edges) m ≡ 0) ⌝ }
+    ensures { λ _. ⌜ BuildAfter false (built (now (vertices .entry)) n (now (edges .entry)) m (options .«disallow_adjacent_same_size_regions») (options .«allow_extra_walls») .state) (now (state .entry)) (now (state .exit)) ⌝ }
 {
     let words = builder::build::plan_words(vertices, n, edges, m, options);
     let plan = words.words;

@@ -13,7 +13,9 @@ use builder::build::GraphDivisionOptions;
 ghost use mathlib.Core.Path.{_≡_};
 ghost use mathlib.Core.Bool.{true, false};
 ghost use lib.ListN.{length};
-ghost use Rattle.host.specs.Host.{left, back, tooShort, hostInitialized, initializedIn, hostPropagated, propagatedIn, hostUndone, undoneIn, hostReason, hostLast, AfterOf, buildCode, StateAfter};
+ghost use Rattle.host.specs.Host.{left, back, tooShort, hostInitialized, initializedIn, hostPropagated, propagatedIn, hostUndone, undoneIn, hostReason, hostLast, buildCode};
+ghost use Rattle.host.specs.After.{Leaves};
+ghost use Rattle.host.specs.Build.{BuiltIn};
 
 fn too_short(state: &[u8], cursor: &[u8]) -> bool
     ensures { λ r. ⌜ r ≡ tooShort (now (state .entry)) (now (cursor .entry)) ⌝ }
@@ -36,6 +38,7 @@ pub extern "C" fn zuntjev_build<'a>(
     state: &mut [u8],
 ) -> i32
     ensures { λ r. ⌜ r ≡ buildCode (now (vertices .entry)) n (now (edges .entry)) m (now (state .entry)) ⌝ }
+    ensures { λ _. ⌜ BuiltIn (now (vertices .entry)) n (now (edges .entry)) m «same_size» «extra_walls» (now (state .entry)) (now (state .exit)) ⌝ }
 {
     let refusal = builder::input::refusal_of(vertices, n, edges, m);
     if refusal == 0 {
@@ -63,7 +66,7 @@ pub extern "C" fn zuntjev_initialize(
 ) -> i32
     ensures { λ r. ⌜ left r (now (table .exit)) (now (list .exit)) (now (log .exit)) (now (cursor .exit))
         ≡ hostInitialized (now (state .entry)) (now (table .entry)) (now (list .entry)) (now (log .entry)) (now (cursor .entry)) ⌝ }
-    ensures { λ _. ⌜ AfterOf (tooShort (now (state .entry)) (now (cursor .entry))) (initializedIn (now (state .entry)) (now (table .entry)) (now (list .entry)) (now (log .entry)) (now (cursor .entry)) .outcome) (now (state .entry)) (now (state .exit)) ⌝ }
+    ensures { λ _. ⌜ Leaves (tooShort (now (state .entry)) (now (cursor .entry))) (initializedIn (now (state .entry)) (now (table .entry)) (now (list .entry)) (now (log .entry)) (now (cursor .entry)) .outcome) (now (state .entry)) (now (state .exit)) ⌝ }
 {
     if too_short(state, cursor) {
         return -7;
@@ -84,7 +87,7 @@ pub extern "C" fn zuntjev_propagate(
 ) -> i32
     ensures { λ r. ⌜ left r (now (table .exit)) (now (list .exit)) (now (log .exit)) (now (cursor .exit))
         ≡ hostPropagated (now (state .entry)) (now (table .entry)) (now (list .entry)) (now (log .entry)) (now (cursor .entry)) lit «num_pending_propagations» ⌝ }
-    ensures { λ _. ⌜ AfterOf (tooShort (now (state .entry)) (now (cursor .entry))) (propagatedIn (now (state .entry)) (now (table .entry)) (now (list .entry)) (now (log .entry)) (now (cursor .entry)) lit «num_pending_propagations» .outcome) (now (state .entry)) (now (state .exit)) ⌝ }
+    ensures { λ _. ⌜ Leaves (tooShort (now (state .entry)) (now (cursor .entry))) (propagatedIn (now (state .entry)) (now (table .entry)) (now (list .entry)) (now (log .entry)) (now (cursor .entry)) lit «num_pending_propagations» .outcome) (now (state .entry)) (now (state .exit)) ⌝ }
 {
     if too_short(state, cursor) {
         return -7;
@@ -104,7 +107,7 @@ pub extern "C" fn zuntjev_propagate(
 #[no_mangle]
 pub extern "C" fn zuntjev_undo(state: &mut [u8], log: &[u8], cursor: &mut [u8], lit: i32) -> i32
     ensures { λ r. ⌜ back r (now (cursor .exit)) ≡ hostUndone (now (state .entry)) (now (log .entry)) (now (cursor .entry)) lit ⌝ }
-    ensures { λ _. ⌜ AfterOf (tooShort (now (state .entry)) (now (cursor .entry))) (undoneIn (now (state .entry)) (now (log .entry)) (now (cursor .entry)) lit) (now (state .entry)) (now (state .exit)) ⌝ }
+    ensures { λ _. ⌜ Leaves (tooShort (now (state .entry)) (now (cursor .entry))) (undoneIn (now (state .entry)) (now (log .entry)) (now (cursor .entry)) lit) (now (state .entry)) (now (state .exit)) ⌝ }
 {
     if too_short(state, cursor) {
         return -7;

@@ -10,53 +10,60 @@ use lib.IntN.{ℤ, pos, negsuc, negℤ}
 use Rattle.host.specs.Codes.{fitted}
 use Rattle.host.proofs.Coding.{fitted-neg}
 use Rattle.builder.specs.Input.{refusal}
+use lib.Dec.{eqb, ltb}
+use mathlib.Core.Bool.{true, false}
+use mir.Facts.{toZ-ofZ}
+use Rattle.graph_division.specs.New.{built}
+use Rattle.host.specs.Build.{isOn}
+use Rattle.host.proofs.Building.{wrong-refused, short-refused, not-refused, refused-after, accepted-after}
 use borrow.Author.Needs.{needs}
 use Rattle.host.proofs.zuntjev_build.Statement.{statement}
 use Rattle.host.proofs.zuntjev_build.Tie as tie
 
--- src/lib.rt:39:9
 refusal-of-requires : tie.Need-refusal-of-requires
 refusal-of-requires c κs = search needs
 
--- src/lib.rt:42:13
 returns : tie.Need-returns
 unfolding buildCode
-returns c = sym (pick-yes _ _ (eq-eqb _ _ (sym (c .before .before .refusal-of .ensures) ∙ (c .before .if1 .taken))) ∙ pick-yes _ _ (lt-ltb _ _ (c .if2 .taken)))
+returns c =
+    let z : eqb (refusal (c .before .before .before .before .args .vertices .now) (c .before .before .before .before .args .n) (c .before .before .before .before .args .edges .now) (c .before .before .before .before .args .m)) 0 ≡ true = eq-eqb _ _ (sym (c .before .before .refusal-of .ensures) ∙ (c .before .if1 .taken)) in
+    let l : ltb (length (c .before .before .before .before .args .state .now)) 133440 ≡ true = lt-ltb _ _ (c .if2 .taken) in
+    (sym (pick-yes _ _ z ∙ pick-yes _ _ l), refused-after _ _ (c .before .before .before .before .args .state .now) (short-refused (c .before .before .before .before .args .vertices .now) (c .before .before .before .before .args .n) (c .before .before .before .before .args .edges .now) (c .before .before .before .before .args .m) (c .before .before .before .before .args .state .now) z l))
 
--- src/lib.rt:45:50
 option-requires : tie.Need-option-requires
 option-requires c κs = search needs
 
--- src/lib.rt:46:32
 option-requires-2 : tie.Need-option-requires-2
 option-requires-2 c κs = search needs
 
--- src/lib.rt:48:9
 build-requires : tie.Need-build-requires
 build-requires c κs = search needs
 
--- src/lib.rt:49:9
 same-length : tie.Need-same-length
 same-length c = search needs
 
--- src/lib.rt:49:9
 returns-2 : tie.Need-returns-2
 unfolding buildCode
-returns-2 c = sym (pick-yes _ _ (eq-eqb _ _ (sym (c .before .before .before .before .before .before .before .before .refusal-of .ensures) ∙ (c .before .before .before .before .before .before .before .if1 .taken))) ∙ pick-no _ _ (le-ltb _ _ (c .before .before .before .before .before .before .if2 .left)))
+returns-2 c =
+    let z : eqb (refusal (c .before .before .before .before .before .before .before .before .before .before .args .vertices .now) (c .before .before .before .before .before .before .before .before .before .before .args .n) (c .before .before .before .before .before .before .before .before .before .before .args .edges .now) (c .before .before .before .before .before .before .before .before .before .before .args .m)) 0 ≡ true = eq-eqb _ _ (sym (c .before .before .before .before .before .before .before .before .refusal-of .ensures) ∙ (c .before .before .before .before .before .before .before .if1 .taken)) in
+    let l : ltb (length (c .before .before .before .before .before .before .before .before .before .before .args .state .now)) 133440 ≡ false = le-ltb _ _ (c .before .before .before .before .before .before .if2 .left) in (
+      sym (pick-yes _ _ z ∙ pick-no _ _ l),
+      accepted-after _ _ _ _ _ (not-refused (c .before .before .before .before .before .before .before .before .before .before .args .vertices .now) (c .before .before .before .before .before .before .before .before .before .before .args .n) (c .before .before .before .before .before .before .before .before .before .before .args .edges .now) (c .before .before .before .before .before .before .before .before .before .before .args .m) (c .before .before .before .before .before .before .before .before .before .before .args .state .now) z l)
+          (λ i. built (c .before .before .before .before .before .before .before .before .before .before .args .vertices .now) (c .before .before .before .before .before .before .before .before .before .before .args .n) (c .before .before .before .before .before .before .before .before .before .before .args .edges .now) (c .before .before .before .before .before .before .before .before .before .before .args .m) (((c .before .before .before .before .before .option .ensures) ∙ ap (λ (o : ℤ). isOn o) (toZ-ofZ (c .before .before .before .before .before .before .before .before .before .before .fits .same-size))) i) (((c .before .before .before .before .option2 .ensures) ∙ ap (λ (o : ℤ). isOn o) (toZ-ofZ (c .before .before .before .before .before .before .before .before .before .before .fits .extra-walls))) i) .state)
+          (c .before .before .build .ensures),
+    )
 
--- src/lib.rt:51:25
 cast-refusal-code : tie.Need-cast-refusal-code
 cast-refusal-code c = search needs
 
--- src/lib.rt:51:5
 refusal-code-requires : tie.Need-refusal-code-requires
 refusal-code-requires c κs = search needs
 
--- src/lib.rt:27:1
 returns-3 : tie.Need-returns-3
 unfolding buildCode
-returns-3 c = fitted-neg _ _ ((c .refusal-code .ensures) ∙ ap (λ (k : ℕ). negℤ (pos (fitted k))) (c .before .before .refusal-of .ensures))
-    ∙ sym (pick-no _ _ (ne-eqb _ _ (λ (e : refusal (c .before .before .before .before .args .vertices .now) (c .before .before .before .before .args .n) (c .before .before .before .before .args .edges .now) (c .before .before .before .before .args .m) ≡ 0). (c .before .if1 .left) ((c .before .before .refusal-of .ensures) ∙ e))))
+returns-3 c =
+    let z : eqb (refusal (c .before .before .before .before .args .vertices .now) (c .before .before .before .before .args .n) (c .before .before .before .before .args .edges .now) (c .before .before .before .before .args .m)) 0 ≡ false = ne-eqb _ _ (λ (e : refusal (c .before .before .before .before .args .vertices .now) (c .before .before .before .before .args .n) (c .before .before .before .before .args .edges .now) (c .before .before .before .before .args .m) ≡ 0). (c .before .if1 .left) ((c .before .before .refusal-of .ensures) ∙ e)) in
+    (fitted-neg _ _ ((c .refusal-code .ensures) ∙ ap (λ (k : ℕ). negℤ (pos (fitted k))) (c .before .before .refusal-of .ensures)) ∙ sym (pick-no _ _ z), refused-after _ _ (c .before .before .before .before .args .state .now) (wrong-refused (c .before .before .before .before .args .vertices .now) (c .before .before .before .before .args .n) (c .before .before .before .before .args .edges .now) (c .before .before .before .before .args .m) (c .before .before .before .before .args .state .now) z))
 
 pub zuntjev-build-spec : {M : Type 1} → statement M
 zuntjev-build-spec =

@@ -5,6 +5,7 @@ use lib.ListN.{length, length-set, getD, set, replicate}
 use mathlib.Core.List.{List, _∷_, []}
 use Rattle.host.proofs.Filling.{ends-more, filled-more, read-words-in, cap-most, cap-less}
 use Rattle.base.specs.Lists.{filled}
+use Rattle.host.specs.Stores.{cleared}
 use Rattle.base.specs.Iter.{iter}
 use Rattle.base.proofs.Loop.{iter-zero, iter-more, iter-done}
 use Rattle.host.proofs.build.clear.Statement.{statement}
@@ -39,7 +40,7 @@ same-length : tie.Need-same-length Inv-loop μ-loop
 same-length c = (c .before .loop .inv .2)
 
 returns : tie.Need-returns Inv-loop μ-loop
-unfolding filled
+unfolding cleared filled
 returns c = iter-done _ _ _ _ _ (c .before .loop .inv .1) (omega arith) (omega arith)
 
 pub clear-spec : {M : Type 1} → statement M

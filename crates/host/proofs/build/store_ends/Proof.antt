@@ -4,6 +4,7 @@ use native.Mathlib.Omega.{arith}
 use lib.ListN.{length, length-set, getD, set, replicate}
 use mathlib.Core.List.{List, _∷_, []}
 use borrow.Author.Needs.{needs}
+use Rattle.host.specs.Stores.{putEnds}
 use Rattle.host.proofs.build.store_ends.Statement.{statement}
 use Rattle.host.proofs.build.store_ends.Tie as tie
 
@@ -47,6 +48,7 @@ same-length : tie.Need-same-length
 same-length c = search needs
 
 returns : tie.Need-returns
+unfolding putEnds
 returns c = search needs
 
 pub store-ends-spec : {M : Type 1} → statement M
