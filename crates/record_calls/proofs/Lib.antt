@@ -4,3 +4,4 @@ pub mod Pushed
 pub mod Reached
 pub mod Entering
 pub mod Joined
+pub mod Runs
