@@ -54,6 +54,15 @@ int32_t zuntjev_build(const int32_t vertices[4288], size_t n, const int32_t edge
                       int32_t extra_walls, uint8_t *state, size_t state_len);
 
 /*
+ * Notifies, in rising order, the plan's literals that are true in the table; stops at a conflict, else analyses once more. Answers how
+ * many literals were handed on: they are at the start of the list, in the order in which they were handed on, and marked in the table.
+ * Or ZUNTJEV_CONFLICT: the notified literals stand, what was handed on before it stays marked in the table, and the list is as it
+ * was. Or minus the number of a refusal: 8 after one that was consistent.
+ */
+int32_t zuntjev_initialize(uint8_t *state, size_t state_len, uint8_t *table, size_t table_len, uint8_t *list, size_t list_len,
+                           uint8_t *log, size_t log_len, uint8_t *cursor, size_t cursor_len);
+
+/*
  * Notifies a literal; with a pending number other than 0 it is only noted. Answers how many literals were handed on: they are at the
  * start of the list, and marked in the table. Or ZUNTJEV_CONFLICT, ZUNTJEV_NOTED, or minus the number of a refusal.
  */

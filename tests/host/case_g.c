@@ -1,13 +1,23 @@
-/* Document 01's case G over the host's functions, each answer checked, and states that are refused. */
+/* Document 01's case G over the host's functions, each answer checked, other cases of initialising, and states that are refused. */
 #include "zuntjev.h"
 #include <stdio.h>
+#include <stdlib.h>
 #include <string.h>
 
 static int passed, failed;
 
 static uint8_t state[ZUNTJEV_STATE_LEN + 4];
 static uint8_t before[sizeof state];
-static uint8_t table[3], list[12], records[12 * 8], cursor[ZUNTJEV_CURSOR_LEN], buffer[2 * 9];
+static uint8_t cursor[ZUNTJEV_CURSOR_LEN];
+
+/* A run of bytes that is as long as a plan needs it, so that a sanitizer sees a write past its end. */
+struct run {
+    uint8_t *at;
+    size_t len;
+};
+
+static struct run table, list, records, buffer;
+static int32_t vertices[4288], edges[384];
 
 static void check(const char *what, long got, long want)
 {
@@ -21,11 +31,11 @@ static void check(const char *what, long got, long want)
 
 static int32_t propagate(int32_t lit)
 {
-    uint8_t *entry = &table[lit / 2];
+    uint8_t *entry = &table.at[lit / 2];
     uint8_t old = *entry;
     if (old == 0)
         *entry = (uint8_t)(3 + lit % 2);
-    int32_t r = zuntjev_propagate(state, sizeof state, table, sizeof table, list, sizeof list, records, sizeof records, cursor,
+    int32_t r = zuntjev_propagate(state, sizeof state, table.at, table.len, list.at, list.len, records.at, records.len, cursor,
                                   sizeof cursor, lit, 0);
     if (r < 0 && r > ZUNTJEV_CONFLICT)
         *entry = old;
@@ -34,20 +44,20 @@ static int32_t propagate(int32_t lit)
 
 static int32_t undo(int32_t lit)
 {
-    int32_t r = zuntjev_undo(state, sizeof state, records, sizeof records, cursor, sizeof cursor, lit);
+    int32_t r = zuntjev_undo(state, sizeof state, records.at, records.len, cursor, sizeof cursor, lit);
     if (r == 0)
-        table[lit / 2] = 0;
+        table.at[lit / 2] = 0;
     return r;
 }
 
 static int32_t reason(int32_t lit)
 {
-    return zuntjev_calc_reason(state, sizeof state, records, sizeof records, cursor, sizeof cursor, lit, buffer, sizeof buffer);
+    return zuntjev_calc_reason(state, sizeof state, records.at, records.len, cursor, sizeof cursor, lit, buffer.at, buffer.len);
 }
 
 static int32_t last(void)
 {
-    return zuntjev_calc_last(state, sizeof state, records, sizeof records, cursor, sizeof cursor, buffer, sizeof buffer);
+    return zuntjev_calc_last(state, sizeof state, records.at, records.len, cursor, sizeof cursor, buffer.at, buffer.len);
 }
 
 static long lit_at(const uint8_t *bytes, int i)
@@ -55,40 +65,157 @@ static long lit_at(const uint8_t *bytes, int i)
     return bytes[2 * i] + 256L * bytes[2 * i + 1];
 }
 
-static int32_t build(size_t len)
+static int32_t initialize(void)
 {
-    static int32_t vertices[4288], edges[384];
-    static const int32_t first[] = {3, 2, 1, 3, 7}, second[] = {4, 2, 1, 4, 7}, gate[] = {0, 1, 4};
-    memcpy(vertices, first, sizeof first);
-    vertices[35] = 0;
-    memcpy(vertices + 67, second, sizeof second);
-    vertices[67 + 35] = 2;
-    memcpy(edges, gate, sizeof gate);
-    return zuntjev_build(vertices, 2, edges, 1, 0, 0, state, len);
+    return zuntjev_initialize(state, sizeof state, table.at, table.len, list.at, list.len, records.at, records.len, cursor,
+                              sizeof cursor);
+}
+
+static void pen(int v, int32_t weight, int32_t sizes, int32_t smaller, int32_t larger, int32_t lit)
+{
+    int32_t *numbers = vertices + 67 * v;
+    numbers[0] = weight;
+    numbers[1] = sizes;
+    numbers[2] = sizes > 1 ? sizes - 1 : 0;
+    numbers[3] = smaller;
+    numbers[4] = larger;
+    numbers[35] = lit;
+}
+
+static void gate(int g, int32_t u, int32_t v, int32_t lit)
+{
+    edges[3 * g] = u;
+    edges[3 * g + 1] = v;
+    edges[3 * g + 2] = lit;
+}
+
+static void fit(struct run *r, size_t len)
+{
+    free(r->at);
+    r->at = calloc(len ? len : 1, 1);
+    r->len = len;
+    if (r->at == NULL)
+        exit(1);
+}
+
+/* A plan of that many pens, gates, size literals and variables, and buffers that just suffice for it. */
+static int32_t build(size_t len, int pens, int gates, int size_lits, int variables)
+{
+    fit(&table, (size_t)variables);
+    fit(&list, 4 * (size_t)variables);
+    fit(&records, 16 * (size_t)(gates + size_lits));
+    fit(&buffer, 2 * (size_t)(gates + 2 * pens + 4));
+    memset(cursor, 0, sizeof cursor);
+    return zuntjev_build(vertices, (size_t)pens, edges, (size_t)gates, 0, 0, state, len);
+}
+
+static int32_t build_g(size_t len)
+{
+    pen(0, 3, 2, 3, 7, 0);
+    pen(1, 4, 2, 4, 7, 2);
+    gate(0, 0, 1, 4);
+    return build(len, 2, 1, 2, 3);
+}
+
+/* Whether all bytes are as they were: the state's, and those of the other buffers, which held 0 but for the table's. */
+static int untouched(const uint8_t *codes)
+{
+    int same = memcmp(before, state, sizeof state) == 0 && memcmp(codes, table.at, table.len) == 0;
+    for (size_t i = 0; i < list.len; i++)
+        same = same && list.at[i] == 0;
+    for (size_t i = 0; i < records.len; i++)
+        same = same && records.at[i] == 0;
+    for (size_t i = 0; i < sizeof cursor; i++)
+        same = same && cursor[i] == 0;
+    return same;
+}
+
+/* The plan of cases E and F: variable 0's false and variable 1's true were both set earlier, so that 14 applies. */
+static void refused_initialize(void)
+{
+    static const uint8_t codes[] = {2, 1};
+    pen(0, 1, 0, 0, 0, 0);
+    pen(1, 1, 0, 0, 0, 0);
+    gate(0, 0, 1, 0);
+    gate(1, 0, 1, 2);
+    check("build F", build(sizeof state, 2, 2, 0, 2), 0);
+    memcpy(before, state, sizeof state);
+    check("I, a short table", zuntjev_initialize(state, sizeof state, table.at, 1, list.at, list.len, records.at, records.len, cursor,
+                                                 sizeof cursor), -7);
+    check("I, a short list", zuntjev_initialize(state, sizeof state, table.at, table.len, list.at, 7, records.at, records.len,
+                                                cursor, sizeof cursor), -7);
+    memcpy(table.at, codes, sizeof codes);
+    check("I is 14", initialize(), -14);
+    check("all bytes after it", untouched(codes), 1);
+}
+
+/* The cases D2, B and H, and a conflict after a literal was handed on: its mark stays, and the list is as it was. */
+static void initializes(void)
+{
+    pen(0, 1, 0, 0, 0, 0);
+    gate(0, 0, 0, 0);
+    check("build D2", build(sizeof state, 1, 1, 0, 1), 0);
+    check("D2, I", initialize(), 0);
+    check("D2, R 1", reason(1), 0);
+    pen(0, 3, 1, 2, 0, 0);
+    check("build B", build(sizeof state, 1, 0, 0, 0), 0);
+    check("B, I", initialize(), ZUNTJEV_CONFLICT);
+    check("B, R -", last(), 0);
+    check("B, I again", initialize(), ZUNTJEV_CONFLICT);
+    pen(0, 2, 1, 2, 0, 0);
+    pen(1, 3, 1, 4, 0, 0);
+    gate(0, 0, 1, 0);
+    check("build H", build(sizeof state, 2, 1, 0, 1), 0);
+    check("H, I", initialize(), ZUNTJEV_CONFLICT);
+    check("H, R -", last(), 0);
+    pen(0, 3, 2, 3, 7, 2);
+    pen(1, 4, 2, 4, 7, 6);
+    pen(2, 1, 0, 0, 0, 0);
+    pen(3, 1, 0, 0, 0, 0);
+    gate(0, 0, 1, 4);
+    gate(1, 2, 3, 0);
+    gate(2, 2, 3, 8);
+    check("build a longer plan", build(sizeof state, 4, 3, 2, 5), 0);
+    memset(table.at, 1, 3);
+    check("a late conflict", initialize(), ZUNTJEV_CONFLICT);
+    check("the mark of 8", table.at[4], 3);
+    check("the list", lit_at(list.at, 0), 0);
+    check("three literals stand", cursor[4], 3);
+    check("its R -", last(), 2);
+    check("its R -, first", lit_at(buffer.at, 0), 4);
+    check("its R -, second", lit_at(buffer.at, 1), 2);
+    check("R 8", reason(8), 1);
+    check("R 8, first", lit_at(buffer.at, 0), 0);
+    check("U 4", undo(4), 0);
+    check("U 2", undo(2), 0);
+    check("U 0", undo(0), 0);
 }
 
 static void refusals(void)
 {
     memcpy(before, state, sizeof state);
-    check("a short state", zuntjev_propagate(state, ZUNTJEV_STATE_LEN - 1, table, sizeof table, list, sizeof list, records,
-                                             sizeof records, cursor, sizeof cursor, 0, 0), -7);
-    check("a short cursor", zuntjev_undo(state, sizeof state, records, sizeof records, cursor, 7, 0), -7);
-    check("a short log", zuntjev_undo(state, sizeof state, records, 5 * 8, cursor, sizeof cursor, 0), -7);
-    check("a short buffer", zuntjev_calc_last(state, sizeof state, records, sizeof records, cursor, sizeof cursor, buffer, 2), -7);
-    check("an unknown literal", zuntjev_propagate(state, sizeof state, table, sizeof table, list, sizeof list, records, sizeof records, cursor, sizeof cursor, 8, 0), -9);
-    check("a negative literal", zuntjev_undo(state, sizeof state, records, sizeof records, cursor, sizeof cursor, -1), -9);
+    check("a short state", zuntjev_propagate(state, ZUNTJEV_STATE_LEN - 1, table.at, table.len, list.at, list.len, records.at,
+                                             records.len, cursor, sizeof cursor, 0, 0), -7);
+    check("I, a short state", zuntjev_initialize(state, ZUNTJEV_STATE_LEN - 1, table.at, table.len, list.at, list.len, records.at,
+                                                 records.len, cursor, sizeof cursor), -7);
+    check("a short cursor", zuntjev_undo(state, sizeof state, records.at, records.len, cursor, 7, 0), -7);
+    check("a short log", zuntjev_undo(state, sizeof state, records.at, 5 * 8, cursor, sizeof cursor, 0), -7);
+    check("a short buffer", zuntjev_calc_last(state, sizeof state, records.at, records.len, cursor, sizeof cursor, buffer.at, 2), -7);
+    check("an unknown literal", zuntjev_propagate(state, sizeof state, table.at, table.len, list.at, list.len, records.at, records.len, cursor, sizeof cursor, 8, 0), -9);
+    check("a negative literal", zuntjev_undo(state, sizeof state, records.at, records.len, cursor, sizeof cursor, -1), -9);
     check("no reason", reason(4), -15);
     check("nothing to undo", undo(0), -11);
     check("the state after refusals", memcmp(before, state, sizeof state), 0);
     for (size_t at = 0; at < ZUNTJEV_STATE_LEN; at += 61) {
         state[at] ^= 255;
+        initialize();
         propagate(0);
         reason(0);
         last();
         undo(0);
         memcpy(state, before, sizeof state);
         memset(cursor, 0, sizeof cursor);
-        memset(table, 0, sizeof table);
+        memset(table.at, 0, table.len);
     }
     passed++;
 }
@@ -96,27 +223,31 @@ static void refusals(void)
 int main(void)
 {
     memset(state, 9, sizeof state);
-    check("a short state to build in", build(ZUNTJEV_STATE_LEN - 1), -7);
+    check("a short state to build in", build_g(ZUNTJEV_STATE_LEN - 1), -7);
     check("the state after it", state[0], 9);
-    check("build", build(sizeof state), 0);
+    check("build", build_g(sizeof state), 0);
     check("what follows the state", state[ZUNTJEV_STATE_LEN], 9);
     refusals();
+    check("I", initialize(), 0);
+    check("I again", initialize(), -8);
     check("N 0", propagate(0), 0);
     check("N 4", propagate(4), ZUNTJEV_CONFLICT);
     check("R -", last(), 2);
-    check("R -, first", lit_at(buffer, 0), 4);
-    check("R -, second", lit_at(buffer, 1), 0);
+    check("R -, first", lit_at(buffer.at, 0), 4);
+    check("R -, second", lit_at(buffer.at, 1), 0);
     check("N 5 while 4 stands", propagate(5), -10);
     check("U 0 before 4", undo(0), -11);
     check("U 4", undo(4), 0);
     check("U 0", undo(0), 0);
     check("N 5", propagate(5), 2);
-    check("N 5, first", lit_at(list, 0), 0);
-    check("N 5, second", lit_at(list, 1), 2);
-    check("entry of 0", table[0], 3);
-    check("entry of 2", table[1], 3);
+    check("N 5, first", lit_at(list.at, 0), 0);
+    check("N 5, second", lit_at(list.at, 1), 2);
+    check("entry of 0", table.at[0], 3);
+    check("entry of 2", table.at[1], 3);
     check("R 0", reason(0), 1);
-    check("R 0, first", lit_at(buffer, 0), 5);
+    check("R 0, first", lit_at(buffer.at, 0), 5);
+    refused_initialize();
+    initializes();
     printf("%d passed, %d failed\n", passed, failed);
     return failed != 0;
 }

@@ -34,7 +34,7 @@ fn no_codes() -> [u8; 4096]
 }
 
 // The table's entries of all variables, to read which literals it held on entry and to take back what is done.
-fn save(table: &[u8]) -> [u8; 4096]
+pub fn save(table: &[u8]) -> [u8; 4096]
     ensures { λ r. ⌜ r ≡ savedTable (now (table .entry)) ⌝ }
 {
     let mut saved = no_codes();
@@ -56,7 +56,7 @@ fn restore_entry(saved: &[u8], table: &mut [u8], i: usize)
     }
 }
 
-fn restore(saved: &[u8], table: &mut [u8])
+pub fn restore(saved: &[u8], table: &mut [u8])
     ensures { λ _. ⌜ now (table .exit) ≡ restoredTable (now (saved .entry)) (now (table .entry)) ⌝ }
 {
     let mut i = 0;
@@ -84,7 +84,7 @@ fn note_at(
 }
 
 // Those of the places below `past`.
-fn note_up_to(
+pub fn note_up_to(
     plan: &[u32; 15241],
     entry: &[u8],
     noted: &mut [u32; 384],
@@ -103,7 +103,7 @@ fn note_up_to(
     c
 }
 
-fn no_handed() -> [u32; 8704]
+pub fn no_handed() -> [u32; 8704]
     ensures { λ r. ⌜ r ≡ replicate 8704 0 ⌝ }
 {
     [0u32; 8704]

@@ -12,7 +12,7 @@ ghost use mathlib.Core.Path.{_≡_};
 ghost use lib.ListN.{replicate};
 ghost use Rattle.graph_division.specs.Calls.{called, settled, propagated};
 
-pub(crate) fn no_words() -> [u64; 8704]
+pub fn no_words() -> [u64; 8704]
     ensures { λ r. ⌜ r ≡ replicate 8704 0 ⌝ }
 {
     [0u64; 8704]

@@ -6,6 +6,7 @@ pub mod Storing
 pub mod Leaving
 pub mod Fetching
 pub mod Undoing
+pub mod Initializing
 pub mod Outside
 pub mod Using
 pub mod Building

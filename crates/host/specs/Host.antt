@@ -13,6 +13,7 @@ use Rattle.graph_division.specs.declared.Answer.{Answer}
 use Rattle.graph_division.specs.declared.GraphDivision.{GraphDivision}
 use Rattle.graph_division.specs.declared.Outcome.{Outcome}
 use Rattle.graph_division.specs.Calls.{Called, propagated, undone, Fetched, reasonFetched, lastFetched}
+use Rattle.graph_division.specs.Initialize.{initialized}
 use Rattle.host.specs.Bytes.{wordAt}
 use Rattle.host.specs.Codes.{fitted, codeOf, isRefused, givenBy}
 use Rattle.host.specs.Layout.{stateIn, cursorIn, logIn, listIn, bufferIn}
@@ -52,6 +53,14 @@ propagatedIn state t list log cursor lit pending = propagated (stateIn state) (c
 unfoldable pub hostPropagated : List ℕ → List ℕ → List ℕ → List ℕ → List ℕ → ℤ → ℤ → Left
 hostPropagated state t list log cursor lit pending =
     pick (tooShort state cursor) (left short t list log cursor) (leftOf (cursorIn cursor) (propagatedIn state t list log cursor lit pending) list log cursor)
+
+-- `zuntjev_initialize`
+unfoldable pub initializedIn : List ℕ → List ℕ → List ℕ → List ℕ → List ℕ → Called
+initializedIn state t list log cursor = initialized (stateIn state) (cursorIn cursor) t (logIn (cursorIn cursor) log) (listIn list)
+
+unfoldable pub hostInitialized : List ℕ → List ℕ → List ℕ → List ℕ → List ℕ → Left
+hostInitialized state t list log cursor =
+    pick (tooShort state cursor) (left short t list log cursor) (leftOf (cursorIn cursor) (initializedIn state t list log cursor) list log cursor)
 
 -- `zuntjev_undo`: the number, and the cursor's bytes
 pub record Back : Type 0 where

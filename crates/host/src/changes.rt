@@ -58,7 +58,7 @@ fn store_state(
 }
 
 // What the call changed is written back, unless it is refused.
-fn finish(
+pub(crate) fn finish(
     state: &mut [u8],
     plan: &[u32; 15241],
     noted: &[u32],

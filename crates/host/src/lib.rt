@@ -6,13 +6,14 @@ mod changes;
 mod codes;
 mod decode;
 mod fetch;
+mod initialize;
 mod store;
 
 use builder::build::GraphDivisionOptions;
 ghost use mathlib.Core.Path.{_≡_};
 ghost use mathlib.Core.Bool.{true, false};
 ghost use lib.ListN.{length};
-ghost use Rattle.host.specs.Host.{left, back, tooShort, hostPropagated, propagatedIn, hostUndone, undoneIn, hostReason, hostLast, buildCode};
+ghost use Rattle.host.specs.Host.{left, back, tooShort, hostInitialized, initializedIn, hostPropagated, propagatedIn, hostUndone, undoneIn, hostReason, hostLast, AfterOf, buildCode};
 ghost use Rattle.host.specs.After.{Leaves};
 ghost use Rattle.host.specs.Build.{BuiltIn};
 
@@ -52,6 +53,25 @@ pub extern "C" fn zuntjev_build<'a>(
         return 0;
     }
     codes::refusal_code(refusal as u32)
+}
+
+// Notifies, in rising order, the plan's literals that are true in the table on entry, and analyzes once more.
+#[no_mangle]
+pub extern "C" fn zuntjev_initialize(
+    state: &mut [u8],
+    table: &mut [u8],
+    list: &mut [u8],
+    log: &mut [u8],
+    cursor: &mut [u8],
+) -> i32
+    ensures { λ r. ⌜ left r (now (table .exit)) (now (list .exit)) (now (log .exit)) (now (cursor .exit))
+        ≡ hostInitialized (now (state .entry)) (now (table .entry)) (now (list .entry)) (now (log .entry)) (now (cursor .entry)) ⌝ }
+    ensures { λ _. ⌜ AfterOf (tooShort (now (state .entry)) (now (cursor .entry))) (initializedIn (now (state .entry)) (now (table .entry)) (now (list .entry)) (now (log .entry)) (now (cursor .entry)) .outcome) (now (state .entry)) (now (state .exit)) ⌝ }
+{
+    if too_short(state, cursor) {
+        return -7;
+    }
+    initialize::initialize(state, table, list, log, cursor)
 }
 
 // Notifies the literal. With a pending number other than 0 it is only noted.

@@ -1,0 +1,67 @@
+use mathlib.Core.Path.{sym, _∙_}
+use Rattle.host.specs.Layout.{cursorIn}
+use Rattle.host.specs.Host.{initializedIn}
+use Rattle.host.proofs.Leaving.{short-is, short-state, long-state, left-back}
+use Rattle.host.proofs.Initializing.{begun-short, begun-long}
+use borrow.Author.Needs.{needs}
+use Rattle.host.proofs.zuntjev_initialize.Statement.{statement}
+use Rattle.host.proofs.zuntjev_initialize.Tie as tie
+
+too-short-requires : tie.Need-too-short-requires
+too-short-requires c κs = search needs
+
+same-length : tie.Need-same-length
+same-length c = search needs
+
+same-length-2 : tie.Need-same-length-2
+same-length-2 c = search needs
+
+returns : tie.Need-returns
+returns c =
+    let a = (c .before .before .before .before .before .before .before .before .before .args) in
+    let t = sym (c .before .too-short .ensures) ∙ (c .if1 .taken) in
+    (begun-short (a .state .now) (a .table .now) (a .list .now) (a .log .now) (a .cursor .now) t, short-state (initializedIn (a .state .now) (a .table .now) (a .list .now) (a .log .now) (a .cursor .now) .outcome) _ _ t)
+
+initialize-requires : tie.Need-initialize-requires
+initialize-requires c κs = short-is _ _ (sym (c .before .before .before .before .before .before .too-short .ensures) ∙ (c .before .before .before .before .before .if1 .left))
+
+same-length-3 : tie.Need-same-length-3
+same-length-3 c = search needs
+
+same-length-4 : tie.Need-same-length-4
+same-length-4 c = search needs
+
+same-length-5 : tie.Need-same-length-5
+same-length-5 c = search needs
+
+same-length-6 : tie.Need-same-length-6
+same-length-6 c = search needs
+
+same-length-7 : tie.Need-same-length-7
+same-length-7 c = search needs
+
+returns-2 : tie.Need-returns-2
+returns-2 c =
+    let a = (c .before .before .before .before .before .before .before .before .before .before .before .before .before .before .before .before .before .before .before .before .before .before .before .before .before .args) in
+    let g = (c .before .before .before .before .before .before .before .before .before .before .initialize) in
+    let t = sym (c .before .before .before .before .before .before .before .before .before .before .before .before .before .before .before .before .before .too-short .ensures) ∙ (c .before .before .before .before .before .before .before .before .before .before .before .before .before .before .before .before .if1 .left) in (
+      begun-long (a .state .now) (a .table .now) (a .list .now) (a .log .now) (a .cursor .now) _ t
+          (left-back (cursorIn (a .cursor .now)) _ (a .list .now) (a .log .now) (a .cursor .now) _ _ _ _ _ ((g .ensures .0))),
+      long-state (initializedIn (a .state .now) (a .table .now) (a .list .now) (a .log .now) (a .cursor .now) .outcome) _ _ _ t ((g .ensures .1)),
+    )
+
+pub zuntjev-initialize-spec : {M : Type 1} → statement M
+zuntjev-initialize-spec =
+    tie.close
+    (tie.spec
+    too-short-requires
+    same-length
+    same-length-2
+    returns
+    initialize-requires
+    same-length-3
+    same-length-4
+    same-length-5
+    same-length-6
+    same-length-7
+    returns-2)

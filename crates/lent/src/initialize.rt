@@ -1,0 +1,157 @@
+// The Rust's `initialize`.
+use crate::Done;
+use crate::fetch::copy;
+use graph_division::Answer;
+use graph_division::initialize::no_handed;
+use graph_division::initialize::note_up_to;
+use graph_division::initialize::restore;
+use graph_division::initialize::save;
+use graph_division::propagate::no_words;
+use judge::Judgement;
+use notifications::Progress;
+use notifications::go_through;
+use undo_log::Cursor;
+ghost use mathlib.Core.Path.{_≡_};
+ghost use mathlib.Core.Bool.{Bool};
+ghost use mathlib.Core.List.{List};
+ghost use Prim.Native.Nat.{ℕ};
+ghost use lib.ListN.{length, replicate};
+ghost use Rattle.recorded.specs.declared.Reasons.{Reasons};
+ghost use Rattle.refusals.specs.Refusals.{initializeRefusal};
+ghost use Rattle.graph_division.specs.Initialize.{restoredTable, endedBy, begun, initialized};
+ghost use Rattle.lent.specs.Lent.{stateOf, begunOf};
+
+// What was tried out is taken over into the noted words and the log, or taken back.
+fn finish(
+    plan: &[u32; 15241],
+    entry: &[u8],
+    noted: &mut [u32; 384],
+    table: &mut [u8],
+    list: &mut [u32],
+    log: &mut [u64],
+    cursor: Cursor,
+    handed: &[u32],
+    x: Progress,
+) -> Done
+    ensures { λ r. ⌜ ((ends : List (List ℕ)) (rs : Reasons) (last : List ℕ) (len : ℕ) (b : Bool) (words left : List ℕ) →
+        begunOf (stateOf (now (plan .entry)) ends (now (noted .entry)) rs last len b) (now (noted .exit)) words left r (now (table .exit)) (now (list .exit)) (now (log .exit))
+        ≡ endedBy (stateOf (now (plan .entry)) ends (now (noted .entry)) rs last len b) cursor (now (entry .entry)) (now (log .entry)) words left x (x .judgement) (restoredTable (now (entry .entry)) (now (table .entry))) (now (table .entry)) (now (handed .entry)) (now (list .entry))) ⌝ }
+{
+    let found = x.judgement;
+    let n = x.handed;
+    match found {
+        Judgement::Fine => {
+            copy(handed, n, list);
+            let c = note_up_to(plan, entry, noted, log, cursor, x.past);
+            Done {
+                cursor: c,
+                answer: Answer::Consistent { handed: n },
+                judged: true,
+                len: x.len,
+            }
+        }
+        Judgement::Clash { len: _ } => {
+            copy(handed, n, list);
+            let c = note_up_to(plan, entry, noted, log, cursor, x.past);
+            Done {
+                cursor: c,
+                answer: Answer::Conflict,
+                judged: true,
+                len: x.len,
+            }
+        }
+        Judgement::Stopped { refusal } => {
+            restore(entry, table);
+            Done {
+                cursor: cursor,
+                answer: Answer::Refused { number: refusal },
+                judged: false,
+                len: 0,
+            }
+        }
+    }
+}
+
+// All is tried out, on a copy of the noted words and on the table in place.
+fn begin(
+    plan: &[u32; 15241],
+    edges: [[u8; 2]; 128],
+    noted: &mut [u32; 384],
+    words: &mut [u64],
+    left: &mut [u32],
+    table: &mut [u8],
+    list: &mut [u32],
+    log: &mut [u64],
+    cursor: Cursor,
+    last_len: usize,
+) -> Done
+    ensures { λ r. ⌜ (now (words .entry) ≡ replicate 8704 0 → (rs : Reasons) (b : Bool) →
+        initializeRefusal (now (plan .entry)) edges (now (noted .entry)) (now (table .entry)) (length (now (list .entry))) (now (log .entry)) cursor b ≡ 0 →
+        begunOf (stateOf (now (plan .entry)) edges (now (noted .entry)) rs (now (left .entry)) «last_len» b) (now (noted .exit)) (now (words .exit)) (now (left .exit)) r (now (table .exit)) (now (list .exit)) (now (log .exit))
+        ≡ begun (stateOf (now (plan .entry)) edges (now (noted .entry)) rs (now (left .entry)) «last_len» b) cursor (now (table .entry)) (now (log .entry)) (now (list .entry))) ⌝ }
+{
+    let entry = save(table);
+    let mut trial = *noted;
+    let mut handed = no_handed();
+    let mut proposals = no_words();
+    let x = go_through(
+        plan,
+        edges,
+        &entry,
+        log,
+        cursor.used,
+        &mut trial,
+        table,
+        &mut handed,
+        words,
+        &mut proposals,
+        left,
+        last_len,
+    );
+    finish(plan, &entry, noted, table, list, log, cursor, &handed, x)
+}
+
+// Notifies, in rising order, the plan's literals that are true in the table on entry, and analyzes once more. The list last left stands
+// in `left`, up to `last_len`, and `done` says whether an initialise was consistent before. The words are those of all its analyses,
+// where they were all 0 before.
+pub fn initialize(
+    plan: &[u32; 15241],
+    edges: [[u8; 2]; 128],
+    noted: &mut [u32; 384],
+    words: &mut [u64],
+    left: &mut [u32],
+    table: &mut [u8],
+    list: &mut [u32],
+    log: &mut [u64],
+    cursor: Cursor,
+    last_len: usize,
+    done: bool,
+) -> Done
+    ensures { λ r. ⌜ (now (words .entry) ≡ replicate 8704 0 → (rs : Reasons) →
+        begunOf (stateOf (now (plan .entry)) edges (now (noted .entry)) rs (now (left .entry)) «last_len» done) (now (noted .exit)) (now (words .exit)) (now (left .exit)) r (now (table .exit)) (now (list .exit)) (now (log .exit))
+        ≡ initialized (stateOf (now (plan .entry)) edges (now (noted .entry)) rs (now (left .entry)) «last_len» done) cursor (now (table .entry)) (now (log .entry)) (now (list .entry))) ⌝ }
+{
+    let ends = edges;
+    let stood = *noted;
+    let n = refusals::initialize_refusal(plan, &ends, &stood, table, list.len(), log, cursor, done);
+    if n == 0 {
+        return begin(
+            plan,
+            edges,
+            noted,
+            words,
+            left,
+            table,
+            list,
+            log,
+            cursor,
+            last_len,
+        );
+    }
+    Done {
+        cursor: cursor,
+        answer: Answer::Refused { number: n },
+        judged: false,
+        len: 0,
+    }
+}
