@@ -9,7 +9,11 @@ use lib.IntN.{ℤ}
 use lib.ListN.{length, getD, set, take, replicate, length-set, length-replicate}
 use borrow.Author.Tests.{ltb-true}
 use Rattle.base.specs.Iter.{pick}
-use Rattle.base.proofs.Loop.{pick-ind}
+use Rattle.base.proofs.Loop.{pick-ind, iter-ind}
+use Rattle.base.proofs.Filled.{filled-length}
+use Rattle.plan.specs.Words.{variablesOf}
+use Rattle.notifications.specs.declared.Progress.{Progress}
+use Rattle.notifications.specs.Notifications.{Way, Ending, stopping, fineBy, joinedBy, joined, notified, notifiedAt, notifiedAll, onceMoreBy, onceMore, lastPass, ended, goneThrough}
 use Rattle.undo_log.specs.declared.Cursor.{Cursor}
 use Rattle.walks.specs.declared.Listed.{Listed}
 use Rattle.walks.specs.declared.Listed.the-variants.{Past, Missing}
@@ -32,9 +36,10 @@ use Rattle.sweep.specs.Sweep.{Handed}
 use Rattle.graph_division.specs.declared.GraphDivision.{GraphDivision}
 use Rattle.graph_division.specs.declared.Outcome.{Outcome}
 use Rattle.graph_division.specs.Calls.{Called, withNoted, withJudged, refuse, adding, accepting, handingOn, settledBy, settled, propagated, undone}
+use Rattle.graph_division.specs.Initialize.{takenOver, taking, endedBy, entering, finished, begun, initialized}
 use Rattle.host.specs.Bytes.{wordAt}
-use Rattle.host.specs.Layout.{stateIn, cursorIn, listIn, logIn}
-use Rattle.host.specs.Host.{StateAfter, AfterOf, propagatedIn, undoneIn}
+use Rattle.host.specs.Layout.{wordsIn, stateIn, cursorIn, listIn, logIn}
+use Rattle.host.specs.Host.{StateAfter, AfterOf, initializedIn, propagatedIn, undoneIn}
 use Rattle.host.specs.After.{Leaves}
 
 -- at most n literals
@@ -193,6 +198,35 @@ module _ (n : ℕ) where
     unfolding judgeWords judgeRan withWords
     judged-most t proposals = pick-ind (λ (x : Judged). Most n (x .judgement)) _ _ _ (λ _. found-most t _ _) (λ _. tt)
 
+    -- and the buffer is as long as it was
+    chosen-long : (v : Verdict) (ps : List ℕ) → length (judgeChosen ws es noted v ps l .left) ≡ n
+    unfolding judgeChosen ofList
+    chosen-long v ps = conflict-within n ws es noted v ps (outOf l 0) start .long
+
+    crowded-long : (r : ℕ) → length (judgeCrowded ws es noted r l .left) ≡ n
+    unfolding judgeCrowded crowdedBy
+    crowded-long r = pick-ind (λ (x : Listing). length (x .left) ≡ n) _ _ _ (λ _. chosen-long (Crowded r) _) (λ _. e)
+
+    false-long : (t words : List ℕ) (p : ℕ) → length (judgeFalse ws es noted t words p l .left) ≡ n
+    unfolding judgeFalse ofFalse falseLits
+    false-long t words p = word-within n _ _ (reason-within n ws es noted _ (outOf l 0) start) .long
+
+    found-long : (t : List ℕ) (v : Verdict) (words : List ℕ) → length (judgeFound ws es noted t v words l .left) ≡ n
+    unfolding judgeFound judgeProposals judgeConflict
+    found-long t Going words = pick-ind (λ (x : Listing). length (x .left) ≡ n) _ _ _ (λ _. false-long t words _) (λ _. e)
+    found-long t (DisconnectedInside g) words = chosen-long (DisconnectedInside g) []
+    found-long t (Over v) words = chosen-long (Over v) []
+    found-long t (Under v) words = chosen-long (Under v) []
+    found-long t (Crowded r) words = crowded-long r
+    found-long t (Apart a b) words = chosen-long (Apart a b) []
+    found-long t Crossed words = e
+    found-long t ZeroSize words = e
+    found-long t Unfit words = e
+
+    judged-long : (t proposals : List ℕ) → length (judgeWords ws es noted t proposals l .left) ≡ n
+    unfolding judgeWords judgeRan withWords
+    judged-long t proposals = pick-ind (λ (x : Judged). length (x .left) ≡ n) _ _ _ (λ _. found-long t _ _) (λ _. e)
+
 -- a length of 32 bits
 abbrev Fits : GraphDivision → Type 0
 Fits s = s .«last_len» < 4294967296
@@ -222,6 +256,64 @@ module _ (s : GraphDivision) (c : Cursor) (h : Fits s) where
   unfolding undone refuse
   undone-fits lit log = pick-ind (λ (y : Outcome). Fits (y .state)) _ _ _ (λ _. noted-fits _) (λ _. h)
 
+-- ---- `initialize`: each notification leaves such a list, or none
+record Left (x : Progress) (left : List ℕ) : Type 0 where
+  len : x .len < 4294967296
+  long : length left ≡ 260
+
+module _ (ws : List ℕ) (es : List (List ℕ)) where
+  joined-by-left : (past : ℕ) (w : Way) (j : Judged) (x : Judgement) → Left (w .progress) (w .left) → Most 260 x → length (j .left) ≡ 260 →
+      Left (joinedBy ws past w j x .progress) (joinedBy ws past w j x .left)
+  unfolding joinedBy fineBy stopping
+  joined-by-left past w j Fine h m e = record { len = omega arith; long = e }
+  joined-by-left past w j (Clash k) h m e = record { len = omega (arith, m); long = e }
+  joined-by-left past w j (Stopped k) h m e = record { len = h .len; long = e }
+
+  abbrev OnWay : Way → Type 0
+  OnWay w = Left (w .progress) (w .left)
+
+  joined-left : (past : ℕ) (w : Way) → OnWay w → OnWay (joined ws es past w)
+  unfolding joined
+  joined-left past w h = joined-by-left past w _ _ h (judged-most 260 ws es (w .noted) (w .left) (h .long) (w .table) (w .proposals)) (judged-long 260 ws es (w .noted) (w .left) (h .long) (w .table) (w .proposals))
+
+  at-left : (t log : List ℕ) (used p : ℕ) (w : Way) → OnWay w → OnWay (notifiedAt ws es t log used p w)
+  unfolding notifiedAt notified stopping
+  at-left t log used p w h = pick-ind OnWay _ _ _
+      (λ _. pick-ind OnWay _ _ _ (λ _. record { len = h .len; long = h .long }) (λ _. joined-left (p + 1) _ (record { len = h .len; long = h .long })))
+      (λ _. h)
+
+  all-left : (t log : List ℕ) (used : ℕ) (w : Way) → OnWay w → OnWay (notifiedAll ws es t log used w)
+  unfolding notifiedAll
+  all-left t log used w h = iter-ind (λ i x. OnWay x) (notifiedAt ws es t log used) w (2 * variablesOf ws) h (λ p x l u. at-left t log used p x u)
+
+  once-by-left : (x : Progress) (words : List ℕ) (j : Judged) (y : Judgement) → x .len < 4294967296 → Most 260 y → onceMoreBy ws x words j y .progress .len < 4294967296
+  unfolding onceMoreBy stopping
+  once-by-left x words j Fine h m = h
+  once-by-left x words j (Clash k) h m = omega (arith, m)
+  once-by-left x words j (Stopped k) h m = h
+
+  last-left : (noted : List ℕ) (x : Progress) (words proposals left : List ℕ) → Left x left → lastPass ws es noted x words proposals left .progress .len < 4294967296
+  unfolding lastPass onceMore
+  last-left noted x words proposals left h = pick-ind (λ (y : Ending). y .progress .len < 4294967296) _ _ _
+      (λ _. once-by-left x words _ _ (h .len) (judged-most 260 ws es noted left (h .long) (0 ∷ []) proposals)) (λ _. h .len)
+
+  through-left : (t log : List ℕ) (used : ℕ) (w : Way) → OnWay w → goneThrough ws es t log used w .progress .len < 4294967296
+  unfolding goneThrough ended
+  through-left t log used w h = let v = notifiedAll ws es t log used w in last-left (v .noted) (v .progress) (v .words) (v .proposals) (v .left) (all-left t log used w h)
+
+module _ (s : GraphDivision) (c : Cursor) (h : Fits s) (long : length (s .last) ≡ 260) where
+  ended-by-fits : (t log words left : List ℕ) (x : Progress) (y : Judgement) (back after handed list : List ℕ) → x .len < 4294967296 → Fits (endedBy s c t log words left x y back after handed list .outcome .state)
+  unfolding endedBy taking takenOver refuse
+  ended-by-fits t log words left x Fine back after handed list m = m
+  ended-by-fits t log words left x (Clash k) back after handed list m = m
+  ended-by-fits t log words left x (Stopped k) back after handed list m = h
+
+  pub initialized-fits : (t log list : List ℕ) → Fits (initialized s c t log list .outcome .state)
+  unfolding initialized begun finished entering refuse
+  initialized-fits t log list = pick-ind (λ (y : Called). Fits (y .outcome .state)) _ _ _
+      (λ _. ended-by-fits t log _ _ _ _ t _ _ list (through-left (s .plan) (s .edges .ends) t log (c .used) (entering s c t log) (record { len = h; long = long })))
+      (λ _. h)
+
 -- ---- of bytes
 abbrev pub Bytes : List ℕ → Type 0
 Bytes b = (i : ℕ) → getD b i 0 < 256
@@ -233,6 +325,10 @@ word-fits b a h = omega (arith, h a, h (a + 1), h (a + 2), h (a + 3))
 state-fits : (b : List ℕ) → Bytes b → Fits (stateIn b)
 unfolding stateIn
 state-fits b h = word-fits b 62756 h
+
+last-length : (b : List ℕ) → length (stateIn b .last) ≡ 260
+unfolding stateIn wordsIn
+last-length b = filled-length 0 (λ i. wordAt b (62764 + 4 * i)) (replicate 260 0) 260 ∙ length-replicate {A = ℕ} 260 0
 
 leaves : (short : Bool) (y : Outcome) (b c : List ℕ) → Fits (y .state) → AfterOf short y b c → Leaves short y b c
 leaves short y b c f h = record { same = h .same; is = λ n. h .is n f }
@@ -246,3 +342,9 @@ pub undo-leaves : (short : Bool) (state log cursor : List ℕ) (lit : ℤ) (afte
     AfterOf short (undoneIn state log cursor lit) state after → Leaves short (undoneIn state log cursor lit) state after
 unfolding undoneIn
 undo-leaves short state log cursor lit after h a = leaves short _ state after (undone-fits (stateIn state) (cursorIn cursor) (state-fits state h) lit (logIn (cursorIn cursor) log)) a
+
+pub initialize-leaves : (short : Bool) (state t list log cursor after : List ℕ) → Bytes state →
+    AfterOf short (initializedIn state t list log cursor .outcome) state after → Leaves short (initializedIn state t list log cursor .outcome) state after
+unfolding initializedIn
+initialize-leaves short state t list log cursor after h a =
+    leaves short _ state after (initialized-fits (stateIn state) (cursorIn cursor) (state-fits state h) (last-length state) t (logIn (cursorIn cursor) log) (listIn list)) a

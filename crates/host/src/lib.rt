@@ -13,7 +13,7 @@ use builder::build::GraphDivisionOptions;
 ghost use mathlib.Core.Path.{_≡_};
 ghost use mathlib.Core.Bool.{true, false};
 ghost use lib.ListN.{length};
-ghost use Rattle.host.specs.Host.{left, back, tooShort, hostInitialized, initializedIn, hostPropagated, propagatedIn, hostUndone, undoneIn, hostReason, hostLast, AfterOf, buildCode};
+ghost use Rattle.host.specs.Host.{left, back, tooShort, hostInitialized, initializedIn, hostPropagated, propagatedIn, hostUndone, undoneIn, hostReason, hostLast, buildCode};
 ghost use Rattle.host.specs.After.{Leaves};
 ghost use Rattle.host.specs.Build.{BuiltIn};
 
@@ -66,7 +66,7 @@ pub extern "C" fn zuntjev_initialize(
 ) -> i32
     ensures { λ r. ⌜ left r (now (table .exit)) (now (list .exit)) (now (log .exit)) (now (cursor .exit))
         ≡ hostInitialized (now (state .entry)) (now (table .entry)) (now (list .entry)) (now (log .entry)) (now (cursor .entry)) ⌝ }
-    ensures { λ _. ⌜ AfterOf (tooShort (now (state .entry)) (now (cursor .entry))) (initializedIn (now (state .entry)) (now (table .entry)) (now (list .entry)) (now (log .entry)) (now (cursor .entry)) .outcome) (now (state .entry)) (now (state .exit)) ⌝ }
+    ensures { λ _. ⌜ Leaves (tooShort (now (state .entry)) (now (cursor .entry))) (initializedIn (now (state .entry)) (now (table .entry)) (now (list .entry)) (now (log .entry)) (now (cursor .entry)) .outcome) (now (state .entry)) (now (state .exit)) ⌝ }
 {
     if too_short(state, cursor) {
         return -7;
