@@ -29,7 +29,7 @@ use Rattle.plan.specs.Proper.{ProperWords}
 use Rattle.plan.proofs.Proper.{proper}
 use Rattle.sweep.specs.Sweep.{Handed, handing, handed, handedAt, handedOn}
 use Rattle.walks.specs.Written.{Out, pushed}
-use Rattle.refusals.specs.Refusals.{litNumber, stateBad, tableStateBad, propagateRefusal, undoRefusal}
+use Rattle.refusals.specs.Refusals.{litNumber, stateBad, tableStateBad, initializeRefusal, propagateRefusal, undoRefusal}
 use Rattle.refusals.proofs.Accepted.{pick-zero}
 use Rattle.judge.specs.declared.Judgement.{Judgement}
 use Rattle.judge.specs.declared.Judgement.the-variants.{Fine, Clash, Stopped}
@@ -38,8 +38,11 @@ use Rattle.graph_division.specs.declared.GraphDivision.{GraphDivision}
 use Rattle.graph_division.specs.declared.Outcome.{Outcome}
 use Rattle.graph_division.specs.declared.Answer.the-variants as answer
 use Rattle.graph_division.specs.Calls.{Called, called, outcome, refuse, withNoted, notedIn, adding, accepting, handingOn, settledBy, settled, propagated, undone}
+use Rattle.graph_division.specs.Initialize.{notedAt, notedUpTo, takenOver, taking, endedBy, begun, initialized}
+use Rattle.notifications.specs.declared.Progress.{Progress}
+use Rattle.notifications.specs.Notifications.{litAt}
 use Rattle.host.specs.Codes.{isRefused}
-use Rattle.host.specs.Host.{leftBy, leftOf, propagatedIn, backOf, backBy, undoneIn}
+use Rattle.host.specs.Host.{leftBy, leftOf, initializedIn, propagatedIn, backOf, backBy, undoneIn}
 use Rattle.host.specs.Bytes.{wordAt, longAt, putHalf, putWord, putLong, putHalves, putLongs}
 use Rattle.host.specs.Layout.{planIn, wordsIn, stateIn, cursorIn, roomOf, recordsIn, logIn, listIn}
 use Rattle.host.specs.Stores.{putCursor, putList, putLog}
@@ -188,6 +191,10 @@ propagate-within : (ws : List ℕ) (ends : List (List ℕ)) (noted t : List ℕ)
 unfolding propagateRefusal tableStateBad
 propagate-within ws ends noted t n log c lit e = cursor-within ws ends noted log c (or-none (stateBad ws ends noted log c) _ (pick-zero (tableStateBad ws ends noted t n log c) 7 _ (omega arith) e .0) .0)
 
+initialize-within : (ws : List ℕ) (ends : List (List ℕ)) (noted t : List ℕ) (n : ℕ) (log : List ℕ) (c : Cursor) (b : Bool) → initializeRefusal ws ends noted t n log c b ≡ 0 → c .used ≤ length log
+unfolding initializeRefusal tableStateBad
+initialize-within ws ends noted t n log c b e = cursor-within ws ends noted log c (or-none (stateBad ws ends noted log c) _ (pick-zero (tableStateBad ws ends noted t n log c) 7 _ (omega arith) e .0) .0)
+
 undo-within : (ws : List ℕ) (ends : List (List ℕ)) (noted log : List ℕ) (c : Cursor) (lit : ℤ) → undoRefusal ws ends noted log c lit ≡ 0 → c .used ≤ length log
 unfolding undoRefusal
 undo-within ws ends noted log c lit e = cursor-within ws ends noted log c (pick-zero (stateBad ws ends noted log c) 7 _ (omega arith) e .0)
@@ -258,6 +265,44 @@ module _ (state t list log cursor : List ℕ) (lit pending : ℤ) (hs : Bytes st
       (λ _. settled-back (litNumber lit) (number-under lit) r t (listIn list))
       (λ _. noted-back (litNumber lit) (number-under lit) r t (listIn list)))
       (λ _. refused-back _ t (listIn list))
+
+-- `zuntjev_initialize`, accepted or refused
+module _ (state t list log cursor : List ℕ) (hs : Bytes state) (hl : Bytes log) (hc : Bytes cursor) (long : 8 ≤ length cursor) where
+  abbrev c₁ : Cursor
+  c₁ = cursorIn cursor
+
+  abbrev s₁ : GraphDivision
+  s₁ = stateIn state
+
+  abbrev r₁ : List ℕ
+  r₁ = logIn c₁ log
+
+  lit-under : (ws : List ℕ) (p : ℕ) → litAt ws p < 65536
+  unfolding litAt
+  lit-under ws p = omega arith
+
+  -- the literals that are true in the table are noted, one after the other
+  abbrev Going : Noting → Type 0
+  Going x = Kept c₁ r₁ (x .log) (x .cursor) × Under 4294967296 (x .noted)
+
+  up-to-kept : (past : ℕ) → Going (notedUpTo (s₁ .plan) t past (noting (s₁ .noted) r₁ c₁))
+  unfolding notedUpTo notedAt stateIn
+  up-to-kept past = iter-ind (λ i x. Going x) (notedAt (s₁ .plan) t) (noting (s₁ .noted) r₁ c₁) past
+      (start state t list log cursor (pos 0) (pos 0) hs hl hc long, words-under state 61220 384 hs)
+      (λ p x l u. pick-ind Going _ _ _ (λ _. note-kept c₁ r₁ (few state t list log cursor (pos 0) (pos 0) hs hl hc long) (planIn state) (plan-under state hs) (litAt (planIn state) p) (lit-under (planIn state) p) x u) (λ _. u))
+
+  ended-back : c₁ .used ≤ length r₁ → (words left : List ℕ) (x : Progress) (y : Judgement) (back after handed : List ℕ) → ReadsBack c₁ (endedBy s₁ c₁ t r₁ words left x y back after handed (listIn list)) list log cursor
+  unfolding endedBy taking takenOver leftOf leftBy isRefused pick
+  ended-back r words left x Fine back after handed = let k = kept-back state t list log cursor (pos 0) (pos 0) hs hl hc long _ _ r (up-to-kept (x .past) .0) in record { cursor-is = k .0; log-is = k .1 }
+  ended-back r words left x (Clash n) back after handed = let k = kept-back state t list log cursor (pos 0) (pos 0) hs hl hc long _ _ r (up-to-kept (x .past) .0) in record { cursor-is = k .0; log-is = k .1 }
+  ended-back r words left x (Stopped n) back after handed = refused-back state t list log cursor (pos 0) (pos 0) hs hl hc long n back (listIn list)
+
+  pub initialize-reads-back : ReadsBack c₁ (initializedIn state t list log cursor) list log cursor
+  unfolding initializedIn initialized begun
+  initialize-reads-back = pick-ind (λ (y : Called). ReadsBack c₁ y list log cursor) (eqb (initializeRefusal (s₁ .plan) (s₁ .edges .ends) (s₁ .noted) t (length (listIn list)) r₁ c₁ (s₁ .initialized)) 0) _ _
+      (λ (e : eqb (initializeRefusal (s₁ .plan) (s₁ .edges .ends) (s₁ .noted) t (length (listIn list)) r₁ c₁ (s₁ .initialized)) 0 ≡ true).
+      ended-back (initialize-within (s₁ .plan) (s₁ .edges .ends) (s₁ .noted) t (length (listIn list)) r₁ c₁ (s₁ .initialized) (eqb-true _ 0 e)) _ _ _ _ t _ _)
+      (λ _. refused-back state t list log cursor (pos 0) (pos 0) hs hl hc long _ t (listIn list))
 
 -- the literals that are handed on are those of the plan
 module _ (ws : List ℕ) (ends : List (List ℕ)) (k : ProperWords ws ends) where
