@@ -48,7 +48,8 @@ extern "C" {
  * Builds the state of a plan of n vertices and m edges. Vertex v has the 67 numbers from vertices[67 * v] on: its weight, how many
  * sizes it has, how many size literals, room for 32 sizes and for 32 literals. Edge g has the numbers edges[3 * g], edges[3 * g + 1] (its ends) and
  * edges[3 * g + 2] (its literal). Each option is off at 0 and on at any other number. The log's cursor is to be set to zeros.
- * Answers 0, minus the number of the refusal (1 to 6), or -7 where the state is shorter than the layout.
+ * Answers 0, minus the number of the refusal (1 to 6), or -7 where the state is shorter than the layout; a refused build leaves the
+ * state's bytes as they were.
  */
 int32_t zuntjev_build(const int32_t vertices[4288], size_t n, const int32_t edges[384], size_t m, int32_t same_size,
                       int32_t extra_walls, uint8_t *state, size_t state_len);

@@ -220,13 +220,32 @@ static void refusals(void)
     passed++;
 }
 
-int main(void)
+/* Building: where it is refused all bytes are as they were, and what follows the layout stays. */
+static void building(void)
 {
     memset(state, 9, sizeof state);
+    memset(before, 9, sizeof before);
     check("a short state to build in", build_g(ZUNTJEV_STATE_LEN - 1), -7);
-    check("the state after it", state[0], 9);
+    check("the state after it", memcmp(before, state, sizeof state), 0);
+    gate(0, 0, 1, 8192);
+    check("a literal of 8192", build(sizeof state, 2, 1, 2, 3), -5);
+    gate(0, 0, 2, 4);
+    check("an end that is no pen", build(sizeof state, 2, 1, 2, 3), -6);
+    check("65 pens", zuntjev_build(vertices, 65, edges, 1, 0, 0, state, sizeof state), -1);
+    check("a refused build into a short state", zuntjev_build(vertices, 65, edges, 1, 0, 0, state, 0), -1);
+    check("the state after refused builds", memcmp(before, state, sizeof state), 0);
     check("build", build_g(sizeof state), 0);
-    check("what follows the state", state[ZUNTJEV_STATE_LEN], 9);
+    check("what follows the state", memcmp(before + ZUNTJEV_STATE_LEN, state + ZUNTJEV_STATE_LEN, sizeof state - ZUNTJEV_STATE_LEN), 0);
+    memcpy(before, state, sizeof state);
+    memset(state, 200, ZUNTJEV_STATE_LEN);
+    check("build over other bytes", build_g(sizeof state), 0);
+    check("the same state", memcmp(before, state, 63804), 0);
+    check("and its reasons", memcmp(before + 63808, state + 63808, sizeof state - 63808), 0);
+}
+
+int main(void)
+{
+    building();
     refusals();
     check("I", initialize(), 0);
     check("I again", initialize(), -8);
