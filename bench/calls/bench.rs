@@ -20,7 +20,7 @@ use sat::{CustomPropagator, Lit};
 use solver::Solver;
 
 extern "C" {
-    fn zuntjev_build(vertices: *const i32, n: usize, edges: *const i32, m: usize, same_size: i32, extra_walls: i32, state: *mut u8, state_len: usize) -> i32;
+    fn zuntjev_build(vertices: *const u8, vn: usize, n: usize, edges: *const u8, en: usize, m: usize, same_size: i32, extra_walls: i32, state: *mut u8, state_len: usize) -> i32;
     fn zuntjev_propagate(state: *mut u8, sn: usize, table: *mut u8, tn: usize, list: *mut u8, ln: usize, log: *mut u8, gn: usize, cursor: *mut u8, cn: usize, lit: i32, pending: i32) -> i32;
     fn zuntjev_undo(state: *mut u8, sn: usize, log: *const u8, gn: usize, cursor: *mut u8, cn: usize, lit: i32) -> i32;
     fn zuntjev_calc_reason(state: *const u8, sn: usize, log: *const u8, gn: usize, cursor: *const u8, cn: usize, lit: i32, buffer: *mut u8, bn: usize) -> i32;
@@ -104,7 +104,9 @@ impl Plan {
         }
         let count = self.variables();
         let mut state = vec![0u8; 133440];
-        let built = unsafe { zuntjev_build(vs.as_ptr(), self.n, es.as_ptr(), self.m, 0, 0, state.as_mut_ptr(), state.len()) };
+        let bytes = |numbers: &[i32]| numbers.iter().flat_map(|x| x.to_le_bytes()).collect::<Vec<u8>>();
+        let (vs, es) = (bytes(&vs), bytes(&es));
+        let built = unsafe { zuntjev_build(vs.as_ptr(), vs.len(), self.n, es.as_ptr(), es.len(), self.m, 0, 0, state.as_mut_ptr(), state.len()) };
         assert_eq!(built, 0, "building");
         Host { state, table: vec![0; count], list: vec![0; 4 * count], log: vec![0; 16 * count], cursor: vec![0; 8], buffer: vec![0; 2 * (self.m + 2 * self.n + 4)] }
     }
