@@ -1,27 +1,26 @@
 -- Numbers with a sign in bytes, as the code comes to them.
-use Prim.Native.Nat.{ℕ, zero, suc, _+_, _-_, _*_, _≤_, _<_}
+use Prim.Native.Nat.{ℕ, zero, suc, _-_, _*_, _≤_, _<_}
 use native.Mathlib.Omega.{arith}
 use native.Mathlib.Nat.{not-suc-le-zero, le-of-suc-le-suc, zero-add}
-use mathlib.Core.Path.{_≡_, refl, sym, ap, ap₂, subst, _∙_}
-use mathlib.Core.Bool.{Bool, true, false}
+use mathlib.Core.Path.{_≡_, refl, sym, ap, subst, _∙_}
+use mathlib.Core.Bool.{true, false}
 use mathlib.Core.List.{List, [], _∷_}
 use lib.Dec.{ltb, eqb}
-use lib.IntN.{ℤ, pos, negsuc, negℤ, _-ℤ_}
+use lib.IntN.{ℤ, pos, negsuc, _-ℤ_}
 use lib.ListN.{length, getD, set, replicate}
 use borrow.Author.Tests.{ltb-true, ltb-false, lt-ltb, le-ltb}
 use mir.Syntax.{w32}
 use mir.Val.{toZ, ofZ, SFits}
 use mir.Facts.{toZ-ofZ, toZ-pos}
-use Rattle.base.specs.Iter.{iter, pick}
+use Rattle.base.specs.Iter.{iter}
 use Rattle.base.proofs.Range.{reads-back}
 use Rattle.base.proofs.Loop.{pick-ind, pick-yes, pick-no}
 use Rattle.builder.specs.Input.{refusal}
 use Rattle.host.specs.Bytes.{wordAt}
-use Rattle.host.specs.Codes.{fitted}
 use Rattle.host.specs.Host.{buildCode, short}
 use Rattle.host.specs.Build.{BuiltIn}
 use Rattle.host.specs.Numbers.{signedOf, intAt, numbersIn}
-use Rattle.host.proofs.Coding.{pos-back, fitted-neg}
+use Rattle.host.proofs.Coding.{fitted-neg}
 
 pub getD-past : (l : List ℕ) (i : ℕ) → length l ≤ i → 0 ≡ getD l i 0
 getD-past [] i h = refl
