@@ -36,20 +36,29 @@ static void stop(const char *call, int32_t answer)
     exit(1);
 }
 
+/* A signed number in 4 bytes, the lowest first. */
+static void put_number(uint8_t *at, int32_t x)
+{
+    for (int i = 0; i < 4; i++)
+        at[i] = (uint8_t)((uint32_t)x >> 8 * i);
+}
+
 static void build(void)
 {
-    static int32_t vertices[4288], edges[384];
+    static uint8_t vertices[268 * PENS], edges[12 * GATES];
     for (int v = 0; v < PENS; v++) {
-        int k = pens[v].sizes[1] ? 2 : 0;
+        int32_t k = pens[v].sizes[1] ? 2 : 0;
         const int32_t numbers[] = {pens[v].heads, k, k ? 1 : 0, pens[v].sizes[0], pens[v].sizes[1]};
-        memcpy(vertices + 67 * v, numbers, sizeof numbers);
-        vertices[67 * v + 35] = pens[v].lit;
+        for (int i = 0; i < 5; i++)
+            put_number(vertices + 268 * v + 4 * i, numbers[i]);
+        put_number(vertices + 268 * v + 4 * 35, pens[v].lit);
     }
     for (int g = 0; g < GATES; g++) {
-        const int32_t numbers[] = {gates[g][0], gates[g][1], 2 * g};
-        memcpy(edges + 3 * g, numbers, sizeof numbers);
+        put_number(edges + 12 * g, gates[g][0]);
+        put_number(edges + 12 * g + 4, gates[g][1]);
+        put_number(edges + 12 * g + 8, 2 * g);
     }
-    int32_t answer = zuntjev_build(vertices, PENS, edges, GATES, 0, 0, state, sizeof state);
+    int32_t answer = zuntjev_build(vertices, sizeof vertices, PENS, edges, sizeof edges, GATES, 0, 0, state, sizeof state);
     if (answer < 0)
         stop("building", answer);
 }

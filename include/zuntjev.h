@@ -45,14 +45,15 @@ extern "C" {
 #define ZUNTJEV_NOTED (-101)
 
 /*
- * Builds the state of a plan of n vertices and m edges. Vertex v has the 67 numbers from vertices[67 * v] on: its weight, how many
- * sizes it has, how many size literals, room for 32 sizes and for 32 literals. Edge g has the numbers edges[3 * g], edges[3 * g + 1] (its ends) and
- * edges[3 * g + 2] (its literal). Each option is off at 0 and on at any other number. The log's cursor is to be set to zeros.
+ * Builds the state of a plan of n vertices and m edges. Its numbers are signed, 4 bytes each. Vertex v has 67 of them, from byte
+ * 268 * v of vertices on: its weight, how many sizes it has, how many size literals, room for 32 sizes and for 32 literals. Edge g
+ * has three, from byte 12 * g of edges on: its two ends and its literal. Bytes that are missing count as 0, and those past vertex 63
+ * and edge 127 are not read. Each option is off at 0 and on at any other number. The log's cursor is to be set to zeros.
  * Answers 0, minus the number of the refusal (1 to 6), or -7 where the state is shorter than the layout; a refused build leaves the
  * state's bytes as they were.
  */
-int32_t zuntjev_build(const int32_t vertices[4288], size_t n, const int32_t edges[384], size_t m, int32_t same_size,
-                      int32_t extra_walls, uint8_t *state, size_t state_len);
+int32_t zuntjev_build(const uint8_t *vertices, size_t vertices_len, size_t n, const uint8_t *edges, size_t edges_len, size_t m,
+                      int32_t same_size, int32_t extra_walls, uint8_t *state, size_t state_len);
 
 /*
  * Notifies, in rising order, the plan's literals that are true in the table; stops at a conflict, else analyses once more. Answers how

@@ -17,7 +17,7 @@ struct run {
 };
 
 static struct run table, list, records, buffer;
-static int32_t vertices[4288], edges[384];
+static uint8_t vertices[65 * 268], edges[128 * 12];
 
 static void check(const char *what, long got, long want)
 {
@@ -71,22 +71,29 @@ static int32_t initialize(void)
                               sizeof cursor);
 }
 
+static void put(uint8_t *at, int32_t x)
+{
+    uint32_t bits = (uint32_t)x;
+    for (int i = 0; i < 4; i++)
+        at[i] = (uint8_t)(bits >> 8 * i);
+}
+
 static void pen(int v, int32_t weight, int32_t sizes, int32_t smaller, int32_t larger, int32_t lit)
 {
-    int32_t *numbers = vertices + 67 * v;
-    numbers[0] = weight;
-    numbers[1] = sizes;
-    numbers[2] = sizes > 1 ? sizes - 1 : 0;
-    numbers[3] = smaller;
-    numbers[4] = larger;
-    numbers[35] = lit;
+    uint8_t *numbers = vertices + 268 * v;
+    put(numbers, weight);
+    put(numbers + 4, sizes);
+    put(numbers + 8, sizes > 1 ? sizes - 1 : 0);
+    put(numbers + 12, smaller);
+    put(numbers + 16, larger);
+    put(numbers + 140, lit);
 }
 
 static void gate(int g, int32_t u, int32_t v, int32_t lit)
 {
-    edges[3 * g] = u;
-    edges[3 * g + 1] = v;
-    edges[3 * g + 2] = lit;
+    put(edges + 12 * g, u);
+    put(edges + 12 * g + 4, v);
+    put(edges + 12 * g + 8, lit);
 }
 
 static void fit(struct run *r, size_t len)
@@ -106,7 +113,7 @@ static int32_t build(size_t len, int pens, int gates, int size_lits, int variabl
     fit(&records, 16 * (size_t)(gates + size_lits));
     fit(&buffer, 2 * (size_t)(gates + 2 * pens + 4));
     memset(cursor, 0, sizeof cursor);
-    return zuntjev_build(vertices, (size_t)pens, edges, (size_t)gates, 0, 0, state, len);
+    return zuntjev_build(vertices, 268 * (size_t)pens, (size_t)pens, edges, 12 * (size_t)gates, (size_t)gates, 0, 0, state, len);
 }
 
 static int32_t build_g(size_t len)
@@ -231,14 +238,20 @@ static void building(void)
     check("a literal of 8192", build(sizeof state, 2, 1, 2, 3), -5);
     gate(0, 0, 2, 4);
     check("an end that is no pen", build(sizeof state, 2, 1, 2, 3), -6);
-    check("65 pens", zuntjev_build(vertices, 65, edges, 1, 0, 0, state, sizeof state), -1);
-    check("a refused build into a short state", zuntjev_build(vertices, 65, edges, 1, 0, 0, state, 0), -1);
+    check("65 pens", zuntjev_build(vertices, sizeof vertices, 65, edges, 12, 1, 0, 0, state, sizeof state), -1);
+    check("a refused build into a short state", zuntjev_build(vertices, sizeof vertices, 65, edges, 12, 1, 0, 0, state, 0), -1);
+    pen(0, -1, 2, 3, 7, 0);
+    gate(0, 0, 1, 4);
+    check("a weight of -1", build(sizeof state, 2, 1, 2, 3), -2);
+    pen(0, INT32_MIN, 2, 3, 7, 0);
+    check("the least number", build(sizeof state, 2, 1, 2, 3), -2);
     check("the state after refused builds", memcmp(before, state, sizeof state), 0);
     check("build", build_g(sizeof state), 0);
     check("what follows the state", memcmp(before + ZUNTJEV_STATE_LEN, state + ZUNTJEV_STATE_LEN, sizeof state - ZUNTJEV_STATE_LEN), 0);
     memcpy(before, state, sizeof state);
     memset(state, 200, ZUNTJEV_STATE_LEN);
     check("build over other bytes", build_g(sizeof state), 0);
+    check("bytes that are missing count as 0", zuntjev_build(vertices, 0, 2, edges, 0, 1, 0, 0, before + 4, 0), -7);
     check("the same state", memcmp(before, state, 63804), 0);
     check("and its reasons", memcmp(before + 63808, state + 63808, sizeof state - 63808), 0);
 }

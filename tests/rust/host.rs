@@ -1,6 +1,6 @@
 // The C host (include/zuntjev.h), with the buffers that it is lent: what a driver that links libhost.a needs of it.
 extern "C" {
-    fn zuntjev_build(vertices: *const i32, n: usize, edges: *const i32, m: usize, same_size: i32, extra_walls: i32, state: *mut u8, state_len: usize) -> i32;
+    fn zuntjev_build(vertices: *const u8, vn: usize, n: usize, edges: *const u8, en: usize, m: usize, same_size: i32, extra_walls: i32, state: *mut u8, state_len: usize) -> i32;
     fn zuntjev_initialize(state: *mut u8, sn: usize, table: *mut u8, tn: usize, list: *mut u8, ln: usize, log: *mut u8, gn: usize, cursor: *mut u8, cn: usize) -> i32;
     fn zuntjev_propagate(state: *mut u8, sn: usize, table: *mut u8, tn: usize, list: *mut u8, ln: usize, log: *mut u8, gn: usize, cursor: *mut u8, cn: usize, lit: i32, pending: i32) -> i32;
     fn zuntjev_undo(state: *mut u8, sn: usize, log: *const u8, gn: usize, cursor: *mut u8, cn: usize, lit: i32) -> i32;
@@ -39,19 +39,18 @@ impl Given {
 
     // A built state, with a table of `variables` entries, a list of `lits` literals, and log and reason buffer as short as they may be.
     pub fn build(&self, variables: usize, lits: usize) -> Host {
-        let (mut vs, mut es) = (vec![0i32; 4288], vec![0i32; 384]);
+        let (n, m) = (self.vertices.len(), self.edges.len());
+        let mut vs = vec![0i32; 67 * n];
         for (v, (weight, sizes, dom_lits)) in self.vertices.iter().enumerate() {
             let at = 67 * v;
             vs[at..at + 3].copy_from_slice(&[*weight, sizes.len() as i32, dom_lits.len() as i32]);
             vs[at + 3..at + 3 + sizes.len()].copy_from_slice(sizes);
             vs[at + 35..at + 35 + dom_lits.len()].copy_from_slice(dom_lits);
         }
-        for (g, edge) in self.edges.iter().enumerate() {
-            es[3 * g..3 * g + 3].copy_from_slice(edge);
-        }
-        let (n, m) = (self.vertices.len(), self.edges.len());
+        let vs: Vec<u8> = vs.iter().flat_map(|x| x.to_le_bytes()).collect();
+        let es: Vec<u8> = self.edges.iter().flatten().flat_map(|x| x.to_le_bytes()).collect();
         let mut state = vec![0; STATE_LEN];
-        let built = unsafe { zuntjev_build(vs.as_ptr(), n, es.as_ptr(), m, self.same_size as i32, self.extra_walls as i32, state.as_mut_ptr(), state.len()) };
+        let built = unsafe { zuntjev_build(vs.as_ptr(), vs.len(), n, es.as_ptr(), es.len(), m, self.same_size as i32, self.extra_walls as i32, state.as_mut_ptr(), state.len()) };
         assert_eq!(built, 0, "building");
         Host { state, table: vec![0; variables], list: vec![0; 2 * lits], log: vec![0; 16 * self.slots()], cursor: vec![0; 8], buffer: vec![0; 2 * (m + 2 * n + 4)] }
     }

@@ -1,5 +1,5 @@
 -- The bytes that building leaves stand for the state that `new` builds.
-use Prim.Native.Nat.{ℕ, zero, suc, _+_, _-_, _*_, _/_, _%_, _≤_, _<_}
+use Prim.Native.Nat.{ℕ, zero, suc, _+_, _-_, _*_, _%_, _≤_, _<_}
 use native.Mathlib.Omega.{arith}
 use native.Mathlib.Nat.{not-suc-le-zero, eq-or-lt-of-le, zero-add}
 use mathlib.Core.Path.{_≡_, refl, sym, ap, ap₂, subst, _∙_}
@@ -14,7 +14,7 @@ use Rattle.base.specs.Iter.{iter, pick}
 use Rattle.base.specs.Lists.{filled}
 use Rattle.base.specs.Range.{toNat}
 use Rattle.base.proofs.Filled.{filled-length, filled-in, filled-out}
-use Rattle.base.proofs.Loop.{iter-ind, eq-or-not, pick-yes, pick-no}
+use Rattle.base.proofs.Loop.{iter-ind, eq-or-not}
 use Rattle.reasons.specs.Reason.{reasonOf, laterReason}
 use Rattle.reasons.specs.declared.reason.Reason.the-variants.{NotPropagated}
 use Rattle.recorded.specs.declared.Recorded.{Recorded}
@@ -28,10 +28,10 @@ use Rattle.graph_division.specs.New.{built}
 use Rattle.graph_division.specs.Calls.{withNoted}
 use Rattle.lent.specs.Lent.{stateOf}
 use Rattle.host.specs.Bytes.{wordAt, longAt, putWords}
-use Rattle.host.specs.Layout.{inUse, planIn, endsAt, endsIn, wordsIn, tabOf, reasonIn, reasonsIn, stateIn}
+use Rattle.host.specs.Layout.{inUse, planIn, endsAt, endsIn, wordsIn, reasonIn, reasonsIn, stateIn}
 use Rattle.host.specs.Stores.{putNoted, putEnds, putEdges, cleared}
 use Rattle.host.specs.Build.{buildRefused, BuildAfter}
-use Rattle.host.proofs.Filling.{iter-length, putWords-length, putNoted-length}
+use Rattle.host.proofs.Filling.{iter-length, putWords-length}
 use Rattle.host.proofs.Agreeing.{Agree, agree-word, agree-then, agree-part, putWords-agrees, putWords-in}
 use Rattle.host.proofs.Standing.{in-use-same, words-same, words-read, tabOf-length, tabOf-at}
 use Rattle.host.proofs.Using.{plan-in-use}

@@ -1,7 +1,6 @@
 -- What a call makes of bytes fits its bytes again: words of 32 bits, records of 64, and a cursor of two words of 32.
 use Prim.Native.Nat.{ℕ, zero, suc, _+_, _-_, _*_, _/_, _%_, _≤_, _<_}
 use native.Mathlib.Omega.{arith}
-use native.Mathlib.Nat.{not-suc-le-zero}
 use mathlib.Core.Path.{_≡_, refl, sym, ap, subst, _∙_}
 use mathlib.Core.Bool.{Bool, true, false}
 use mathlib.Core.List.{List, [], _∷_}
@@ -10,18 +9,18 @@ use lib.IntN.{ℤ, pos}
 use lib.ListN.{length, getD, set, take, replicate, length-set}
 use lib.Seq.{getD-set-other}
 use borrow.Author.Tests.{ltb-true}
-use Rattle.base.specs.Iter.{iter, pick}
+use Rattle.base.specs.Iter.{pick}
 use Rattle.base.specs.Lists.{filled}
-use Rattle.base.specs.Range.{inRange, toNat}
+use Rattle.base.specs.Range.{inRange}
 use Rattle.base.proofs.Loop.{iter-ind, pick-ind, pick-yes, pick-no, tested}
 use Rattle.base.proofs.Range.{in-range-nat}
 use Rattle.undo_log.specs.declared.Record.{Record}
 use Rattle.undo_log.specs.declared.Cursor.{Cursor}
 use Rattle.undo_log.specs.Log.{wordOf, pushWords, hasRoom, movedTo}
-use Rattle.plan.specs.Words.{cell, domainOf, litOf, occurrenceAt, startAt}
+use Rattle.plan.specs.Words.{cell, occurrenceAt, startAt}
 use Rattle.noting.specs.declared.note.Effect.{Effect}
 use Rattle.noting.specs.Words.{capped, boundAt, lowerOf, upperOf, lowerLitOf, upperLitOf}
-use Rattle.noting.specs.Note.{Noting, noting, sizeEffect, edgeEffect, effectOf, undoRecord, boundSet, edgeSet, applied, pushedTo, noteSlot, boundary, oneMore, levelPushed, noteAt, note, known, placeIn}
+use Rattle.noting.specs.Note.{Noting, sizeEffect, edgeEffect, effectOf, undoRecord, boundSet, edgeSet, applied, pushedTo, noteSlot, boundary, oneMore, levelPushed, noteAt, note}
 use Rattle.noting.specs.Undo.{recordsOf, kept}
 use Rattle.refusals.specs.Refusals.{litNumber}
 use Rattle.host.specs.Bytes.{wordAt, longAt}

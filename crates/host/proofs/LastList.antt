@@ -1,14 +1,13 @@
 -- A list that a call leaves is written to a buffer of 260 literals, so it has no more than these, and its length fits its 4 bytes.
 use Prim.Native.Nat.{ℕ, _+_, _*_, _≤_, _<_}
 use native.Mathlib.Omega.{arith}
-use mathlib.Core.Path.{_≡_, refl, sym, ap, subst, _∙_}
+use mathlib.Core.Path.{_≡_, _∙_}
 use mathlib.Core.Bool.{Bool, true, false}
 use mathlib.Core.List.{List, [], _∷_}
 use lib.Dec.{ltb}
 use lib.IntN.{ℤ}
-use lib.ListN.{length, getD, set, take, replicate, length-set, length-replicate}
+use lib.ListN.{length, getD, set, replicate, length-set, length-replicate}
 use borrow.Author.Tests.{ltb-true}
-use Rattle.base.specs.Iter.{pick}
 use Rattle.base.proofs.Loop.{pick-ind, iter-ind}
 use Rattle.base.proofs.Filled.{filled-length}
 use Rattle.plan.specs.Words.{variablesOf}
@@ -17,29 +16,25 @@ use Rattle.notifications.specs.Notifications.{Way, Ending, stopping, fineBy, jo
 use Rattle.undo_log.specs.declared.Cursor.{Cursor}
 use Rattle.walks.specs.declared.Listed.{Listed}
 use Rattle.walks.specs.declared.Listed.the-variants.{Past, Missing}
-use Rattle.walks.specs.declared.Shape.{Shape}
 use Rattle.walks.specs.Written.{Out, outOf, pushed, written}
-use Rattle.walks.specs.Answers.{Answer, answerOf, given, missing, connectedPath, decidedRegion, potentialRegion}
+use Rattle.walks.specs.Answers.{Answer, given, missing, connectedPath, decidedRegion, potentialRegion}
 use Rattle.reasons.specs.declared.reason.Reason.{Reason}
 use Rattle.reasons.specs.declared.reason.Reason.the-variants.{NotPropagated, EdgeInSameGroup, EdgeBetweenDifferentGroups, TooLargeIfRegionsAreMerged, RegionAlreadyLarge, RegionAlreadySmall, InconsistentBoundsIfRegionsAreMerged, BoundPropagationWithinRegion, AdjacentSameSizeRegions}
 use Rattle.reasons.specs.declared.Verdict.{Verdict}
 use Rattle.reasons.specs.declared.Verdict.the-variants.{Going, DisconnectedInside, Over, Under, Crowded, Apart, Crossed, ZeroSize, Unfit}
-use Rattle.reasons.specs.Verdicts.{Ran}
-use Rattle.views.specs.Compute.{Computed}
 use Rattle.lists.specs.Parts.{shapeOf, after, then, path, decided, potential, twoPaths, inside, twoRegions, threeRegions, andWord, andLit}
 use Rattle.lists.specs.Lists.{between, tooLarge, mismatched, spread, sameSized, reasonLits}
 use Rattle.lists.specs.Conflicts.{spanAfter, spansAfter, apartLits, conflictLits}
 use Rattle.judge.specs.declared.Judgement.{Judgement}
 use Rattle.judge.specs.declared.Judgement.the-variants.{Fine, Clash, Stopped}
 use Rattle.judge.specs.Judge.{Listing, Judged, listed, ofList, judgeCurrent, ofFalse, judgeChosen, judgeConflict, crowdedBy, judgeCrowded, falseLits, judgeFalse, judgeProposals, judgeFound, withWords, judgeRan, judgeWords}
-use Rattle.sweep.specs.Sweep.{Handed}
 use Rattle.graph_division.specs.declared.GraphDivision.{GraphDivision}
 use Rattle.graph_division.specs.declared.Outcome.{Outcome}
 use Rattle.graph_division.specs.Calls.{Called, withNoted, withJudged, refuse, adding, accepting, handingOn, settledBy, settled, propagated, undone}
 use Rattle.graph_division.specs.Initialize.{takenOver, taking, endedBy, entering, finished, begun, initialized}
 use Rattle.host.specs.Bytes.{wordAt}
 use Rattle.host.specs.Layout.{wordsIn, stateIn, cursorIn, listIn, logIn}
-use Rattle.host.specs.Host.{StateAfter, AfterOf, initializedIn, propagatedIn, undoneIn}
+use Rattle.host.specs.Host.{AfterOf, initializedIn, propagatedIn, undoneIn}
 use Rattle.host.specs.After.{Leaves}
 
 -- at most n literals

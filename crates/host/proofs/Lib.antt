@@ -7,6 +7,7 @@ pub mod Leaving
 pub mod Fetching
 pub mod Undoing
 pub mod Initializing
+pub mod Numbering
 pub mod Outside
 pub mod Using
 pub mod Building

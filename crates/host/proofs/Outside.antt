@@ -1,7 +1,7 @@
 -- The words of a built plan that its counts say are not in use are 0: the builder stores in those that are, over an array of zeros.
 use Prim.Native.Nat.{ℕ, zero, suc, pred, _+_, _-_, _*_, _/_, _%_, _≤_, _<_}
 use native.Mathlib.Omega.{arith}
-use mathlib.Core.Path.{_≡_, refl, sym, ap, ap₂, subst, _∙_}
+use mathlib.Core.Path.{_≡_, refl, sym, subst, _∙_}
 use mathlib.Core.Logic.{_⊎_, inl, inr, ⊎-elim}
 use mathlib.Core.Bool.{Bool, true, false}
 use mathlib.Core.List.{List}
@@ -9,22 +9,21 @@ use lib.Dec.{eqb, ltb}
 use lib.IntN.{ℤ}
 use lib.ListN.{length, getD, set, replicate, getD-replicate}
 use lib.Seq.{getD-set-other}
-use borrow.Author.Tests.{eq-eqb, ltb-true, ltb-false}
+use borrow.Author.Tests.{ltb-true, ltb-false}
 use Rattle.base.specs.Iter.{iter, pick}
 use Rattle.base.specs.Lists.{filled}
 use Rattle.base.specs.Range.{toNat}
 use Rattle.base.proofs.Filled.{filled-out}
 use Rattle.base.proofs.Loop.{iter-ind, pick-ind, pick-yes, pick-no, tested}
 use Rattle.base.proofs.Tests.{and-left, le-or-lt}
-use Rattle.plan.specs.Words.{verticesOf, edgesOf, variablesOf, slotsOf, domainLenOf, litOf}
+use Rattle.plan.specs.Words.{verticesOf, edgesOf, domainLenOf, litOf}
 use Rattle.plan.specs.Check.{usedSlot}
-use Rattle.builder.specs.Input.{weightAt, lenAt, sizeAt, litAt, edgeLitAt, refusal}
+use Rattle.builder.specs.Input.{weightAt, lenAt, sizeAt, litAt, edgeLitAt}
 use Rattle.builder.specs.Index.{variableOf, isOf, Filing, stored, fileStep, file, Indexing, opened, round, unindexed, indexed}
-use Rattle.builder.specs.Build.{rows, header, given, closed, totals, withIndex, planWords}
+use Rattle.builder.specs.Build.{rows, header, given, closed, withIndex}
 use Rattle.builder.proofs.Refusal.{Counted, counted}
-use Rattle.builder.proofs.Lowest.{Clean, clean}
 use Rattle.builder.proofs.Count.{pred-few}
-use Rattle.builder.proofs.Given.{given-length, given-header, kept-word, total-word, index-word}
+use Rattle.builder.proofs.Given.{given-length, given-header, kept-word, index-word}
 
 -- i is none of the n places from `from` on
 abbrev pub Off : ℕ → ℕ → ℕ → Type 0

@@ -9,7 +9,7 @@ use mathlib.Core.List.{List}
 use lib.Dec.{ltb, eqb}
 use lib.IntN.{ℤ, pos}
 use borrow.Author.Tests.{ltb-true, ltb-false, eqb-true}
-use lib.ListN.{length, getD, set, take, replicate, length-set, length-replicate}
+use lib.ListN.{length, getD, set, replicate, length-set, length-replicate}
 use lib.Seq.{getD-set-same, getD-set-other, getD-take}
 use Rattle.base.specs.Iter.{iter, pick}
 use Rattle.base.specs.Lists.{filled}
@@ -46,7 +46,7 @@ use Rattle.host.specs.Host.{leftBy, leftOf, initializedIn, propagatedIn,
 use Rattle.host.specs.Bytes.{wordAt, longAt, putHalf, putWord, putLong, putHalves, putLongs}
 use Rattle.host.specs.Layout.{planIn, wordsIn, stateIn, cursorIn, roomOf, recordsIn, logIn, listIn}
 use Rattle.host.specs.Stores.{putCursor, putList, putLog}
-use Rattle.host.proofs.Filling.{capped-most, capped-less, room-is, putHalf-length, putHalves-length, putWord-length, putLong-length, putLongs-length}
+use Rattle.host.proofs.Filling.{capped-most, capped-less, room-is, putHalves-length, putWord-length, putLongs-length}
 use Rattle.host.proofs.Agreeing.{Agree, agree-word, agree-long, agree-then, putWord-agrees, putWord-in, putLong-agrees, putLong-in}
 use Rattle.host.proofs.Using.{capped-is}
 use Rattle.host.proofs.Leaving.{room-length, list-room}

@@ -1,8 +1,8 @@
 -- A built plan is what is decoded of its words: those that are not decoded are 0.
-use Prim.Native.Nat.{ℕ, zero, suc, _+_, _-_, _*_, _≤_, _<_}
+use Prim.Native.Nat.{ℕ, _+_, _-_, _*_, _≤_, _<_}
 use native.Mathlib.Omega.{arith}
-use mathlib.Core.Path.{_≡_, refl, sym, ap, subst, _∙_}
-use mathlib.Core.Logic.{_⊎_, inl, inr}
+use mathlib.Core.Path.{_≡_, sym, ap, subst, _∙_}
+use mathlib.Core.Logic.{inl, inr}
 use mathlib.Core.Bool.{Bool, true, false}
 use mathlib.Core.List.{List}
 use lib.Dec.{ltb}
@@ -19,7 +19,7 @@ use Rattle.builder.specs.Input.{refusal}
 use Rattle.builder.specs.Index.{indexed}
 use Rattle.builder.specs.Build.{header, given, totals, withIndex, planWords}
 use Rattle.builder.proofs.Refusal.{Counted, counted}
-use Rattle.builder.proofs.Lowest.{Clean, clean}
+use Rattle.builder.proofs.Lowest.{clean}
 use Rattle.builder.proofs.BuildCases.{indexed-few}
 use Rattle.builder.proofs.Given.{given-length, given-header, kept-word, total-word}
 use Rattle.host.specs.Layout.{window, sizesOf, litsOf, placesOf, indexOf, inUseOver, inUse}

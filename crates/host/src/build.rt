@@ -1,5 +1,6 @@
 // Building a state's bytes.
 use crate::bytes::write_words;
+use crate::codes::refusal_code;
 use crate::decode::no_notes;
 use crate::store::store_noted;
 use builder::build::GraphDivisionOptions;
@@ -14,7 +15,8 @@ ghost use Rattle.graph_division.specs.New.{built};
 ghost use Rattle.host.specs.Bytes.{wordAt, putWords};
 ghost use Rattle.host.specs.Layout.{wordsIn};
 ghost use Rattle.host.specs.Stores.{putNoted, putEnds, putEdges, cleared};
-ghost use Rattle.host.specs.Build.{BuildAfter};
+ghost use Rattle.host.specs.Host.{buildCode};
+ghost use Rattle.host.specs.Build.{BuildAfter, BuiltIn};
 
 // An option other than 0 counts as 1.
 pub(crate) fn option(n: i32) -> bool
@@ -94,4 +96,32 @@ pub(crate) fn build<'a>(
     store_words(state, &plan, &noted);
     store_edges(state, &table);
     clear(state);
+}
+
+// Where no refusal applies. An option other than 0 counts as 1.
+pub(crate) fn build_from<'a>(
+    vertices: &'a [i32; 4288],
+    n: usize,
+    edges: &'a [i32; 384],
+    m: usize,
+    same_size: i32,
+    extra_walls: i32,
+    state: &mut [u8],
+) -> i32
+    ensures { λ r. ⌜ r ≡ buildCode (now (vertices .entry)) n (now (edges .entry)) m (now (state .entry)) ⌝ }
+    ensures { λ _. ⌜ BuiltIn (now (vertices .entry)) n (now (edges .entry)) m «same_size» «extra_walls» (now (state .entry)) (now (state .exit)) ⌝ }
+{
+    let refusal = builder::input::refusal_of(vertices, n, edges, m);
+    if refusal == 0 {
+        if state.len() < 133440 {
+            return -7;
+        }
+        let options = GraphDivisionOptions {
+            disallow_adjacent_same_size_regions: option(same_size),
+            allow_extra_walls: option(extra_walls),
+        };
+        build(vertices, n, edges, m, options, state);
+        return 0;
+    }
+    refusal_code(refusal as u32)
 }

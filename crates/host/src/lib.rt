@@ -7,15 +7,16 @@ mod codes;
 mod decode;
 mod fetch;
 mod initialize;
+mod numbers;
 mod store;
 
-use builder::build::GraphDivisionOptions;
 ghost use mathlib.Core.Path.{_≡_};
 ghost use mathlib.Core.Bool.{true, false};
 ghost use lib.ListN.{length};
 ghost use Rattle.host.specs.Host.{left, back, tooShort, hostInitialized, initializedIn, hostPropagated, propagatedIn, hostUndone, undoneIn, hostReason, hostLast, buildCode};
 ghost use Rattle.host.specs.After.{Leaves};
 ghost use Rattle.host.specs.Build.{BuiltIn};
+ghost use Rattle.host.specs.Numbers.{numbersIn};
 
 fn too_short(state: &[u8], cursor: &[u8]) -> bool
     ensures { λ r. ⌜ r ≡ tooShort (now (state .entry)) (now (cursor .entry)) ⌝ }
@@ -26,33 +27,33 @@ fn too_short(state: &[u8], cursor: &[u8]) -> bool
     cursor.len() < 8
 }
 
-// The arrays hold n vertices and m edges as builder::input says. An option other than 0 counts as 1.
+// The bytes hold the numbers of n vertices and m edges as builder::input says, 4 bytes each. An option other than 0 counts as 1.
 #[no_mangle]
-pub extern "C" fn zuntjev_build<'a>(
-    vertices: &'a [i32; 4288],
+pub extern "C" fn zuntjev_build(
+    vertices: &[u8],
     n: usize,
-    edges: &'a [i32; 384],
+    edges: &[u8],
     m: usize,
     same_size: i32,
     extra_walls: i32,
     state: &mut [u8],
 ) -> i32
-    ensures { λ r. ⌜ r ≡ buildCode (now (vertices .entry)) n (now (edges .entry)) m (now (state .entry)) ⌝ }
-    ensures { λ _. ⌜ BuiltIn (now (vertices .entry)) n (now (edges .entry)) m «same_size» «extra_walls» (now (state .entry)) (now (state .exit)) ⌝ }
+    ensures { λ r. ⌜ r ≡ buildCode (numbersIn 4288 (now (vertices .entry))) n (numbersIn 384 (now (edges .entry))) m (now (state .entry)) ⌝ }
+    ensures { λ _. ⌜ BuiltIn (numbersIn 4288 (now (vertices .entry))) n (numbersIn 384 (now (edges .entry))) m «same_size» «extra_walls» (now (state .entry)) (now (state .exit)) ⌝ }
 {
-    let refusal = builder::input::refusal_of(vertices, n, edges, m);
-    if refusal == 0 {
-        if state.len() < 133440 {
-            return -7;
-        }
-        let options = GraphDivisionOptions {
-            disallow_adjacent_same_size_regions: build::option(same_size),
-            allow_extra_walls: build::option(extra_walls),
-        };
-        build::build(vertices, n, edges, m, options, state);
-        return 0;
-    }
-    codes::refusal_code(refusal as u32)
+    let mut vertex_numbers = numbers::no_vertices();
+    numbers::read_numbers(vertices, 4288, &mut vertex_numbers);
+    let mut edge_numbers = numbers::no_edges();
+    numbers::read_numbers(edges, 384, &mut edge_numbers);
+    build::build_from(
+        &vertex_numbers,
+        n,
+        &edge_numbers,
+        m,
+        same_size,
+        extra_walls,
+        state,
+    )
 }
 
 // Notifies, in rising order, the plan's literals that are true in the table on entry, and analyzes once more.
