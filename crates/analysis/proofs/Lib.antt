@@ -2,6 +2,7 @@ pub mod Pass
 pub mod Shapes
 pub mod Place
 pub mod Matching
+pub mod Walls
 pub mod Bounds
 pub mod Spreading
 pub mod Forks

@@ -1,19 +1,30 @@
 -- What code tests first, to search less.
 -- The analysis as code makes it: a region's vertices are searched for two bounds that do not meet only where the region's own bounds do
 -- not, which compares two words. The search finds nothing elsewhere (proofs/Meeting.antt), so this is division's `analyzed`.
+use mathlib.Core.Path.{_≡_}
+use mathlib.Core.Bool.{true}
 use mathlib.Core.List.{List}
-use Prim.Native.Nat.{ℕ, zero, suc}
+use Prim.Native.Nat.{ℕ, zero, suc, _+_, _*_, _%_, _<_}
 use lib.Dec.{eqb, ltb}
 use lib.ListN.{getD}
 use Rattle.base.specs.Iter.{iter, pick}
 use Rattle.division.specs.Plan.{Plan}
 use Rattle.division.specs.State.{State}
-use Rattle.division.specs.Analysis.{View, Out, guarded, meets, parts, spreads, step1, step2, step3, step5}
+use Rattle.division.specs.Analysis.{View, Out, guarded, lid, rid, matches, meets, parts, spreads, step1, step2, step3, step5}
+use Rattle.analysis.specs.Placed.{Words, on}
 
 -- how many of the first n edges there are up to the last disconnected one
 unfoldable pub disconnectedEnd : List ℕ → ℕ → ℕ
 disconnectedEnd noted zero = 0
 disconnectedEnd noted (suc n) = pick (eqb (getD noted n 0) 1) (suc n) (disconnectedEnd noted n)
+
+-- where regions a and b in this order are marked: two pairs of labels below 64 never share a place
+unfoldable pub pairPlace : ℕ → ℕ → ℕ
+pairPlace a b = 64 * (a % 64) + b % 64
+
+-- where one of the first n edges matches an edge, the place of that edge's two regions is marked
+abbrev pub Walled : Words → ℕ → List ℕ → Type 0
+Walled x n walls = (g h : ℕ) → h < n → on matches x g h ≡ true → getD walls (pairPlace (on lid x g) (on rid x g)) 0 ≡ 0 → ⊥
 
 module _ (d : Plan) (s : State) (w : View) where
   unfoldable pub meetsFirst : ℕ → Out → Out

@@ -14,7 +14,7 @@ ghost use mathlib.Core.List.{[]};
 ghost use mathlib.Core.Bool.{_&&_, _||_};
 ghost use Prim.Native.Nat.{_<_, _≤_};
 ghost use lib.Dec.{eqb};
-ghost use lib.ListN.{getD};
+ghost use lib.ListN.{getD, replicate};
 ghost use Rattle.base.specs.Iter.{iter};
 ghost use Rattle.plan.specs.Words.{edgesOf};
 ghost use Rattle.division.specs.Regions.{lowest};
@@ -23,7 +23,7 @@ ghost use Rattle.reasons.specs.declared.Verdict.the-variants.{Going};
 ghost use Rattle.reasons.specs.Words.{bit};
 ghost use Rattle.reasons.specs.Verdicts.{begun, ran, ranOf};
 ghost use Rattle.analysis.specs.Placed.{words, on};
-ghost use Rattle.analysis.specs.First.{disconnectedEnd};
+ghost use Rattle.analysis.specs.First.{disconnectedEnd, pairPlace, Walled};
 
 // Edge g inside a region.
 fn inside(
@@ -180,21 +180,77 @@ fn disconnected_end(noted: &[u32; 384], n: usize) -> usize
     0
 }
 
+// Where regions a and b, in this order, are marked.
+fn pair_place(a: usize, b: usize) -> usize
+    ensures { λ r. ⌜ r ≡ pairPlace a b ⌝ }
+{
+    64 * (a % 64) + b % 64
+}
+
+fn no_walls() -> [u8; 4096]
+    ensures { λ r. ⌜ r ≡ replicate 4096 0 ⌝ }
+{
+    [0u8; 4096]
+}
+
+// The pairs of regions, in both orders, that the disconnected ones of the first n edges join.
+fn walls_between(
+    edges: &[[u8; 2]; 128],
+    noted: &[u32; 384],
+    view: &[u32; 512],
+    n: usize,
+) -> [u8; 4096]
+    requires { ⌜ n ≤ 128 ⌝ }
+    ensures { λ r. ⌜ Walled (words [] (now (edges .entry)) (now (noted .entry)) (now (view .entry))) n r ⌝ }
+{
+    let mut walls = no_walls();
+    for h in 0..n {
+        if is_disconnected(noted, h) {
+            let a = left_region(edges, view, h);
+            let b = right_region(edges, view, h);
+            walls[pair_place(a, b)] = 1;
+            walls[pair_place(b, a)] = 1;
+        }
+    }
+    walls
+}
+
+// `lowest_match`, which searches only where the regions of edge g are marked: most loose edges have no match, and for each of them
+// it would look at all n edges.
+fn marked_match(
+    edges: &[[u8; 2]; 128],
+    noted: &[u32; 384],
+    view: &[u32; 512],
+    walls: &[u8; 4096],
+    g: usize,
+    n: usize,
+) -> usize
+    requires { ⌜ (g < 128) × (n ≤ 128) × Walled (words [] (now edges) (now noted) (now view)) n (now walls) ⌝ }
+    ensures { λ r. ⌜ r ≡ lowest (on matches (words [] (now (edges .entry)) (now (noted .entry)) (now (view .entry))) g) n ⌝ }
+{
+    let place = pair_place(left_region(edges, view, g), right_region(edges, view, g));
+    if walls[place] == 0 {
+        return n;
+    }
+    lowest_match(edges, noted, view, g, n)
+}
+
 // Edge g between two regions that a disconnected edge, one of the first `end`, also joins.
 fn matched(
     plan: &[u32; 15241],
     edges: &[[u8; 2]; 128],
     noted: &[u32; 384],
     view: &[u32; 512],
+    walls: &[u8; 4096],
     g: usize,
     end: usize,
     proposals: &mut [u64],
 )
-    requires { ⌜ (g < 128) × (edgesOf (now plan) ≤ 128) × (end ≡ disconnectedEnd (now noted) (edgesOf (now plan))) ⌝ }
+    requires { ⌜ (g < 128) × (edgesOf (now plan) ≤ 128) × (end ≡ disconnectedEnd (now noted) (edgesOf (now plan))) × Walled (words [] (now edges) (now noted) (now view)) end (now walls) ⌝ }
     ensures { λ _. ⌜ ran Going (now (proposals .exit)) ≡ ranOf (on matched (words (now (plan .entry)) (now (edges .entry)) (now (noted .entry)) (now (view .entry))) g begun) (now (proposals .entry)) ⌝ }
 {
     if loose(edges, noted, view, g) {
-        let h = lowest_match(edges, noted, view, g, end);
+        let h = marked_match(edges, noted, view, walls, g, end);
         if h < end {
             let flip = left_region(edges, view, g) == right_region(edges, view, h);
             put(
@@ -220,7 +276,8 @@ pub(crate) fn disconnect_matched(
 {
     let n = plan::num_edges(plan) as usize;
     let end = disconnected_end(noted, n);
+    let walls = walls_between(edges, noted, view, end);
     for g in 0..n {
-        matched(plan, edges, noted, view, g, end, proposals);
+        matched(plan, edges, noted, view, &walls, g, end, proposals);
     }
 }

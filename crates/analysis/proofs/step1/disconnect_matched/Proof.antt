@@ -10,15 +10,15 @@ use Rattle.reasons.specs.declared.Verdict.the-variants.{Going}
 use Rattle.reasons.specs.Verdicts.{begun, ran, ranOf}
 use Rattle.analysis.specs.Placed.{words, on}
 use Rattle.analysis.proofs.Pass.{ran-none, ran-more, ran-done, ran-length}
-use Rattle.analysis.proofs.Matching.{matched-follows}
+use Rattle.analysis.proofs.Matching.{end-low, matched-follows}
 use Rattle.analysis.proofs.step1.disconnect_matched.Statement.{statement}
 use Rattle.analysis.proofs.step1.disconnect_matched.Tie as tie
 
 abbrev Inv-loop : tie.InvT-loop
-Inv-loop plan edges noted view proposals₀ n end g₀ proposals g = (g ≤ n) × (ran Going proposals ≡ ranOf (iter (guarded (on matched (words plan edges noted view))) g begun) proposals₀)
+Inv-loop plan edges noted view proposals₀ n end walls g₀ proposals g = (g ≤ n) × (ran Going proposals ≡ ranOf (iter (guarded (on matched (words plan edges noted view))) g begun) proposals₀)
 
 abbrev μ-loop : tie.MeasureT-loop
-μ-loop plan edges noted view proposals₀ n end g₀ proposals g = n - g
+μ-loop plan edges noted view proposals₀ n end walls g₀ proposals g = n - g
 
 num-edges-requires : tie.Need-num-edges-requires Inv-loop μ-loop
 num-edges-requires c κs = search needs
@@ -29,11 +29,14 @@ cast-n c = omega arith
 disconnected-end-requires : tie.Need-disconnected-end-requires Inv-loop μ-loop
 disconnected-end-requires c κs = search needs
 
+walls-between-requires : tie.Need-walls-between-requires Inv-loop μ-loop
+walls-between-requires c κs = omega (arith, end-low (c .before .before .before .args .noted .now) (c .before .num-edges .result), c .disconnected-end .ensures)
+
 loop-holds : tie.Need-loop-holds Inv-loop μ-loop
 loop-holds c = (omega arith, ran-none _ _)
 
 matched-requires : tie.Need-matched-requires Inv-loop μ-loop
-matched-requires c κs = (omega arith, omega arith, (c .before .before .before .disconnected-end .ensures) ∙ ap (disconnectedEnd (c .before .before .before .before .before .before .args .noted .now)) (c .before .before .before .before .num-edges .ensures))
+matched-requires c κs = (omega arith, omega arith, (c .before .before .before .before .before .disconnected-end .ensures) ∙ ap (disconnectedEnd (c .before .before .before .before .before .before .before .before .args .noted .now)) (c .before .before .before .before .before .before .num-edges .ensures), c .before .before .before .before .walls-between .ensures)
 
 add-g : tie.Need-add-g Inv-loop μ-loop
 add-g c = omega arith
@@ -42,7 +45,7 @@ loop-less : tie.Need-loop-less Inv-loop μ-loop
 loop-less c = omega arith
 
 loop-again : tie.Need-loop-again Inv-loop μ-loop
-loop-again c = (omega arith, ran-more _ (matched-follows _ _ _) _ _ _ _ _ (c .before .before .before .before .before .loop .inv .1) (c .before .before .matched .ensures))
+loop-again c = (omega arith, ran-more _ (matched-follows _ _ _) _ _ _ _ _ (c .before .before .before .before .before .before .loop .inv .1) (c .before .before .matched .ensures))
 
 same-length : tie.Need-same-length Inv-loop μ-loop
 same-length c = ran-length _ _ _ _ (c .before .loop .inv .1)
@@ -59,6 +62,7 @@ disconnect-matched-spec =
     num-edges-requires
     cast-n
     disconnected-end-requires
+    walls-between-requires
     loop-holds
     matched-requires
     add-g
