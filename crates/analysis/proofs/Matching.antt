@@ -10,14 +10,14 @@ use mathlib.Core.List.{List, [], _∷_}
 use lib.Dec.{eqb, ltb}
 use lib.ListN.{getD}
 use borrow.Author.Tests.{eq-eqb, ne-eqb, eqb-false, lt-ltb, le-ltb}
-use Rattle.base.specs.Iter.{pick}
+use Rattle.base.specs.Iter.{iter, pick}
 use Rattle.base.proofs.Loop.{pick-yes, pick-no, pick-ind, eq-or-not, tested}
 use Rattle.sat.specs.Literal.{negate}
 use Rattle.division.specs.Plan.{Plan}
 use Rattle.division.specs.State.{State, stateOf}
 use Rattle.division.specs.Regions.{lowest}
 use Rattle.division.specs.Reasons.{Reason, edgeInSameGroup, edgeBetweenDifferentGroups}
-use Rattle.division.specs.Analysis.{View, inside, matches, loose, matched, propose, ends, lid, rid}
+use Rattle.division.specs.Analysis.{View, Out, still, guarded, inside, matches, loose, matched, propose, ends, lid, rid}
 use Rattle.reasons.specs.declared.Verdict.the-variants.{Going, DisconnectedInside}
 use Rattle.analysis.specs.First.{disconnectedEnd}
 use Rattle.reasons.specs.Words.{packed, bit, put, firstWord, secondWord, stored}
@@ -186,3 +186,18 @@ module _ (d : Plan) (s : State) (w : View) (g : ℕ) (end : ℕ) (e : end ≡ di
 
   pub end-nothing : (h : ℕ) → h ≡ lowest (matches d s w g) end → end ≤ h → d .edges ≤ lowest (matches d s w g) (d .edges)
   end-nothing h k l = lowest-nowhere (matches d s w g) end (d .edges) low not-past (subst (λ j. end ≤ j) k l)
+
+-- where no edge is disconnected the pass proposes nothing
+module _ (d : Plan) (s : State) (w : View) (e : 0 ≡ disconnectedEnd (s .edgeState) (d .edges)) where
+  matched-same : (g : ℕ) (o : Out) → matched d s w g o ≡ o
+  unfolding matched
+  matched-same g o = pick-no _ _ (ap (λ b. loose d s w g && b) (le-ltb _ _ (end-nothing d s w g 0 e 0 (sym (lowest-zero _)) (omega arith))) ∙ and-false (loose d s w g))
+
+  none-matched : (n : ℕ) → iter (guarded (matched d s w)) n begun ≡ begun
+  unfolding iter guarded
+  none-matched zero = refl
+  none-matched (suc n) = ap (guarded (matched d s w) n) (none-matched n) ∙ pick-ind (λ o. o ≡ begun) (still (begun .verdict)) (matched d s w n begun) begun (λ _. matched-same n begun) (λ _. refl)
+
+  pub ran-nothing : (n : ℕ) (a : List ℕ) → ran Going a ≡ ranOf (iter (guarded (matched d s w)) n begun) a
+  unfolding ranOf verdictOf stored
+  ran-nothing n a = ap (λ o. ranOf o a) (sym (none-matched n))

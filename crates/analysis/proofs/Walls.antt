@@ -18,9 +18,12 @@ use Rattle.analysis.specs.Placed.{Words, on}
 use Rattle.analysis.specs.First.{pairPlace, Walled}
 use Rattle.analysis.proofs.Matching.{lowest-zero, lowest-more}
 
-pub place-low : (a b : ℕ) → pairPlace a b < 4096
+place-low : (a b : ℕ) → pairPlace a b < 4096
 unfolding pairPlace
 place-low a b = omega arith
+
+pub low : (p a b : ℕ) → p ≡ pairPlace a b → p < 4096
+low p a b e = omega (arith, e, place-low a b)
 
 -- a mark is not taken back
 still-set : (l : List ℕ) (i j : ℕ) → i < length l → getD (set l i 1) j 0 ≡ 0 → getD l j 0 ≡ 0
@@ -77,10 +80,10 @@ module _ (x : Words) where
   walled-more n a b p q l z ea eb u v f g h k m e = elim (eq-or-not h n) [ inl i ↦ here i | inr i ↦ f g h (omega (arith, k, i)) m (still-set l p _ below-p (still-set (set l p 1) q _ below-q e)) ]
     where
       below-p : p < length l
-      below-p = omega (arith, place-low a b, u, z)
+      below-p = omega (arith, low p a b u, z)
 
       below-q : q < length (set l p 1)
-      below-q = omega (arith, place-low b a, v, z, length-set l p 1)
+      below-q = omega (arith, low q b a v, z, length-set l p 1)
 
       straight : on lid x g ≡ on lid x n → on rid x g ≡ on rid x n → ⊥
       straight i j = set-here l p _ below-p (ap₂ pairPlace (i ∙ sym ea) (j ∙ sym eb) ∙ sym u) (still-set (set l p 1) q _ below-q e)

@@ -263,7 +263,7 @@ fn matched(
     }
 }
 
-// Every edge in order.
+// Every edge in order. Where none is disconnected none matches.
 pub(crate) fn disconnect_matched(
     plan: &[u32; 15241],
     edges: &[[u8; 2]; 128],
@@ -276,6 +276,9 @@ pub(crate) fn disconnect_matched(
 {
     let n = plan::num_edges(plan) as usize;
     let end = disconnected_end(noted, n);
+    if end == 0 {
+        return;
+    }
     let walls = walls_between(edges, noted, view, end);
     for g in 0..n {
         matched(plan, edges, noted, view, &walls, g, end, proposals);

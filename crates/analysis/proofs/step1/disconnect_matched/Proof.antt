@@ -8,9 +8,10 @@ use Rattle.base.specs.Iter.{iter}
 use Rattle.division.specs.Analysis.{matched, guarded}
 use Rattle.reasons.specs.declared.Verdict.the-variants.{Going}
 use Rattle.reasons.specs.Verdicts.{begun, ran, ranOf}
-use Rattle.analysis.specs.Placed.{words, on}
+use Rattle.noting.specs.Words.{stateOf}
+use Rattle.analysis.specs.Placed.{words, on, planIn, viewIn}
 use Rattle.analysis.proofs.Pass.{ran-none, ran-more, ran-done, ran-length}
-use Rattle.analysis.proofs.Matching.{end-low, matched-follows}
+use Rattle.analysis.proofs.Matching.{end-low, matched-follows, ran-nothing}
 use Rattle.analysis.proofs.step1.disconnect_matched.Statement.{statement}
 use Rattle.analysis.proofs.step1.disconnect_matched.Tie as tie
 
@@ -29,14 +30,19 @@ cast-n c = omega arith
 disconnected-end-requires : tie.Need-disconnected-end-requires Inv-loop μ-loop
 disconnected-end-requires c κs = search needs
 
+returns : tie.Need-returns Inv-loop μ-loop
+returns c =
+    let x = words (c .before .before .before .before .args .plan .now) (c .before .before .before .before .args .edges .now) (c .before .before .before .before .args .noted .now) (c .before .before .before .before .args .view .now) in
+    ran-nothing (planIn x) (stateOf (x .noted)) (viewIn x) (sym (c .if1 .taken) ∙ ((c .before .disconnected-end .ensures) ∙ ap (disconnectedEnd (x .noted)) (c .before .before .num-edges .ensures))) _ _
+
 walls-between-requires : tie.Need-walls-between-requires Inv-loop μ-loop
-walls-between-requires c κs = omega (arith, end-low (c .before .before .before .args .noted .now) (c .before .num-edges .result), c .disconnected-end .ensures)
+walls-between-requires c κs = omega (arith, end-low (c .before .before .before .before .args .noted .now) (c .before .before .num-edges .result), c .before .disconnected-end .ensures)
 
 loop-holds : tie.Need-loop-holds Inv-loop μ-loop
 loop-holds c = (omega arith, ran-none _ _)
 
 matched-requires : tie.Need-matched-requires Inv-loop μ-loop
-matched-requires c κs = (omega arith, omega arith, (c .before .before .before .before .before .disconnected-end .ensures) ∙ ap (disconnectedEnd (c .before .before .before .before .before .before .before .before .args .noted .now)) (c .before .before .before .before .before .before .num-edges .ensures), c .before .before .before .before .walls-between .ensures)
+matched-requires c κs = (omega arith, omega arith, (c .before .before .before .before .before .before .disconnected-end .ensures) ∙ ap (disconnectedEnd (c .before .before .before .before .before .before .before .before .before .args .noted .now)) (c .before .before .before .before .before .before .before .num-edges .ensures), c .before .before .before .before .walls-between .ensures)
 
 add-g : tie.Need-add-g Inv-loop μ-loop
 add-g c = omega arith
@@ -50,8 +56,8 @@ loop-again c = (omega arith, ran-more _ (matched-follows _ _ _) _ _ _ _ _ (c .be
 same-length : tie.Need-same-length Inv-loop μ-loop
 same-length c = ran-length _ _ _ _ (c .before .loop .inv .1)
 
-returns : tie.Need-returns Inv-loop μ-loop
-returns c = ran-done _ _ _ _ _ (c .before .loop .inv .1) (omega arith) (omega arith)
+returns-2 : tie.Need-returns-2 Inv-loop μ-loop
+returns-2 c = ran-done _ _ _ _ _ (c .before .loop .inv .1) (omega arith) (omega arith)
 
 pub disconnect-matched-spec : {M : Type 1} → statement M
 disconnect-matched-spec =
@@ -62,6 +68,7 @@ disconnect-matched-spec =
     num-edges-requires
     cast-n
     disconnected-end-requires
+    returns
     walls-between-requires
     loop-holds
     matched-requires
@@ -69,4 +76,4 @@ disconnect-matched-spec =
     loop-less
     loop-again
     same-length
-    returns)
+    returns-2)

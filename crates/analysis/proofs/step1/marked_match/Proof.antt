@@ -1,7 +1,6 @@
 use mathlib.Core.List.{[]}
-use native.Mathlib.Omega.{arith}
 use Rattle.analysis.specs.Placed.{words}
-use Rattle.analysis.proofs.Walls.{place-low, not-marked}
+use Rattle.analysis.proofs.Walls.{low, not-marked}
 use borrow.Author.Needs.{needs}
 use Rattle.analysis.proofs.step1.marked_match.Statement.{statement}
 use Rattle.analysis.proofs.step1.marked_match.Tie as tie
@@ -16,7 +15,7 @@ pair-place-requires : tie.Need-pair-place-requires
 pair-place-requires c κs = search needs
 
 element-copy-out-if1 : tie.Need-element-copy-out-if1
-element-copy-out-if1 c = omega (arith, place-low (c .before .before .left-region .result) (c .before .right-region .result), c .pair-place .ensures)
+element-copy-out-if1 c = low _ _ _ (c .pair-place .ensures)
 
 returns : tie.Need-returns
 returns c =

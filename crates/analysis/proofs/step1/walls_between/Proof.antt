@@ -5,7 +5,7 @@ use Prim.Native.Nat.{_-_, _≤_}
 use native.Mathlib.Omega.{arith}
 use borrow.Author.Needs.{needs}
 use Rattle.analysis.specs.Placed.{words}
-use Rattle.analysis.proofs.Walls.{Marks, place-low, marks-none, marks-same, marks-more, marks-done}
+use Rattle.analysis.proofs.Walls.{Marks, low, marks-none, marks-same, marks-more, marks-done}
 use Rattle.analysis.proofs.step1.walls_between.Statement.{statement}
 use Rattle.analysis.proofs.step1.walls_between.Tie as tie
 
@@ -34,13 +34,13 @@ pair-place-requires : tie.Need-pair-place-requires Inv-loop μ-loop
 pair-place-requires c κs = search needs
 
 array-write-walls : tie.Need-array-write-walls Inv-loop μ-loop
-array-write-walls c = omega (arith, place-low (c .before .before .left-region .result) (c .before .right-region .result), c .pair-place .ensures)
+array-write-walls c = low _ _ _ (c .pair-place .ensures)
 
 pair-place-requires-2 : tie.Need-pair-place-requires-2 Inv-loop μ-loop
 pair-place-requires-2 c κs = search needs
 
 array-write-walls-2 : tie.Need-array-write-walls-2 Inv-loop μ-loop
-array-write-walls-2 c = omega (arith, place-low (c .before .before .right-region .result) (c .before .before .before .left-region .result), c .pair-place2 .ensures)
+array-write-walls-2 c = low _ _ _ (c .pair-place2 .ensures)
 
 add-h : tie.Need-add-h Inv-loop μ-loop
 add-h c = omega arith
