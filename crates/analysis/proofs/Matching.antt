@@ -9,9 +9,10 @@ use mathlib.Core.Bool.{Bool, true, false, not, _&&_, _||_}
 use mathlib.Core.List.{List, [], _∷_}
 use lib.Dec.{eqb, ltb}
 use lib.ListN.{getD}
-use borrow.Author.Tests.{eq-eqb, ne-eqb, eqb-false, lt-ltb, le-ltb}
+use borrow.Author.Tests.{eq-eqb, ne-eqb, eqb-false, lt-ltb, le-ltb, ltb-true}
 use Rattle.base.specs.Iter.{iter, pick}
 use Rattle.base.proofs.Loop.{pick-yes, pick-no, pick-ind, eq-or-not, tested}
+use Rattle.base.proofs.Tests.{and-no}
 use Rattle.sat.specs.Literal.{negate}
 use Rattle.division.specs.Plan.{Plan}
 use Rattle.division.specs.State.{State, stateOf}
@@ -201,3 +202,26 @@ module _ (d : Plan) (s : State) (w : View) (e : 0 ≡ disconnectedEnd (s .edgeSt
   pub ran-nothing : (n : ℕ) (a : List ℕ) → ran Going a ≡ ranOf (iter (guarded (matched d s w)) n begun) a
   unfolding ranOf verdictOf stored
   ran-nothing n a = ap (λ o. ranOf o a) (sym (none-matched n))
+
+-- where a search finds nothing no number passes
+lowest-hit : (t : ℕ → Bool) (i : ℕ) → t i ≡ true → lowest t (suc i) < suc i
+unfolding lowest
+lowest-hit t i y = pick-ind (λ r. r < suc i) (ltb (lowest t i) i) (lowest t i) (pick (t i) i (suc i)) (λ b. omega (arith, ltb-true (lowest t i) i b)) (λ _. subst (λ r. r < suc i) (sym (pick-yes i (suc i) y)) (omega arith))
+
+lowest-passed : (t : ℕ → Bool) (n : ℕ) → lowest t n ≡ n → (i : ℕ) → i < n → t i ≡ false
+lowest-passed t n e i l = tested (t i) (λ y. absurd (omega (arith, lowest-hit t i y, lowest-up t (suc i) n (omega (arith, l)) (lowest-hit t i y), e, l))) (λ f. f)
+
+-- where every edge is decided the pass proposes nothing
+module _ (d : Plan) (s : State) (w : View) (e : lowest (λ h. eqb (stateOf s h) 0) (d .edges) ≡ d .edges) where
+  decided-same : (g : ℕ) → g < d .edges → (o : Out) → matched d s w g o ≡ o
+  unfolding matched
+  decided-same g l o = pick-no _ _ (sym (and-no _ (sym (loose-no d s w g [] (eqb-false (stateOf s g) 0 (lowest-passed _ (d .edges) e g l))))))
+
+  none-undecided : (n : ℕ) → n ≤ d .edges → iter (guarded (matched d s w)) n begun ≡ begun
+  unfolding iter guarded
+  none-undecided zero l = refl
+  none-undecided (suc n) l = ap (guarded (matched d s w) n) (none-undecided n (omega (arith, l))) ∙ pick-ind (λ o. o ≡ begun) (still (begun .verdict)) (matched d s w n begun) begun (λ _. decided-same n (omega (arith, l)) begun) (λ _. refl)
+
+  pub ran-decided : (a : List ℕ) → ran Going a ≡ ranOf (iter (guarded (matched d s w)) (d .edges) begun) a
+  unfolding ranOf verdictOf stored
+  ran-decided a = ap (λ o. ranOf o a) (sym (none-undecided (d .edges) (omega arith)))

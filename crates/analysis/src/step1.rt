@@ -180,6 +180,26 @@ fn disconnected_end(noted: &[u32; 384], n: usize) -> usize
     0
 }
 
+fn is_undecided(noted: &[u32; 384], g: usize) -> bool
+    requires { ⌜ g < 128 ⌝ }
+    ensures { λ r. ⌜ r ≡ eqb (getD (now (noted .entry)) g 0) 0 ⌝ }
+{
+    edge_state(noted, g) == 0
+}
+
+// The lowest undecided one of the first n edges, or n.
+fn first_undecided(noted: &[u32; 384], n: usize) -> usize
+    requires { ⌜ n ≤ 128 ⌝ }
+    ensures { λ r. ⌜ r ≡ lowest (λ h. eqb (getD (now (noted .entry)) h 0) 0) n ⌝ }
+{
+    for h in 0..n {
+        if is_undecided(noted, h) {
+            return h;
+        }
+    }
+    n
+}
+
 // Where regions a and b, in this order, are marked.
 fn pair_place(a: usize, b: usize) -> usize
     ensures { λ r. ⌜ r ≡ pairPlace a b ⌝ }
@@ -263,7 +283,7 @@ fn matched(
     }
 }
 
-// Every edge in order. Where none is disconnected none matches.
+// Every edge in order. Where none is disconnected or none is undecided, none matches, and nothing is marked.
 pub(crate) fn disconnect_matched(
     plan: &[u32; 15241],
     edges: &[[u8; 2]; 128],
@@ -277,6 +297,9 @@ pub(crate) fn disconnect_matched(
     let n = plan::num_edges(plan) as usize;
     let end = disconnected_end(noted, n);
     if end == 0 {
+        return;
+    }
+    if first_undecided(noted, n) == n {
         return;
     }
     let walls = walls_between(edges, noted, view, end);

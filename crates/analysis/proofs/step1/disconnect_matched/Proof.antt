@@ -1,6 +1,9 @@
 use mathlib.Core.Path.{ap}
 use Rattle.analysis.specs.First.{disconnectedEnd}
-use Prim.Native.Nat.{_≤_, _-_}
+use Prim.Native.Nat.{ℕ, _≤_, _-_}
+use lib.Dec.{eqb}
+use lib.ListN.{getD}
+use Rattle.division.specs.Regions.{lowest}
 use native.Mathlib.Omega.{arith}
 use mathlib.Core.Path.{_≡_, sym, _∙_}
 use borrow.Author.Needs.{needs}
@@ -11,7 +14,7 @@ use Rattle.reasons.specs.Verdicts.{begun, ran, ranOf}
 use Rattle.noting.specs.Words.{stateOf}
 use Rattle.analysis.specs.Placed.{words, on, planIn, viewIn}
 use Rattle.analysis.proofs.Pass.{ran-none, ran-more, ran-done, ran-length}
-use Rattle.analysis.proofs.Matching.{end-low, matched-follows, ran-nothing}
+use Rattle.analysis.proofs.Matching.{end-low, matched-follows, ran-nothing, ran-decided}
 use Rattle.analysis.proofs.step1.disconnect_matched.Statement.{statement}
 use Rattle.analysis.proofs.step1.disconnect_matched.Tie as tie
 
@@ -35,14 +38,23 @@ returns c =
     let x = words (c .before .before .before .before .args .plan .now) (c .before .before .before .before .args .edges .now) (c .before .before .before .before .args .noted .now) (c .before .before .before .before .args .view .now) in
     ran-nothing (planIn x) (stateOf (x .noted)) (viewIn x) (sym (c .if1 .taken) ∙ ((c .before .disconnected-end .ensures) ∙ ap (disconnectedEnd (x .noted)) (c .before .before .num-edges .ensures))) _ _
 
+first-undecided-requires : tie.Need-first-undecided-requires Inv-loop μ-loop
+first-undecided-requires c κs = omega arith
+
+returns-2 : tie.Need-returns-2 Inv-loop μ-loop
+returns-2 c =
+    let x = words (c .before .before .before .before .before .before .args .plan .now) (c .before .before .before .before .before .before .args .edges .now) (c .before .before .before .before .before .before .args .noted .now) (c .before .before .before .before .before .before .args .view .now) in
+    let k = c .before .before .before .before .num-edges .ensures in
+    ran-decided (planIn x) (stateOf (x .noted)) (viewIn x) (ap (lowest (λ (h : ℕ). eqb (getD (x .noted) h 0) 0)) (sym k) ∙ (sym (c .before .first-undecided .ensures) ∙ ((c .if2 .taken) ∙ k))) _
+
 walls-between-requires : tie.Need-walls-between-requires Inv-loop μ-loop
-walls-between-requires c κs = omega (arith, end-low (c .before .before .before .before .args .noted .now) (c .before .before .num-edges .result), c .before .disconnected-end .ensures)
+walls-between-requires c κs = omega (arith, end-low (c .before .before .before .before .before .before .args .noted .now) (c .before .before .before .before .num-edges .result), c .before .before .before .disconnected-end .ensures)
 
 loop-holds : tie.Need-loop-holds Inv-loop μ-loop
 loop-holds c = (omega arith, ran-none _ _)
 
 matched-requires : tie.Need-matched-requires Inv-loop μ-loop
-matched-requires c κs = (omega arith, omega arith, (c .before .before .before .before .before .before .disconnected-end .ensures) ∙ ap (disconnectedEnd (c .before .before .before .before .before .before .before .before .before .args .noted .now)) (c .before .before .before .before .before .before .before .num-edges .ensures), c .before .before .before .before .walls-between .ensures)
+matched-requires c κs = (omega arith, omega arith, (c .before .before .before .before .before .before .before .before .disconnected-end .ensures) ∙ ap (disconnectedEnd (c .before .before .before .before .before .before .before .before .before .before .before .args .noted .now)) (c .before .before .before .before .before .before .before .before .before .num-edges .ensures), c .before .before .before .before .walls-between .ensures)
 
 add-g : tie.Need-add-g Inv-loop μ-loop
 add-g c = omega arith
@@ -56,8 +68,8 @@ loop-again c = (omega arith, ran-more _ (matched-follows _ _ _) _ _ _ _ _ (c .be
 same-length : tie.Need-same-length Inv-loop μ-loop
 same-length c = ran-length _ _ _ _ (c .before .loop .inv .1)
 
-returns-2 : tie.Need-returns-2 Inv-loop μ-loop
-returns-2 c = ran-done _ _ _ _ _ (c .before .loop .inv .1) (omega arith) (omega arith)
+returns-3 : tie.Need-returns-3 Inv-loop μ-loop
+returns-3 c = ran-done _ _ _ _ _ (c .before .loop .inv .1) (omega arith) (omega arith)
 
 pub disconnect-matched-spec : {M : Type 1} → statement M
 disconnect-matched-spec =
@@ -69,6 +81,8 @@ disconnect-matched-spec =
     cast-n
     disconnected-end-requires
     returns
+    first-undecided-requires
+    returns-2
     walls-between-requires
     loop-holds
     matched-requires
@@ -76,4 +90,4 @@ disconnect-matched-spec =
     loop-less
     loop-again
     same-length
-    returns-2)
+    returns-3)
