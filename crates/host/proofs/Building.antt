@@ -8,8 +8,8 @@ use mathlib.Core.Logic.{_⊎_, inl, inr, ⊎-elim}
 use mathlib.Core.List.{List, [], _∷_}
 use lib.Dec.{eqb, ltb}
 use lib.IntN.{ℤ}
-use lib.ListN.{length, getD, set, replicate, drop, length-set, length-drop, length-replicate, getD-replicate}
-use lib.Seq.{getD-set-same, getD-set-other, getD-drop, ext-getD}
+use lib.ListN.{length, getD, set, replicate, length-set, length-replicate, getD-replicate}
+use lib.Seq.{getD-set-same, getD-set-other, ext-getD}
 use Rattle.base.specs.Iter.{iter, pick}
 use Rattle.base.specs.Lists.{filled}
 use Rattle.base.specs.Range.{toNat}
@@ -29,10 +29,12 @@ use Rattle.graph_division.specs.Calls.{withNoted}
 use Rattle.lent.specs.Lent.{stateOf}
 use Rattle.host.specs.Bytes.{wordAt, longAt, putWords}
 use Rattle.host.specs.Layout.{inUse, planIn, endsAt, endsIn, wordsIn, reasonIn, reasonsIn, stateIn}
-use Rattle.host.specs.Stores.{putNoted, putEnds, putEdges, cleared}
-use Rattle.host.specs.Build.{buildRefused, BuildAfter}
-use Rattle.host.proofs.Filling.{iter-length, putWords-length}
+use Rattle.host.specs.After.{BytesAfter}
+use Rattle.host.specs.Stores.{Kept, putNoted, putEnds, putEdges, cleared}
+use Rattle.host.specs.Build.{buildRefused}
+use Rattle.host.proofs.Filling.{iter-length}
 use Rattle.host.proofs.Agreeing.{Agree, agree-word, agree-then, agree-part, putWords-agrees, putWords-in}
+use Rattle.host.proofs.Keeping.{kept-by, kept-same, kept-then, words-kept, noted-kept}
 use Rattle.host.proofs.Standing.{in-use-same, words-same, words-read, tabOf-length, tabOf-at}
 use Rattle.host.proofs.Using.{plan-in-use}
 
@@ -208,12 +210,10 @@ module _ (ws noted : List ℕ) (t : List (List ℕ)) (b c : List ℕ) (r : 13344
       (zero-word b1 long 62756 (omega arith) (omega arith) i)
       (not (eqb (zero-word b1 long 62760 (omega arith) (omega arith) i) 0)))
 
-  pub size-kept : length c ≡ length b
+  pub bytes-kept : Kept b c
   unfolding cleared
-  size-kept = ap length e ∙ (filled-length 62756 (λ i. 0) b1 70684 ∙ putEdges-length t b)
-
-  pub past-kept : (hi : ℕ) → Agree 133440 hi c b
-  past-kept hi = subst (λ (x : List ℕ). Agree 133440 hi x b) (sym e) (agree-then (cleared-agrees b1 long 133440 hi (inr (omega arith))) (putEdges-agrees t b 133440 hi (inr (omega arith))))
+  bytes-kept = subst (Kept b) (sym e) (kept-by b b2 (filled-length 62756 (λ i. 0) b1 70684 ∙ putEdges-length t b)
+      (λ hi. agree-then (cleared-agrees b1 long 133440 hi (inr (omega arith))) (putEdges-agrees t b 133440 hi (inr (omega arith)))))
 
 pub built-state : (vs : List ℤ) (n : ℕ) (es : List ℤ) (m : ℕ) (x y : Bool) (ws noted : List ℕ) (t : List (List ℕ)) (b c : List ℕ) → refusal vs n es m ≡ 0 →
     ws ≡ planWords vs n es m x y → noted ≡ fresh ws (replicate 384 0) → t ≡ edgeTable es m → 133440 ≤ length b →
@@ -224,11 +224,6 @@ built-state vs n es m x y ws noted t b c z p q h r words notes e =
     (subst (λ (ws : List ℕ). inUse (λ i. getD ws i 0) ≡ ws) (sym p) (plan-in-use vs n es m x y z))
     (subst Pairs (sym h) (table-pairs es m))
     ∙ (λ i. stateOf (p i) (h i) ((q ∙ ap (λ (ws : List ℕ). fresh ws (replicate 384 0)) p) i) noReasons (replicate 260 0) 0 false)
-
--- the bytes from a place on, where they agree
-pub drop-same : (k : ℕ) (b c : List ℕ) → length b ≡ length c → ((i : ℕ) → k ≤ i → i < length b → getD b i 0 ≡ getD c i 0) → drop k b ≡ drop k c
-drop-same k b c e h = ext-getD 0 _ _ (length-drop k b ∙ (ap (λ (n : ℕ). n - k) e ∙ sym (length-drop k c)))
-    (λ i l. getD-drop k b i 0 ∙ (h (k + i) (omega arith) (omega (arith, length-drop k b)) ∙ sym (getD-drop k c i 0)))
 
 -- ---- as the code comes to it
 pub plan-reads : (ws b : List ℕ) → ((i : ℕ) → getD ws i 0 < 4294967296) → 133440 ≤ length b → (i : ℕ) → i < 15241 → wordAt (putWords 0 ws 15241 b) (4 * i) ≡ getD ws i 0
@@ -245,20 +240,15 @@ words-stored ws noted b c h e q = (
 module _ (vs : List ℤ) (n : ℕ) (es : List ℤ) (m : ℕ) (x y : Bool) (ws noted z : List ℕ) (t : List (List ℕ)) (b b1 b2 c : List ℕ) where
   pub build-after : refusal vs n es m ≡ 0 → 133440 ≤ length b → ws ≡ planWords vs n es m x y → z ≡ replicate 384 0 → noted ≡ fresh ws z → t ≡ edgeTable es m →
       b1 ≡ putNoted noted (putWords 0 ws 15241 b) → ((i : ℕ) → i < 15241 → wordAt b1 (4 * i) ≡ getD ws i 0) → wordsIn b1 61220 384 ≡ noted → b2 ≡ putEdges t b1 → c ≡ cleared b2 →
-      BuildAfter false (built vs n es m x y .state) b c
-  unfolding putNoted
+      BytesAfter false (built vs n es m x y .state) b c
   build-after r l p d q h e words notes f g =
-      let l1 : length b1 ≡ length b = ap length e ∙ (putWords-length 61220 noted 384 (putWords 0 ws 15241 b) ∙ putWords-length 0 ws 15241 b) in
-      let k1 : 133440 ≤ length b1 = omega (arith, l1) in
+      let k : Kept b b1 = kept-then (words-kept 0 ws 15241 b (omega arith)) (noted-kept noted (putWords 0 ws 15241 b) b1 e) in
+      let k1 : 133440 ≤ length b1 = omega (arith, k .size) in
       let e2 : c ≡ cleared (putEdges t b1) = g ∙ ap cleared f in
-      let size : length c ≡ length b = size-kept ws noted t b1 c k1 words notes e2 ∙ l1 in
       record {
         same = λ (k : false ≡ true). absurd (true≢false (sym k));
         is = λ k. built-state vs n es m x y ws noted t b1 c r p (q ∙ ap (fresh ws) d) h k1 words notes e2;
-        size = size;
-        past = drop-same 133440 c b size (λ i u v. past-kept ws noted t b1 c k1 words notes e2 (length c) .at i u v
-            ∙ (ap (λ (x : List ℕ). getD x i 0) e
-            ∙ agree-then (putWords-agrees 61220 noted (putWords 0 ws 15241 b) 384 133440 (length c) (inr (omega arith))) (putWords-agrees 0 ws b 15241 133440 (length c) (inr (omega arith))) .at i u v));
+        kept = kept-then k (bytes-kept ws noted t b1 c k1 words notes e2);
       }
 
 -- what is tested first
@@ -275,8 +265,8 @@ module _ (vs : List ℤ) (n : ℕ) (es : List ℤ) (m : ℕ) (b : List ℕ) wher
   unfolding buildRefused
   not-refused e f = ap₂ (λ (t u : Bool). not t || u) e f
 
-pub refused-after : (t : Bool) (s : GraphDivision) (b : List ℕ) → t ≡ true → BuildAfter t s b b
-refused-after t s b e = record { same = λ k. refl; is = λ (k : t ≡ false). absurd (true≢false (sym e ∙ k)); size = refl; past = refl }
+pub refused-after : (t : Bool) (s : GraphDivision) (b : List ℕ) → t ≡ true → BytesAfter t s b b
+refused-after t s b e = record { same = λ k. refl; is = λ (k : t ≡ false). absurd (true≢false (sym e ∙ k)); kept = kept-same b }
 
-pub accepted-after : (t : Bool) (s u : GraphDivision) (b c : List ℕ) → t ≡ false → s ≡ u → BuildAfter false s b c → BuildAfter t u b c
-accepted-after t s u b c e f h = subst (λ (t : Bool). BuildAfter t u b c) (sym e) (subst (λ (s : GraphDivision). BuildAfter false s b c) f h)
+pub accepted-after : (t : Bool) (s u : GraphDivision) (b c : List ℕ) → t ≡ false → s ≡ u → BytesAfter false s b c → BytesAfter t u b c
+accepted-after t s u b c e f h = subst (λ (t : Bool). BytesAfter t u b c) (sym e) (subst (λ (s : GraphDivision). BytesAfter false s b c) f h)

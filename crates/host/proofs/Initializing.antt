@@ -20,9 +20,11 @@ use Rattle.lent.specs.Lent.{stateOf, stateAfter, calledOf, withInitialized, isC
 use Rattle.host.specs.Bytes.{putWord}
 use Rattle.host.specs.Codes.{isRefused}
 use Rattle.host.specs.Layout.{wordsIn, stateIn, cursorIn}
+use Rattle.host.specs.Stores.{Kept}
 use Rattle.host.specs.Host.{Left, left, leftBy, leftOf, StateAfter, AfterOf, initializedIn, hostInitialized, tooShort, short}
 use Rattle.host.proofs.Agreeing.{agree-word, putWord-agrees, putWord-in}
 use Rattle.host.proofs.Standing.{plan-same, ends-same, words-same, reasons-same}
+use Rattle.host.proofs.Keeping.{kept-then}
 use Rattle.host.proofs.Leaving.{leaves}
 
 -- only the mark is written
@@ -64,7 +66,8 @@ module _ (s : GraphDivision) (c : Cursor) (noted words lefts : List ℕ) (d : Do
       (f : isRefused (d .answer) ≡ true → m ≡ b)
       (g : isRefused (d .answer) ≡ false → stateAfter (stateIn b) noted words lefts d .«last_len» < 4294967296 → stateIn m ≡ stateAfter (stateIn b) noted words lefts d)
       (j : isConsistent (d .answer) ≡ true → stateIn b′ ≡ withInitialized (stateIn m))
-      (k : isConsistent (d .answer) ≡ false → b′ ≡ m) where
+      (k : isConsistent (d .answer) ≡ false → b′ ≡ m)
+      (l : Kept b m) (o : Kept m b′) where
     changed : isRefused (d .answer) ≡ false → stateAfter s noted words lefts d .«last_len» < 4294967296 → stateIn m ≡ stateAfter s noted words lefts d
     changed n h = g n (subst (λ (s : GraphDivision). stateAfter s noted words lefts d .«last_len» < 4294967296) q h) ∙ ap (λ (s : GraphDivision). stateAfter s noted words lefts d) (sym q)
 
@@ -79,7 +82,7 @@ module _ (s : GraphDivision) (c : Cursor) (noted words lefts : List ℕ) (d : Do
     pub begun-state : AfterOf false (y .outcome) b b′
     unfolding begunOf
     begun-state = subst (λ (y : Called). StateAfter (isRefused (y .outcome .answer)) (y .outcome .state) b b′) e
-        (record { same = λ n. k (refused-open (d .answer) n) ∙ f n; is = marked })
+        (record { same = λ n. k (refused-open (d .answer) n) ∙ f n; is = marked; kept = kept-then l o })
 
 -- what is tested first
 module _ (state t list log cursor : List ℕ) where

@@ -13,6 +13,7 @@ use Rattle.base.proofs.Filled.{filled-length}
 use Rattle.plan.specs.Words.{variablesOf}
 use Rattle.notifications.specs.declared.Progress.{Progress}
 use Rattle.notifications.specs.Notifications.{Way, Ending, stopping, fineBy, joinedBy, joined, notified, notifiedAt, notifiedAll, onceMoreBy, onceMore, lastPass, ended, goneThrough}
+use Rattle.sat.specs.declared.OptLit.{OptLit}
 use Rattle.undo_log.specs.declared.Cursor.{Cursor}
 use Rattle.walks.specs.declared.Listed.{Listed}
 use Rattle.walks.specs.declared.Listed.the-variants.{Past, Missing}
@@ -22,7 +23,7 @@ use Rattle.reasons.specs.declared.reason.Reason.{Reason}
 use Rattle.reasons.specs.declared.reason.Reason.the-variants.{NotPropagated, EdgeInSameGroup, EdgeBetweenDifferentGroups, TooLargeIfRegionsAreMerged, RegionAlreadyLarge, RegionAlreadySmall, InconsistentBoundsIfRegionsAreMerged, BoundPropagationWithinRegion, AdjacentSameSizeRegions}
 use Rattle.reasons.specs.declared.Verdict.{Verdict}
 use Rattle.reasons.specs.declared.Verdict.the-variants.{Going, DisconnectedInside, Over, Under, Crowded, Apart, Crossed, ZeroSize, Unfit}
-use Rattle.lists.specs.Parts.{shapeOf, after, then, path, decided, potential, twoPaths, inside, twoRegions, threeRegions, andWord, andLit}
+use Rattle.lists.specs.Parts.{shapeOf, after, then, path, decided, potential, twoPaths, inside, twoRegions, threeRegions, andWord, andLit, andOpt}
 use Rattle.lists.specs.Lists.{between, tooLarge, mismatched, spread, sameSized, reasonLits}
 use Rattle.lists.specs.Conflicts.{spanAfter, spansAfter, apartLits, conflictLits}
 use Rattle.judge.specs.declared.Judgement.{Judgement}
@@ -88,6 +89,10 @@ module _ (n : ℕ) where
   unfolding andLit
   lit-within x a h = then-within a _ h (λ o k. given-within _ o k)
 
+  opt-within : (l : OptLit) (a : Answer) → Within n a → Within n (andOpt l a)
+  unfolding andOpt
+  opt-within l a h = then-within a _ h (λ o k. given-within _ o k)
+
   module _ (ws : List ℕ) (es : List (List ℕ)) (noted : List ℕ) where
     path-within : (u v : ℕ) (o : Out) → In n o → Within n (connectedPath es noted ws (shapeOf ws) u v o)
     unfolding connectedPath
@@ -116,12 +121,12 @@ module _ (n : ℕ) where
     reason-within NotPropagated o h = missing-within o h
     reason-within (EdgeInSameGroup g) o h = path-within _ _ o h
     reason-within (EdgeBetweenDifferentGroups e g flip) o h = word-within _ _ (then-within _ _ (path-within _ _ o h) (λ x k. path-within _ _ x k))
-    reason-within (TooLargeIfRegionsAreMerged g l) o h = lit-within _ _ (two-within _ _ o h)
+    reason-within (TooLargeIfRegionsAreMerged g l) o h = opt-within _ _ (two-within _ _ o h)
     reason-within (RegionAlreadyLarge v) o h = decided-within v o h
     reason-within (RegionAlreadySmall v) o h = potential-within v o h
     reason-within (InconsistentBoundsIfRegionsAreMerged g a b flip) o h = lit-within _ _ (lit-within _ _ (then-within _ _ (path-within _ _ o h) (λ x k. path-within _ _ x k)))
-    reason-within (BoundPropagationWithinRegion l k u) o h = lit-within _ _ (path-within _ _ o h)
-    reason-within (AdjacentSameSizeRegions a la ua b lb ub u) o h = lit-within _ _ (lit-within _ _ (lit-within _ _ (lit-within _ _ (three-within a b u o h))))
+    reason-within (BoundPropagationWithinRegion l k u) o h = opt-within _ _ (path-within _ _ o h)
+    reason-within (AdjacentSameSizeRegions a la ua b lb ub u) o h = opt-within _ _ (opt-within _ _ (opt-within _ _ (opt-within _ _ (three-within a b u o h))))
 
     spans-within : (ps : List ℕ) (a : Answer) → Within n a → Within n (spansAfter noted ps a)
     unfolding spansAfter spanAfter
@@ -326,20 +331,20 @@ unfolding stateIn wordsIn
 last-length b = filled-length 0 (λ i. wordAt b (62764 + 4 * i)) (replicate 260 0) 260 ∙ length-replicate {A = ℕ} 260 0
 
 leaves : (short : Bool) (y : Outcome) (b c : List ℕ) → Fits (y .state) → AfterOf short y b c → Leaves short y b c
-leaves short y b c f h = record { same = h .same; is = λ n. h .is n f }
+leaves short y b c f h = record { same = h .same; is = λ n. h .is n f; kept = h .kept }
 
 pub propagate-leaves : (short : Bool) (state t list log cursor : List ℕ) (lit pending : ℤ) (after : List ℕ) → Bytes state →
     AfterOf short (propagatedIn state t list log cursor lit pending .outcome) state after → Leaves short (propagatedIn state t list log cursor lit pending .outcome) state after
 unfolding propagatedIn
-propagate-leaves short state t list log cursor lit pending after h a = leaves short _ state after (propagated-fits (stateIn state) (cursorIn cursor) (state-fits state h) lit pending t (listIn list) (logIn (cursorIn cursor) log)) a
+propagate-leaves short state t list log cursor lit pending after h a = leaves short (propagatedIn state t list log cursor lit pending .outcome) state after (propagated-fits (stateIn state) (cursorIn cursor) (state-fits state h) lit pending t (listIn list) (logIn (cursorIn cursor) log)) a
 
 pub undo-leaves : (short : Bool) (state log cursor : List ℕ) (lit : ℤ) (after : List ℕ) → Bytes state →
     AfterOf short (undoneIn state log cursor lit) state after → Leaves short (undoneIn state log cursor lit) state after
 unfolding undoneIn
-undo-leaves short state log cursor lit after h a = leaves short _ state after (undone-fits (stateIn state) (cursorIn cursor) (state-fits state h) lit (logIn (cursorIn cursor) log)) a
+undo-leaves short state log cursor lit after h a = leaves short (undoneIn state log cursor lit) state after (undone-fits (stateIn state) (cursorIn cursor) (state-fits state h) lit (logIn (cursorIn cursor) log)) a
 
 pub initialize-leaves : (short : Bool) (state t list log cursor after : List ℕ) → Bytes state →
     AfterOf short (initializedIn state t list log cursor .outcome) state after → Leaves short (initializedIn state t list log cursor .outcome) state after
 unfolding initializedIn
 initialize-leaves short state t list log cursor after h a =
-    leaves short _ state after (initialized-fits (stateIn state) (cursorIn cursor) (state-fits state h) (last-length state) t (logIn (cursorIn cursor) log) (listIn list)) a
+    leaves short (initializedIn state t list log cursor .outcome) state after (initialized-fits (stateIn state) (cursorIn cursor) (state-fits state h) (last-length state) t (logIn (cursorIn cursor) log) (listIn list)) a

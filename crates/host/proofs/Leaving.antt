@@ -28,10 +28,11 @@ use Rattle.lent.specs.Lent.{stateOf, stateAfter, calledOf}
 use Rattle.host.specs.Bytes.{wordAt, longAt}
 use Rattle.host.specs.Codes.{codeOf, isRefused, givenBy}
 use Rattle.host.specs.Layout.{inUse, inUseOver, planIn, endsIn, wordsIn, reasonsIn, stateIn, cursorIn, roomOf, recordsIn, logIn, listIn, bufferIn}
-use Rattle.host.specs.Stores.{putCursor, putList, putLog}
+use Rattle.host.specs.Stores.{Kept, putCursor, putList, putLog}
 use Rattle.host.specs.Host.{Left, left, leftBy, leftOf, StateAfter, AfterOf, propagatedIn, hostPropagated, tooShort, short, Back, back, backBy, undoneIn, hostUndone, givenIn, hostReason, hostLast}
 use Rattle.host.proofs.Coding.{code-back}
 use Rattle.host.proofs.Filling.{capped-most, capped-less, room-is}
+use Rattle.host.proofs.Keeping.{kept-same}
 
 pub is-left : (a : Answer) (c d : Cursor) (lits records list log cursor : List ℕ) (r : ℤ) → r ≡ codeOf a → isRefused a ≡ true →
     left r [] list log cursor ≡ leftBy a c d [] lits records list log cursor
@@ -64,10 +65,10 @@ module _ (s : GraphDivision) (c : Cursor) (words props lefts : List ℕ) (d : Do
 
   pub state-left : (b b′ : List ℕ) → s ≡ stateIn b → (isRefused (d .answer) ≡ true → b′ ≡ b) →
       (isRefused (d .answer) ≡ false → stateAfter (stateIn b) words props lefts d .«last_len» < 4294967296 → stateIn b′ ≡ stateAfter (stateIn b) words props lefts d) →
-      AfterOf false (y .outcome) b b′
+      Kept b b′ → AfterOf false (y .outcome) b b′
   unfolding calledOf
-  state-left b b′ q f g = subst (λ (y : Called). StateAfter (isRefused (y .outcome .answer)) (y .outcome .state) b b′) e
-      (record { same = f; is = λ n h. g n (subst (λ (s : GraphDivision). stateAfter s words props lefts d .«last_len» < 4294967296) q h) ∙ ap (λ (s : GraphDivision). stateAfter s words props lefts d) (sym q) })
+  state-left b b′ q f g k = subst (λ (y : Called). StateAfter (isRefused (y .outcome .answer)) (y .outcome .state) b b′) e
+      (record { same = f; is = λ n h. g n (subst (λ (s : GraphDivision). stateAfter s words props lefts d .«last_len» < 4294967296) q h) ∙ ap (λ (s : GraphDivision). stateAfter s words props lefts d) (sym q); kept = k })
 
 -- lists and logs are as long as the bytes have room for
 pub room-length : (n : ℕ) (l : List ℕ) → length l ≡ 4352 → length (take (roomOf n) l) ≡ roomOf n
@@ -165,7 +166,7 @@ module _ (state t list log cursor : List ℕ) (lit pending : ℤ) where
   long-left x e h = h ∙ sym (pick-no _ _ e)
 
 pub short-state : (y : Outcome) (b : List ℕ) (s : Bool) → s ≡ true → AfterOf s y b b
-short-state y b s e = record { same = λ h. refl; is = λ (h : (s || isRefused (y .answer)) ≡ false) k. absurd (true≢false (sym (ap (λ (t : Bool). t || isRefused (y .answer)) e) ∙ h)) }
+short-state y b s e = record { same = λ h. refl; is = λ (h : (s || isRefused (y .answer)) ≡ false) k. absurd (true≢false (sym (ap (λ (t : Bool). t || isRefused (y .answer)) e) ∙ h)); kept = kept-same b }
 
 pub long-state : (y : Outcome) (b b′ : List ℕ) (s : Bool) → s ≡ false → AfterOf false y b b′ → AfterOf s y b b′
 long-state y b b′ s e h = subst (λ (t : Bool). AfterOf t y b b′) (sym e) h

@@ -3,6 +3,7 @@ pub mod Coding
 pub mod Agreeing
 pub mod Standing
 pub mod Storing
+pub mod Keeping
 pub mod Leaving
 pub mod Fetching
 pub mod Undoing

@@ -15,10 +15,11 @@ use Rattle.graph_division.specs.declared.Answer.{Answer}
 use Rattle.graph_division.specs.Calls.{outcome, withNoted, Fetched}
 use Rattle.host.specs.Codes.{codeOf, isRefused}
 use Rattle.host.specs.Layout.{stateIn}
-use Rattle.host.specs.Stores.{putCursor, putNoted}
+use Rattle.host.specs.Stores.{Kept, putCursor, putNoted}
 use Rattle.host.specs.Host.{Back, back, backOf, backBy, givenIn, StateAfter, AfterOf}
 use Rattle.host.proofs.Coding.{code-back}
 use Rattle.host.proofs.Storing.{noted-stored}
+use Rattle.host.proofs.Keeping.{kept-same}
 
 module _ (s : GraphDivision) (noted : List ℕ) (d : Cursor) (a : Answer) (y : Outcome) (e : outcome (withNoted noted s) d a ≡ y) (b : List ℕ) (q : s ≡ stateIn b) where
   pub undo-left : (cursor : List ℕ) (z : ℤ) → z ≡ codeOf a → isRefused a ≡ true → back (toZ w32 (ofZ w32 z)) cursor ≡ backBy y cursor
@@ -31,11 +32,11 @@ module _ (s : GraphDivision) (noted : List ℕ) (d : Cursor) (a : Answer) (y : O
 
   pub state-same : isRefused a ≡ true → AfterOf false y b b
   state-same t = subst (λ (y : Outcome). StateAfter (isRefused (y .answer)) (y .state) b b) e
-      (record { same = λ n. refl; is = λ (n : isRefused a ≡ false) h. absurd (true≢false (sym t ∙ n)) })
+      (record { same = λ n. refl; is = λ (n : isRefused a ≡ false) h. absurd (true≢false (sym t ∙ n)); kept = kept-same b })
 
-  pub state-stored : (b′ : List ℕ) → isRefused a ≡ false → stateIn b′ ≡ withNoted noted (stateIn b) → AfterOf false y b b′
-  state-stored b′ t h = subst (λ (y : Outcome). StateAfter (isRefused (y .answer)) (y .state) b b′) e
-      (record { same = λ (n : isRefused a ≡ true). absurd (true≢false (sym n ∙ t)); is = λ n k. h ∙ ap (withNoted noted) (sym q) })
+  pub state-stored : (b′ : List ℕ) → isRefused a ≡ false → stateIn b′ ≡ withNoted noted (stateIn b) → Kept b b′ → AfterOf false y b b′
+  state-stored b′ t h l = subst (λ (y : Outcome). StateAfter (isRefused (y .answer)) (y .state) b b′) e
+      (record { same = λ (n : isRefused a ≡ true). absurd (true≢false (sym n ∙ t)); is = λ n k. h ∙ ap (withNoted noted) (sym q); kept = l })
 
 back-code : (y : Outcome) (cursor : List ℕ) → backBy y cursor .code ≡ codeOf (y .answer)
 unfolding backBy backOf

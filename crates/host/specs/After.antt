@@ -4,11 +4,18 @@ use mathlib.Core.Bool.{Bool, true, false, _||_}
 use mathlib.Core.Path.{_≡_}
 use mathlib.Core.List.{List}
 use Prim.Native.Nat.{ℕ}
+use Rattle.graph_division.specs.declared.GraphDivision.{GraphDivision}
 use Rattle.graph_division.specs.declared.Outcome.{Outcome}
 use Rattle.host.specs.Codes.{isRefused}
 use Rattle.host.specs.Layout.{stateIn}
+use Rattle.host.specs.Stores.{Kept}
 
--- they are as they were where the state or the cursor is too short or the call is refused, else they are those of the outcome's state
-pub record Leaves (short : Bool) (y : Outcome) (before after : List ℕ) : Type 0 where
-  pub same : (short || isRefused (y .answer)) ≡ true → after ≡ before
-  pub is : (short || isRefused (y .answer)) ≡ false → stateIn after ≡ y .state
+-- as they were where a call is refused, else those of state s; the bytes past the layout stay
+pub record BytesAfter (refused : Bool) (s : GraphDivision) (before after : List ℕ) : Type 0 where
+  pub same : refused ≡ true → after ≡ before
+  pub is : refused ≡ false → stateIn after ≡ s
+  pub kept : Kept before after
+
+-- after a call with outcome y, refused too where the state or the cursor is too short
+abbrev pub Leaves : Bool → Outcome → List ℕ → List ℕ → Type 0
+Leaves short y before after = BytesAfter (short || isRefused (y .answer)) (y .state) before after

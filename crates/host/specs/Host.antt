@@ -17,7 +17,7 @@ use Rattle.graph_division.specs.Initialize.{initialized}
 use Rattle.host.specs.Bytes.{wordAt}
 use Rattle.host.specs.Codes.{fitted, codeOf, isRefused, givenBy}
 use Rattle.host.specs.Layout.{stateIn, cursorIn, logIn, listIn, bufferIn}
-use Rattle.host.specs.Stores.{putCursor, putList, putLog}
+use Rattle.host.specs.Stores.{Kept, putCursor, putList, putLog}
 
 -- a call's number, and the bytes that it was lent, but for the state's
 pub record Left : Type 0 where
@@ -98,10 +98,11 @@ hostLast state log cursor buffer =
     (givenIn (lastFetched (stateIn state) (cursorIn cursor) (logIn (cursorIn cursor) log) (bufferIn buffer)) buffer)
 
 -- The state's bytes after a call: as they were where it is too short or refused, else those of the outcome's state. A list last left is
--- shorter than 2 to the 32.
+-- shorter than 2 to the 32. What follows the layout stays.
 pub record StateAfter (unchanged : Bool) (s : GraphDivision) (before after : List ℕ) : Type 0 where
   pub same : unchanged ≡ true → after ≡ before
   pub is : unchanged ≡ false → s .«last_len» < 4294967296 → stateIn after ≡ s
+  pub kept : Kept before after
 
 abbrev pub AfterOf : Bool → Outcome → List ℕ → List ℕ → Type 0
 AfterOf short y before after = StateAfter (short || isRefused (y .answer)) (y .state) before after

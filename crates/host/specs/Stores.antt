@@ -1,8 +1,9 @@
 -- What a call writes to the bytes. What it does not write stays.
 use mathlib.Core.Bool.{Bool}
+use mathlib.Core.Path.{_≡_}
 use mathlib.Core.List.{List, []}
 use Prim.Native.Nat.{ℕ, _+_, _-_, _*_, _/_, _%_}
-use lib.ListN.{length, getD, set}
+use lib.ListN.{length, getD, set, drop}
 use Rattle.base.specs.Iter.{iter, pick}
 use Rattle.base.specs.Lists.{filled}
 use Rattle.undo_log.specs.declared.Cursor.{Cursor}
@@ -10,6 +11,11 @@ use Rattle.plan.specs.Words.{variablesOf}
 use Rattle.noting.specs.Words.{capped}
 use Rattle.sweep.specs.Sweep.{proposedAt}
 use Rattle.host.specs.Bytes.{putWord, putLong, putHalves, putWords, putLongs}
+
+-- the state's bytes are as many as before, and those past the layout stay
+pub record Kept (before after : List ℕ) : Type 0 where
+  pub size : length after ≡ length before
+  pub past : drop 133440 after ≡ drop 133440 before
 
 -- the two words of place p, where it is proposed
 unfoldable pub putReason : List ℕ → ℕ → List ℕ → List ℕ

@@ -16,7 +16,8 @@ ghost use Rattle.host.specs.Bytes.{wordAt, putWords};
 ghost use Rattle.host.specs.Layout.{wordsIn};
 ghost use Rattle.host.specs.Stores.{putNoted, putEnds, putEdges, cleared};
 ghost use Rattle.host.specs.Host.{buildCode};
-ghost use Rattle.host.specs.Build.{BuildAfter, BuiltIn};
+ghost use Rattle.host.specs.After.{BytesAfter};
+ghost use Rattle.host.specs.Build.{BuiltIn};
 
 // An option other than 0 counts as 1.
 pub(crate) fn option(n: i32) -> bool
@@ -86,7 +87,7 @@ pub(crate) fn build<'a>(
     state: &mut [u8],
 )
     requires { ⌜ (133440 ≤ length (now state)) × (refusal (now vertices) n (now edges) m ≡ 0) ⌝ }
-    ensures { λ _. ⌜ BuildAfter false (built (now (vertices .entry)) n (now (edges .entry)) m (options .«disallow_adjacent_same_size_regions») (options .«allow_extra_walls») .state) (now (state .entry)) (now (state .exit)) ⌝ }
+    ensures { λ _. ⌜ BytesAfter false (built (now (vertices .entry)) n (now (edges .entry)) m (options .«disallow_adjacent_same_size_regions») (options .«allow_extra_walls») .state) (now (state .entry)) (now (state .exit)) ⌝ }
 {
     let words = builder::build::plan_words(vertices, n, edges, m, options);
     let plan = words.words;

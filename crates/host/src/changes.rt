@@ -30,6 +30,7 @@ ghost use mathlib.Core.Bool.{true, false};
 ghost use Rattle.lent.specs.Lent.{stateAfter};
 ghost use Rattle.host.specs.Codes.{isRefused};
 ghost use Rattle.host.specs.Layout.{planIn, endsIn, wordsIn, stateIn, cursorIn, listIn, logIn};
+ghost use Rattle.host.specs.Stores.{Kept};
 ghost use Rattle.host.specs.Host.{AfterOf, left, leftBy, leftOf, propagatedIn, back, backOf, backBy, undoneIn};
 ghost use Rattle.graph_division.specs.Calls.{undone};
 
@@ -45,6 +46,7 @@ fn store_state(
     requires { ⌜ (133440 ≤ length (now state)) × (length (now noted) ≡ 384) × (length (now proposals) ≡ 8704) × (length (now words) ≡ 260) ⌝ }
     ensures { λ _. ⌜ (now (plan .entry) ≡ planIn (now (state .entry)) → stateAfter (stateIn (now (state .entry))) (now (noted .entry)) (now (proposals .entry)) (now (words .entry)) done .«last_len» < 4294967296 →
         stateIn (now (state .exit)) ≡ stateAfter (stateIn (now (state .entry))) (now (noted .entry)) (now (proposals .entry)) (now (words .entry)) done) ⌝ }
+    ensures { λ _. ⌜ Kept (now (state .entry)) (now (state .exit)) ⌝ }
 {
     let judged = done.judged;
     let len = done.len;
@@ -78,6 +80,7 @@ pub(crate) fn finish(
     ensures { λ _. ⌜ (isRefused (done .answer) ≡ true → now (state .exit) ≡ now (state .entry)) ⌝ }
     ensures { λ _. ⌜ (isRefused (done .answer) ≡ false → now (plan .entry) ≡ planIn (now (state .entry)) → stateAfter (stateIn (now (state .entry))) (now (noted .entry)) (now (proposals .entry)) (now (words .entry)) done .«last_len» < 4294967296 →
         stateIn (now (state .exit)) ≡ stateAfter (stateIn (now (state .entry))) (now (noted .entry)) (now (proposals .entry)) (now (words .entry)) done) ⌝ }
+    ensures { λ _. ⌜ Kept (now (state .entry)) (now (state .exit)) ⌝ }
 {
     let answer = done.answer;
     if is_refused(answer) {

@@ -24,6 +24,7 @@ ghost use lib.ListN.{length};
 ghost use Rattle.lent.specs.Lent.{withInitialized, isConsistent};
 ghost use Rattle.host.specs.Bytes.{wordAt};
 ghost use Rattle.host.specs.Layout.{planIn, endsIn, wordsIn, stateIn, cursorIn, listIn, logIn};
+ghost use Rattle.host.specs.Stores.{Kept};
 ghost use Rattle.host.specs.Host.{AfterOf, left, leftOf, initializedIn};
 
 // Whether an initialise was consistent: any number but 0 says so.
@@ -55,6 +56,7 @@ fn store_initialized(state: &mut [u8], answer: Answer)
     requires { ⌜ 133440 ≤ length (now state) ⌝ }
     ensures { λ _. ⌜ (isConsistent answer ≡ true → stateIn (now (state .exit)) ≡ withInitialized (stateIn (now (state .entry)))) ⌝ }
     ensures { λ _. ⌜ (isConsistent answer ≡ false → now (state .exit) ≡ now (state .entry)) ⌝ }
+    ensures { λ _. ⌜ Kept (now (state .entry)) (now (state .exit)) ⌝ }
 {
     if is_consistent(answer) {
         put_word(state, 62760, 1);

@@ -1,6 +1,6 @@
 use mathlib.Core.Path.{sym, _∙_}
 use Rattle.host.specs.Layout.{cursorIn}
-use Rattle.host.specs.Host.{initializedIn}
+use Rattle.host.specs.Host.{tooShort, initializedIn}
 use Rattle.host.proofs.Leaving.{short-is, short-state, long-state, left-back}
 use native.Mathlib.Omega.{arith}
 use Rattle.host.proofs.LastList.{initialize-leaves}
@@ -22,7 +22,7 @@ returns : tie.Need-returns
 returns c =
     let a = (c .before .before .before .before .before .before .before .before .before .args) in
     let t = sym (c .before .too-short .ensures) ∙ (c .if1 .taken) in
-    (begun-short (a .state .now) (a .table .now) (a .list .now) (a .log .now) (a .cursor .now) t, initialize-leaves _ (a .state .now) (a .table .now) (a .list .now) (a .log .now) (a .cursor .now) _ (λ i. omega (arith, c .before .before .before .before .before .before .before .before .slice-known .given i)) (short-state (initializedIn (a .state .now) (a .table .now) (a .list .now) (a .log .now) (a .cursor .now) .outcome) _ _ t))
+    (begun-short (a .state .now) (a .table .now) (a .list .now) (a .log .now) (a .cursor .now) t, initialize-leaves (tooShort (a .state .now) (a .cursor .now)) (a .state .now) (a .table .now) (a .list .now) (a .log .now) (a .cursor .now) _ (λ i. omega (arith, c .before .before .before .before .before .before .before .before .slice-known .given i)) (short-state (initializedIn (a .state .now) (a .table .now) (a .list .now) (a .log .now) (a .cursor .now) .outcome) _ _ t))
 
 initialize-requires : tie.Need-initialize-requires
 initialize-requires c κs = short-is _ _ (sym (c .before .before .before .before .before .before .too-short .ensures) ∙ (c .before .before .before .before .before .if1 .left))
@@ -49,7 +49,7 @@ returns-2 c =
     let t = sym (c .before .before .before .before .before .before .before .before .before .before .before .before .before .before .before .before .before .too-short .ensures) ∙ (c .before .before .before .before .before .before .before .before .before .before .before .before .before .before .before .before .if1 .left) in (
       begun-long (a .state .now) (a .table .now) (a .list .now) (a .log .now) (a .cursor .now) _ t
           (left-back (cursorIn (a .cursor .now)) _ (a .list .now) (a .log .now) (a .cursor .now) _ _ _ _ _ ((g .ensures .0))),
-      initialize-leaves _ (a .state .now) (a .table .now) (a .list .now) (a .log .now) (a .cursor .now) _ (λ i. omega (arith, c .before .before .before .before .before .before .before .before .before .before .before .before .before .before .before .before .before .before .before .before .before .before .before .before .slice-known .given i)) (long-state (initializedIn (a .state .now) (a .table .now) (a .list .now) (a .log .now) (a .cursor .now) .outcome) _ _ _ t ((g .ensures .1))),
+      initialize-leaves (tooShort (a .state .now) (a .cursor .now)) (a .state .now) (a .table .now) (a .list .now) (a .log .now) (a .cursor .now) _ (λ i. omega (arith, c .before .before .before .before .before .before .before .before .before .before .before .before .before .before .before .before .before .before .before .before .before .before .before .before .slice-known .given i)) (long-state (initializedIn (a .state .now) (a .table .now) (a .list .now) (a .log .now) (a .cursor .now) .outcome) _ _ _ t ((g .ensures .1))),
     )
 
 pub zuntjev-initialize-spec : {M : Type 1} → statement M

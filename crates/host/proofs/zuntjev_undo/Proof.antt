@@ -25,7 +25,7 @@ same-length-2 : tie.Need-same-length-2
 same-length-2 c = search needs
 
 returns : tie.Need-returns
-returns c = (short-back (c .before .before .before .before .before .before .before .args .state .now) (c .before .before .before .before .before .before .before .args .log .now) (c .before .before .before .before .before .before .before .args .cursor .now) _ (sym (c .before .too-short .ensures) ∙ (c .if1 .taken)), undo-leaves _ (c .before .before .before .before .before .before .before .args .state .now) (c .before .before .before .before .before .before .before .args .log .now) (c .before .before .before .before .before .before .before .args .cursor .now) (c .before .before .before .before .before .before .before .args .lit) _ (λ i. omega (arith, c .before .before .before .before .before .before .slice-known .given i)) (short-state (undoneIn (c .before .before .before .before .before .before .before .args .state .now) (c .before .before .before .before .before .before .before .args .log .now) (c .before .before .before .before .before .before .before .args .cursor .now) (c .before .before .before .before .before .before .before .args .lit)) _ _ (sym (c .before .too-short .ensures) ∙ (c .if1 .taken))))
+returns c = (short-back (c .before .before .before .before .before .before .before .args .state .now) (c .before .before .before .before .before .before .before .args .log .now) (c .before .before .before .before .before .before .before .args .cursor .now) _ (sym (c .before .too-short .ensures) ∙ (c .if1 .taken)), undo-leaves (tooShort (c .before .before .before .before .before .before .before .args .state .now) (c .before .before .before .before .before .before .before .args .cursor .now)) (c .before .before .before .before .before .before .before .args .state .now) (c .before .before .before .before .before .before .before .args .log .now) (c .before .before .before .before .before .before .before .args .cursor .now) (c .before .before .before .before .before .before .before .args .lit) _ (λ i. omega (arith, c .before .before .before .before .before .before .slice-known .given i)) (short-state (undoneIn (c .before .before .before .before .before .before .before .args .state .now) (c .before .before .before .before .before .before .before .args .log .now) (c .before .before .before .before .before .before .before .args .cursor .now) (c .before .before .before .before .before .before .before .args .lit)) _ _ (sym (c .before .too-short .ensures) ∙ (c .if1 .taken))))
 
 undo-requires : tie.Need-undo-requires
 undo-requires c κs = short-is _ _ (sym (c .before .before .before .too-short .ensures) ∙ (c .before .before .if1 .left))
@@ -37,7 +37,7 @@ same-length-4 : tie.Need-same-length-4
 same-length-4 c = search needs
 
 returns-2 : tie.Need-returns-2
-returns-2 c = (long-back (c .before .before .before .before .before .before .before .before .before .before .before .before .before .before .args .state .now) (c .before .before .before .before .before .before .before .before .before .before .before .before .before .before .args .log .now) (c .before .before .before .before .before .before .before .before .before .before .before .before .before .before .args .cursor .now) _ _ (sym (c .before .before .before .before .before .before .before .before .too-short .ensures) ∙ (c .before .before .before .before .before .before .before .if1 .left)) (undo-back _ _ _ _ ((c .before .before .before .before .undo .ensures .0) ∙ ap (λ (y : Outcome). backBy y (c .before .before .before .before .before .before .before .before .before .before .before .before .before .before .args .cursor .now)) (λ i. undoneIn (c .before .before .before .before .before .before .before .before .before .before .before .before .before .before .args .state .now) (c .before .before .before .before .before .before .before .before .before .before .before .before .before .before .args .log .now) (c .before .before .before .before .before .before .before .before .before .before .before .before .before .before .args .cursor .now) (toZ-ofZ (c .before .before .before .before .before .before .before .before .before .before .before .before .before .before .fits .lit) i)))), undo-leaves _ (c .before .before .before .before .before .before .before .before .before .before .before .before .before .before .args .state .now) (c .before .before .before .before .before .before .before .before .before .before .before .before .before .before .args .log .now) (c .before .before .before .before .before .before .before .before .before .before .before .before .before .before .args .cursor .now) (c .before .before .before .before .before .before .before .before .before .before .before .before .before .before .args .lit) _ (λ i. omega (arith, c .before .before .before .before .before .before .before .before .before .before .before .before .before .slice-known .given i)) (long-state (undoneIn (c .before .before .before .before .before .before .before .before .before .before .before .before .before .before .args .state .now) (c .before .before .before .before .before .before .before .before .before .before .before .before .before .before .args .log .now) (c .before .before .before .before .before .before .before .before .before .before .before .before .before .before .args .cursor .now) (c .before .before .before .before .before .before .before .before .before .before .before .before .before .before .args .lit)) _ _ _ (sym (c .before .before .before .before .before .before .before .before .too-short .ensures) ∙ (c .before .before .before .before .before .before .before .if1 .left)) (undo-after _ _ _ _ (λ i. undoneIn (c .before .before .before .before .before .before .before .before .before .before .before .before .before .before .args .state .now) (c .before .before .before .before .before .before .before .before .before .before .before .before .before .before .args .log .now) (c .before .before .before .before .before .before .before .before .before .before .before .before .before .before .args .cursor .now) (toZ-ofZ (c .before .before .before .before .before .before .before .before .before .before .before .before .before .before .fits .lit) i)) (c .before .before .before .before .undo .ensures .1))))
+returns-2 c = (long-back (c .before .before .before .before .before .before .before .before .before .before .before .before .before .before .args .state .now) (c .before .before .before .before .before .before .before .before .before .before .before .before .before .before .args .log .now) (c .before .before .before .before .before .before .before .before .before .before .before .before .before .before .args .cursor .now) _ _ (sym (c .before .before .before .before .before .before .before .before .too-short .ensures) ∙ (c .before .before .before .before .before .before .before .if1 .left)) (undo-back _ _ _ _ ((c .before .before .before .before .undo .ensures .0) ∙ ap (λ (y : Outcome). backBy y (c .before .before .before .before .before .before .before .before .before .before .before .before .before .before .args .cursor .now)) (λ i. undoneIn (c .before .before .before .before .before .before .before .before .before .before .before .before .before .before .args .state .now) (c .before .before .before .before .before .before .before .before .before .before .before .before .before .before .args .log .now) (c .before .before .before .before .before .before .before .before .before .before .before .before .before .before .args .cursor .now) (toZ-ofZ (c .before .before .before .before .before .before .before .before .before .before .before .before .before .before .fits .lit) i)))), undo-leaves (tooShort (c .before .before .before .before .before .before .before .before .before .before .before .before .before .before .args .state .now) (c .before .before .before .before .before .before .before .before .before .before .before .before .before .before .args .cursor .now)) (c .before .before .before .before .before .before .before .before .before .before .before .before .before .before .args .state .now) (c .before .before .before .before .before .before .before .before .before .before .before .before .before .before .args .log .now) (c .before .before .before .before .before .before .before .before .before .before .before .before .before .before .args .cursor .now) (c .before .before .before .before .before .before .before .before .before .before .before .before .before .before .args .lit) _ (λ i. omega (arith, c .before .before .before .before .before .before .before .before .before .before .before .before .before .slice-known .given i)) (long-state (undoneIn (c .before .before .before .before .before .before .before .before .before .before .before .before .before .before .args .state .now) (c .before .before .before .before .before .before .before .before .before .before .before .before .before .before .args .log .now) (c .before .before .before .before .before .before .before .before .before .before .before .before .before .before .args .cursor .now) (c .before .before .before .before .before .before .before .before .before .before .before .before .before .before .args .lit)) _ _ _ (sym (c .before .before .before .before .before .before .before .before .too-short .ensures) ∙ (c .before .before .before .before .before .before .before .if1 .left)) (undo-after _ _ _ _ (λ i. undoneIn (c .before .before .before .before .before .before .before .before .before .before .before .before .before .before .args .state .now) (c .before .before .before .before .before .before .before .before .before .before .before .before .before .before .args .log .now) (c .before .before .before .before .before .before .before .before .before .before .before .before .before .before .args .cursor .now) (toZ-ofZ (c .before .before .before .before .before .before .before .before .before .before .before .before .before .before .fits .lit) i)) (c .before .before .before .before .undo .ensures .1))))
 
 pub zuntjev-undo-spec : {M : Type 1} → statement M
 zuntjev-undo-spec =

@@ -77,7 +77,7 @@ returns c =
     let y : Called = initializedIn (a .state .now) (a .table .now) (a .list .now) (a .log .now) (a .cursor .now) in
     let e : begunOf (stateOf (a .plan .now) (a .edges) (a .noted .now) (reasonsIn (a .state .now)) (a .last .now) (w .result) (k .result)) _ _ _ _ _ _ _ ≡ y = ((c .before .before .before .before .before .before .before .before .before .before .before .before .before .before .before .before .before .before .before .before .before .before .before .before .before .before .before .before .before .before .before .before .initialize .ensures) (c .before .before .before .before .before .before .before .before .before .before .before .before .before .before .before .before .before .before .before .before .before .before .before .before .before .before .before .before .before .before .before .before .before .before .before .before .before .before .before .before .before .before .before .no-words .ensures) (reasonsIn (a .state .now)) ∙ (λ i. initialized (stateOf ((p .1) i) ((p .2) i) ((p .3) i) (reasonsIn (a .state .now)) ((p .4) i) ((w .ensures) i) ((k .ensures) i)) ((p .6) i) (a .table .now) (((p .7) ∙ ap (λ (q : Cursor). logIn q (a .log .now)) (p .6)) i) ((p .5) i))) in (
       left-back (cursorIn (a .cursor .now)) y _ _ _ _ _ _ _ _ (begun-leaves _ (a .before) _ _ _ _ _ _ _ y e _ _ _ _ _ _ _ ((f .ensures .0)) ∙ ap (λ (q : Cursor). leftOf q y (a .list .now) (a .log .now) (a .cursor .now)) (p .6)),
-      begun-state _ (a .before) _ _ _ _ _ _ _ y e (a .state .now) _ _ (λ i. stateOf ((p .1) i) ((p .2) i) ((p .3) i) (reasonsIn (a .state .now)) ((p .4) i) ((w .ensures) i) ((k .ensures) i)) ((f .ensures .1 .0)) (λ n. (f .ensures .1 .1) n (p .1)) ((c .before .before .store-initialized .ensures .0)) ((c .before .before .store-initialized .ensures .1)),
+      begun-state _ (a .before) _ _ _ _ _ _ _ y e (a .state .now) _ _ (λ i. stateOf ((p .1) i) ((p .2) i) ((p .3) i) (reasonsIn (a .state .now)) ((p .4) i) ((w .ensures) i) ((k .ensures) i)) ((f .ensures .1 .0)) (λ n. (f .ensures .1 .1 .0) n (p .1)) (c .before .before .store-initialized .ensures .0) (c .before .before .store-initialized .ensures .1 .0) (f .ensures .1 .1 .1) (c .before .before .store-initialized .ensures .1 .1),
     )
 
 pub begin-spec : {M : Type 1} → statement M
