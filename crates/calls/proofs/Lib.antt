@@ -11,7 +11,6 @@ pub mod Marks
 pub mod Count
 pub mod Store
 pub mod Computes
-pub mod Cases
 pub mod Refusals
 pub mod Truths
 pub mod Alike

@@ -21,7 +21,7 @@ pub mod Judged
 pub mod Views
 pub mod Whole
 pub mod Computes
-pub mod Cases
+pub mod Plans
 pub mod Stale
 pub mod Labels
 pub mod Verdicts

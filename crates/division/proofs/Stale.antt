@@ -22,7 +22,7 @@ use Rattle.division.specs.Runs.{analysis}
 use Rattle.division.proofs.Divided.{computed-valid}
 use Rattle.division.proofs.Together.{mark, graphOf, Together, regionWeight, Computed}
 use Rattle.division.proofs.Walk.{joined-within}
-use Rattle.division.proofs.Cases.{planWith, plan, planG}
+use Rattle.division.proofs.Plans.{planWith, plan, planG}
 use Rattle.division.proofs.Computes.{computes}
 
 abbrev domainsG : List (List ℕ)

@@ -1,0 +1,1 @@
+// Theorems only: document 01's cases, the analysis alone, by evaluation.
