@@ -4,13 +4,13 @@ pub mod start;
 pub mod table;
 
 use crate::print::print;
+use by_value::calc_reason::calc_last;
+use by_value::calc_reason::calc_reason;
+use by_value::initialize::initialize;
+use by_value::propagate::propagate;
+use by_value::undo::undo;
 use graph_division::Answer;
 use graph_division::GraphDivision;
-use graph_division::calc_reason::calc_last;
-use graph_division::calc_reason::calc_reason;
-use graph_division::initialize::initialize;
-use graph_division::propagate::propagate;
-use graph_division::undo::undo;
 use text::Line;
 use undo_log::Cursor;
 ghost use mathlib.Core.Path.{_≡_};

@@ -1,10 +1,4 @@
-// The propagator's state, and how it is built.
-pub mod accept;
-pub mod calc_reason;
-pub mod initialize;
-pub mod propagate;
-pub mod undo;
-
+// The propagator's state, how it is built, and what its calls answer. The calls are in crates lent and by_value; specs/ says what they do.
 use builder::build::GraphDivisionOptions;
 use edge_table::EdgeTable;
 use recorded::Reasons;
@@ -61,7 +55,7 @@ fn no_notes() -> [u32; 384]
     [0u32; 384]
 }
 
-pub(crate) fn no_list() -> [u32; 260]
+fn no_list() -> [u32; 260]
     ensures { λ r. ⌜ r ≡ replicate 260 0 ⌝ }
 {
     [0u32; 260]

@@ -24,7 +24,7 @@ use Rattle.graph_division.specs.declared.Outcome.{Outcome}
 use Rattle.graph_division.specs.declared.Answer.{Answer}
 use Rattle.graph_division.specs.Calls.{Called, called, outcome, propagated, undone, reasonFetched, lastFetched}
 use Rattle.lent.specs.declared.Done.{Done}
-use Rattle.lent.specs.Lent.{stateOf, stateAfter, calledOf}
+use Rattle.lent.specs.Lent.{Parts, stateAfter, calledOf}
 use Rattle.host.specs.Bytes.{wordAt, longAt}
 use Rattle.host.specs.Codes.{codeOf, isRefused, givenBy}
 use Rattle.host.specs.Layout.{inUse, inUseOver, planIn, endsIn, wordsIn, reasonsIn, stateIn, cursorIn, roomOf, recordsIn, logIn, listIn, bufferIn}
@@ -100,6 +100,11 @@ pub left-back : (c : Cursor) (y : Called) (list log cursor t list′ log′ curs
 left-back c y list log cursor t list′ log′ cursor′ z e =
     let q : z ≡ codeOf (y .outcome .answer) = ap (λ (x : Left). x .code) e ∙ left-code c y list log cursor in
     ap (λ (r : ℤ). left r t list′ log′ cursor′) (code-back (y .outcome .answer) z q ∙ sym q) ∙ e
+
+-- what is decoded is the parts of the state that the bytes stand for
+pub parts-in : (b : List ℕ) {ws : List ℕ} {ends : List (List ℕ)} {noted : List ℕ} → ws ≡ planIn b → ends ≡ endsIn b → noted ≡ wordsIn b 61220 384 → Parts (stateIn b) ws ends noted
+unfolding stateIn
+parts-in b p q r = record { plan = p; edges = q; noted = r }
 
 -- the parts that are lent of what is decoded
 pub part-fits : (r n m : ℕ) → r ≡ roomOf n → m ≡ 4352 → r ≤ m

@@ -48,19 +48,11 @@ fn find_reason<'a>(
     requires { ⌜ (133440 ≤ length (now state)) × (now plan ≡ planIn (now state)) × (edges ≡ endsIn (now state)) × (now noted ≡ wordsIn (now state) 61220 384) ⌝ }
     ensures { λ r. ⌜ fetched r (now (out .exit)) ≡ reasonFetched (stateIn (now (state .entry))) «before» (now (records .entry)) lit (now (out .entry)) ⌝ }
 {
-    let ends = edges;
-    let n = refusals::fetch_refusal(plan, &ends, noted, out.len(), records, before);
-    if n == 0 {
-        let m = refusals::literal_refusal(plan, lit);
-        if m == 0 {
-            let p = lent::fetch::place_of(plan, refusals::lit_number(lit));
-            let first = reason_word(state, 63808, p);
-            let second = reason_word(state, 63816, p);
-            return lent::fetch::calc_reason(plan, edges, noted, first, second, out);
-        }
-        return Answer::Refused { number: m };
-    }
-    Answer::Refused { number: n }
+    let p = lent::fetch::place_of(plan, refusals::lit_number(lit));
+    let first = reason_word(state, 63808, p);
+    let second = reason_word(state, 63816, p);
+    let reason = reasons::reason::reason_of(first, second);
+    lent::fetch::calc_reason(plan, edges, noted, records, before, lit, reason, out)
 }
 
 fn find_last<'a>(
@@ -75,18 +67,10 @@ fn find_last<'a>(
     requires { ⌜ (133440 ≤ length (now state)) × (now plan ≡ planIn (now state)) × (edges ≡ endsIn (now state)) × (now noted ≡ wordsIn (now state) 61220 384) ⌝ }
     ensures { λ r. ⌜ fetched r (now (out .exit)) ≡ lastFetched (stateIn (now (state .entry))) «before» (now (records .entry)) (now (out .entry)) ⌝ }
 {
-    let n = refusals::fetch_refusal(plan, &edges, noted, out.len(), records, before);
-    if n == 0 {
-        let len = word_at(state, 62756) as usize;
-        if 260 < len {
-            return Answer::Refused { number: 7 };
-        }
-        let mut last = no_list();
-        read_words(state, 62764, 0, 260, &mut last);
-        lent::fetch::copy(&last, len, out);
-        return Answer::Reason { len: len };
-    }
-    Answer::Refused { number: n }
+    let len = word_at(state, 62756) as usize;
+    let mut last = no_list();
+    read_words(state, 62764, 0, 260, &mut last);
+    lent::fetch::calc_last(plan, edges, noted, records, before, &last, len, out)
 }
 
 // The list goes to the buffer's bytes.

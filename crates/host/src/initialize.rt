@@ -15,6 +15,7 @@ use crate::decode::read_log;
 use crate::decode::read_plan;
 use crate::decode::room_of;
 use graph_division::Answer;
+use lent::initialize::is_consistent;
 use undo_log::Cursor;
 ghost use mathlib.Core.Path.{_≡_};
 ghost use mathlib.Core.Bool.{true, false, not};
@@ -36,19 +37,6 @@ fn is_initialized(state: &[u8]) -> bool
         return false;
     }
     true
-}
-
-fn is_consistent(answer: Answer) -> bool
-    ensures { λ r. ⌜ r ≡ isConsistent answer ⌝ }
-{
-    match answer {
-        Answer::Consistent { handed: _ } => true,
-        Answer::Conflict => false,
-        Answer::Noted => false,
-        Answer::Undone => false,
-        Answer::Reason { len: _ } => false,
-        Answer::Refused { number: _ } => false,
-    }
 }
 
 // A consistent initialise is marked in the state; after any other answer the bytes stay.

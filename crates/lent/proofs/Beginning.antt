@@ -15,8 +15,8 @@ use Rattle.refusals.specs.Refusals.{initializeRefusal}
 use Rattle.graph_division.specs.declared.GraphDivision.{GraphDivision}
 use Rattle.graph_division.specs.declared.Answer.{Answer}
 use Rattle.graph_division.specs.Calls.{Called, called, outcome, refuse, withJudged}
-use Rattle.graph_division.specs.Initialize.{notedUpTo, takenOver, begun, initialized}
-use Rattle.lent.specs.Lent.{withInitialized}
+use Rattle.graph_division.specs.Initialize.{notedUpTo, takenOver}
+use Rattle.lent.specs.Lent.{withInitialized, begunOver, initializedOver}
 
 -- what was tried out is taken over
 module _ (s : GraphDivision) (c : Cursor) (entry log words left : List ℕ) (x : Progress) (noted after : List ℕ) (d : Cursor)
@@ -30,14 +30,14 @@ module _ (s : GraphDivision) (c : Cursor) (entry log words left : List ℕ) (x :
   taken-over = ap (λ (y : Noting). called (outcome (withJudged (y .noted) (judgedOf Fine words left) (x .len) s) (y .cursor) a) [] [] (y .log)) e
 
 -- by what is tested first
-module _ (s : GraphDivision) (c : Cursor) (t log list : List ℕ) (n : ℕ)
+module _ (s : GraphDivision) (c : Cursor) (words t log list : List ℕ) (n : ℕ)
     (e : n ≡ initializeRefusal (s .plan) (s .edges .ends) (s .noted) t (length list) log c (s .initialized)) where
   pub is-begun : (x : Called) → n ≡ 0 →
-      (initializeRefusal (s .plan) (s .edges .ends) (s .noted) t (length list) log c (s .initialized) ≡ 0 → x ≡ begun s c t log list) → x ≡ initialized s c t log list
-  unfolding initialized
+      (initializeRefusal (s .plan) (s .edges .ends) (s .noted) t (length list) log c (s .initialized) ≡ 0 → x ≡ begunOver s c words t log list) → x ≡ initializedOver s c words t log list
+  unfolding initializedOver
   is-begun x z h = h (sym e ∙ z) ∙ sym (pick-yes _ _ (eq-eqb _ _ (sym e ∙ z)))
 
-  pub is-refused : (n ≡ 0 → ⊥) → called (refuse n s c) t list log ≡ initialized s c t log list
-  unfolding initialized
+  pub is-refused : (n ≡ 0 → ⊥) → called (refuse n s c) t list log ≡ initializedOver s c words t log list
+  unfolding initializedOver
   is-refused z = ap (λ (k : ℕ). called (refuse k s c) t list log) e
       ∙ sym (pick-no _ _ (ne-eqb _ _ (λ (f : initializeRefusal (s .plan) (s .edges .ends) (s .noted) t (length list) log c (s .initialized) ≡ 0). z (e ∙ f))))

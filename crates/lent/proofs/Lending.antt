@@ -18,7 +18,8 @@ use Rattle.refusals.specs.Refusals.{litNumber, propagateRefusal, undoRefusal}
 use Rattle.graph_division.specs.declared.GraphDivision.{GraphDivision}
 use Rattle.graph_division.specs.declared.Answer.{Answer}
 use Rattle.graph_division.specs.declared.Answer.the-variants as answer
-use Rattle.graph_division.specs.Calls.{Called, called, outcome, refuse, withNoted, withJudged, notedIn, adding, accepting, settled, propagated, undone}
+use Rattle.graph_division.specs.Calls.{Called, called, outcome, refuse, withNoted, withJudged, notedIn, adding, accepting, undone}
+use Rattle.lent.specs.Lent.{settledOver, propagatedOver}
 
 module _ (s : GraphDivision) (c : Cursor) where
   pub noted-judged : (l len : ℕ) (a : Answer) (words p left log after : List ℕ) (d : Cursor) →
@@ -35,21 +36,21 @@ module _ (s : GraphDivision) (c : Cursor) where
   noted-only l words t list log after d e = ap (λ (x : Noting). called (outcome (withNoted (x .noted) s) (x .cursor) answer.Noted) t list (x .log)) e
 
   -- a notification, by what is tested first
-  module _ (lit pending : ℤ) (t list log : List ℕ) (n : ℕ) (e : n ≡ propagateRefusal (s .plan) (s .edges .ends) (s .noted) t (length list) log c lit) where
-    pub is-settled : (l : ℕ) (x : Called) → l ≡ litNumber lit → n ≡ 0 → inRange (pos 0) pending ≡ true → x ≡ settled s c l t list log → x ≡ propagated s c lit pending t list log
-    unfolding propagated
+  module _ (p left : List ℕ) (lit pending : ℤ) (t list log : List ℕ) (n : ℕ) (e : n ≡ propagateRefusal (s .plan) (s .edges .ends) (s .noted) t (length list) log c lit) where
+    pub is-settled : (l : ℕ) (x : Called) → l ≡ litNumber lit → n ≡ 0 → inRange (pos 0) pending ≡ true → x ≡ settledOver s c p left l t list log → x ≡ propagatedOver s c p left lit pending t list log
+    unfolding propagatedOver
     is-settled l x f z i h =
-        h ∙ (ap (λ (k : ℕ). settled s c k t list log) f
+        h ∙ (ap (λ (k : ℕ). settledOver s c p left k t list log) f
         ∙ sym (pick-yes _ _ (eq-eqb _ _ (sym e ∙ z)) ∙ pick-yes _ _ i))
 
-    pub is-added : (l : ℕ) (x : Called) → l ≡ litNumber lit → n ≡ 0 → inRange (pos 0) pending ≡ false → x ≡ adding s c l t list log → x ≡ propagated s c lit pending t list log
-    unfolding propagated
+    pub is-added : (l : ℕ) (x : Called) → l ≡ litNumber lit → n ≡ 0 → inRange (pos 0) pending ≡ false → x ≡ adding s c l t list log → x ≡ propagatedOver s c p left lit pending t list log
+    unfolding propagatedOver
     is-added l x f z i h =
         h ∙ (ap (λ (k : ℕ). adding s c k t list log) f
         ∙ sym (pick-yes _ _ (eq-eqb _ _ (sym e ∙ z)) ∙ pick-no _ _ i))
 
-    pub is-refused : (n ≡ 0 → ⊥) → called (refuse n s c) t list log ≡ propagated s c lit pending t list log
-    unfolding propagated
+    pub is-refused : (n ≡ 0 → ⊥) → called (refuse n s c) t list log ≡ propagatedOver s c p left lit pending t list log
+    unfolding propagatedOver
     is-refused z = ap (λ (k : ℕ). called (refuse k s c) t list log) e ∙ sym (pick-no _ _ (ne-eqb _ _ (λ (f : propagateRefusal (s .plan) (s .edges .ends) (s .noted) t (length list) log c lit ≡ 0). z (e ∙ f))))
 
   module _ (lit : ℤ) (log : List ℕ) (n : ℕ) (e : n ≡ undoRefusal (s .plan) (s .edges .ends) (s .noted) log c lit) where

@@ -1,2 +1,7 @@
+pub mod Parting
+pub mod Settling
+pub mod Saved
+pub mod Begun
 pub mod Lending
 pub mod Beginning
+pub mod Fetching

@@ -1,4 +1,4 @@
-// The Rust's `calc_reason`, with the recorded reason's words given.
+// The Rust's `calc_reason`, with a literal and without one. A fetch changes nothing but the buffer that it is lent.
 use graph_division::Answer;
 use reasons::reason::Reason;
 use undo_log::Cursor;
@@ -7,21 +7,14 @@ ghost use mathlib.Core.Path.{_≡_};
 ghost use mathlib.Core.Bool.{Bool};
 ghost use mathlib.Core.List.{List};
 ghost use Prim.Native.Nat.{ℕ, _*_, _+_, _/_, _%_};
-ghost use lib.ListN.{replicate};
 ghost use Rattle.base.specs.Lists.{tab};
 ghost use Rattle.plan.specs.Words.{word};
 ghost use Rattle.walks.specs.Written.{outOf, pushed, written};
 ghost use Rattle.analysis.specs.Placed.{placeOfLit};
-ghost use Rattle.reasons.specs.Reason.{reasonOf};
 ghost use Rattle.recorded.specs.declared.Reasons.{Reasons};
-ghost use Rattle.graph_division.specs.Calls.{fetched, reasonGiven, isNone, giving};
-ghost use Rattle.lent.specs.Lent.{stateOf};
-
-fn no_list() -> [u32; 260]
-    ensures { λ r. ⌜ r ≡ replicate 260 0 ⌝ }
-{
-    [0u32; 260]
-}
+ghost use Rattle.graph_division.specs.declared.GraphDivision.{GraphDivision};
+ghost use Rattle.graph_division.specs.Calls.{fetched, reasonGiven, isNone, giving, lastFetched};
+ghost use Rattle.lent.specs.Lent.{stateOf, Parts, reasonFetchedBy};
 
 fn word(list: &[u32], i: usize) -> u32
     ensures { λ r. ⌜ r ≡ word (now (list .entry)) i ⌝ }
@@ -44,7 +37,7 @@ fn push(buffer: &mut [u32], at: usize, x: u32) -> usize
 }
 
 // The first n words of the list, as many as there is room for.
-pub fn copy(list: &[u32], n: usize, buffer: &mut [u32])
+pub(crate) fn copy(list: &[u32], n: usize, buffer: &mut [u32])
     ensures { λ _. ⌜ now (buffer .exit) ≡ written (tab (word (now (list .entry))) n) (outOf (now (buffer .entry)) 0) .text ⌝ }
 {
     let mut at = 0;
@@ -114,23 +107,72 @@ pub fn place_of(plan: &[u32; 15241], lit: u16) -> usize
     2 * k + (lit % 2) as usize
 }
 
-// The list of the reason whose words these are, made of the edges connected and disconnected now.
-pub fn calc_reason(
+// A reason's list, made of the edges connected and disconnected now.
+fn calc(
     plan: &[u32; 15241],
     edges: [[u8; 2]; 128],
     noted: &[u32; 384],
-    first: u64,
-    second: u64,
+    reason: Reason,
     buffer: &mut [u32],
 ) -> Answer
     ensures { λ r. ⌜ ((rs : Reasons) (last : List ℕ) (len : ℕ) (b : Bool) →
-        fetched r (now (buffer .exit)) ≡ giving (stateOf (now (plan .entry)) edges (now (noted .entry)) rs last len b) (reasonOf first second) (now (buffer .entry))) ⌝ }
+        fetched r (now (buffer .exit)) ≡ giving (stateOf (now (plan .entry)) edges (now (noted .entry)) rs last len b) reason (now (buffer .entry))) ⌝ }
 {
-    let reason = reasons::reason::reason_of(first, second);
     if is_none(reason) {
         return Answer::Refused { number: 15 };
     }
-    let mut list = no_list();
+    let mut list = crate::no_list();
     let listed = lists::reason_lits(plan, edges, noted, reason, &mut list, 0);
     give(&list, listed, buffer)
+}
+
+// A literal's reason: the list of what an analysis recorded for it, which the caller reads at the literal's place.
+pub fn calc_reason<'a>(
+    plan: &'a [u32; 15241],
+    edges: [[u8; 2]; 128],
+    noted: &'a [u32; 384],
+    log: &'a [u64],
+    cursor: Cursor,
+    lit: i32,
+    reason: Reason,
+    buffer: &mut [u32],
+) -> Answer
+    ensures { λ r. ⌜ ((s : GraphDivision) → Parts s (now (plan .entry)) edges (now (noted .entry)) →
+        fetched r (now (buffer .exit)) ≡ reasonFetchedBy s cursor (now (log .entry)) lit reason (now (buffer .entry))) ⌝ }
+{
+    let ends = edges;
+    let n = refusals::fetch_refusal(plan, &ends, noted, buffer.len(), log, cursor);
+    if n == 0 {
+        let m = refusals::literal_refusal(plan, lit);
+        if m == 0 {
+            return calc(plan, edges, noted, reason, buffer);
+        }
+        return Answer::Refused { number: m };
+    }
+    Answer::Refused { number: n }
+}
+
+// The list last left, which stands in `last`, up to `len`: empty before any analysis and after a consistent notification.
+pub fn calc_last<'a>(
+    plan: &'a [u32; 15241],
+    edges: [[u8; 2]; 128],
+    noted: &'a [u32; 384],
+    log: &'a [u64],
+    cursor: Cursor,
+    last: &'a [u32],
+    len: usize,
+    buffer: &mut [u32],
+) -> Answer
+    ensures { λ r. ⌜ ((s : GraphDivision) → Parts s (now (plan .entry)) edges (now (noted .entry)) → now (last .entry) ≡ s .last → len ≡ s .«last_len» →
+        fetched r (now (buffer .exit)) ≡ lastFetched s cursor (now (log .entry)) (now (buffer .entry))) ⌝ }
+{
+    let n = refusals::fetch_refusal(plan, &edges, noted, buffer.len(), log, cursor);
+    if n == 0 {
+        if 260 < len {
+            return Answer::Refused { number: 7 };
+        }
+        copy(last, len, buffer);
+        return Answer::Reason { len: len };
+    }
+    Answer::Refused { number: n }
 }

@@ -1,25 +1,69 @@
 // The Rust's `initialize`.
 use crate::Done;
 use crate::fetch::copy;
+use crate::no_words;
+use crate::table::restore;
+use crate::table::save;
 use graph_division::Answer;
-use graph_division::initialize::no_handed;
-use graph_division::initialize::note_up_to;
-use graph_division::initialize::restore;
-use graph_division::initialize::save;
-use graph_division::propagate::no_words;
 use judge::Judgement;
 use notifications::Progress;
 use notifications::go_through;
+use notifications::lit_at;
 use undo_log::Cursor;
 ghost use mathlib.Core.Path.{_≡_};
 ghost use mathlib.Core.Bool.{Bool};
 ghost use mathlib.Core.List.{List};
 ghost use Prim.Native.Nat.{ℕ};
 ghost use lib.ListN.{length, replicate};
+ghost use Rattle.noting.specs.Note.{noting};
 ghost use Rattle.recorded.specs.declared.Reasons.{Reasons};
 ghost use Rattle.refusals.specs.Refusals.{initializeRefusal};
-ghost use Rattle.graph_division.specs.Initialize.{restoredTable, endedBy, begun, initialized};
-ghost use Rattle.lent.specs.Lent.{stateOf, begunOf};
+ghost use Rattle.graph_division.specs.declared.GraphDivision.{GraphDivision};
+ghost use Rattle.graph_division.specs.Initialize.{restoredTable, notedAt, notedUpTo, endedBy};
+ghost use Rattle.lent.specs.Lent.{stateOf, Parts, isConsistent, begunOf, begunOver, initializedOver};
+
+// The literal at place p is noted in the words and in the log, where it is true in the table on entry.
+fn note_at(
+    plan: &[u32; 15241],
+    entry: &[u8],
+    noted: &mut [u32; 384],
+    log: &mut [u64],
+    cursor: Cursor,
+    p: usize,
+) -> Cursor
+    ensures { λ c. ⌜ noting (now (noted .exit)) (now (log .exit)) c ≡ notedAt (now (plan .entry)) (now (entry .entry)) p (noting (now (noted .entry)) (now (log .entry)) cursor) ⌝ }
+{
+    if sweep::table::is_true(entry, plan::unique_lit(plan, p)) {
+        return noting::note::note(plan, noted, log, cursor, lit_at(plan, p));
+    }
+    cursor
+}
+
+// Those of the places below `past`.
+fn note_up_to(
+    plan: &[u32; 15241],
+    entry: &[u8],
+    noted: &mut [u32; 384],
+    log: &mut [u64],
+    cursor: Cursor,
+    past: usize,
+) -> Cursor
+    ensures { λ c. ⌜ noting (now (noted .exit)) (now (log .exit)) c ≡ notedUpTo (now (plan .entry)) (now (entry .entry)) past (noting (now (noted .entry)) (now (log .entry)) cursor) ⌝ }
+{
+    let mut c = cursor;
+    let mut p = 0;
+    while p < past {
+        c = note_at(plan, entry, noted, log, c, p);
+        p += 1;
+    }
+    c
+}
+
+fn no_handed() -> [u32; 8704]
+    ensures { λ r. ⌜ r ≡ replicate 8704 0 ⌝ }
+{
+    [0u32; 8704]
+}
 
 // What was tried out is taken over into the noted words and the log, or taken back.
 fn finish(
@@ -85,10 +129,10 @@ fn begin(
     cursor: Cursor,
     last_len: usize,
 ) -> Done
-    ensures { λ r. ⌜ (now (words .entry) ≡ replicate 8704 0 → (rs : Reasons) (b : Bool) →
+    ensures { λ r. ⌜ ((rs : Reasons) (b : Bool) →
         initializeRefusal (now (plan .entry)) edges (now (noted .entry)) (now (table .entry)) (length (now (list .entry))) (now (log .entry)) cursor b ≡ 0 →
         begunOf (stateOf (now (plan .entry)) edges (now (noted .entry)) rs (now (left .entry)) «last_len» b) (now (noted .exit)) (now (words .exit)) (now (left .exit)) r (now (table .exit)) (now (list .exit)) (now (log .exit))
-        ≡ begun (stateOf (now (plan .entry)) edges (now (noted .entry)) rs (now (left .entry)) «last_len» b) cursor (now (table .entry)) (now (log .entry)) (now (list .entry))) ⌝ }
+        ≡ begunOver (stateOf (now (plan .entry)) edges (now (noted .entry)) rs (now (left .entry)) «last_len» b) cursor (now (words .entry)) (now (table .entry)) (now (log .entry)) (now (list .entry))) ⌝ }
 {
     let entry = save(table);
     let mut trial = *noted;
@@ -112,8 +156,8 @@ fn begin(
 }
 
 // Notifies, in rising order, the plan's literals that are true in the table on entry, and analyzes once more. The list last left stands
-// in `left`, up to `last_len`, and `done` says whether an initialise was consistent before. The words are those of all its analyses,
-// where they were all 0 before.
+// in `left`, up to `last_len`, and `done` says whether an initialise was consistent before. The words are those of all its analyses, the
+// newest of each place, over what they held before: a caller lends zeros.
 pub fn initialize(
     plan: &[u32; 15241],
     edges: [[u8; 2]; 128],
@@ -127,9 +171,9 @@ pub fn initialize(
     last_len: usize,
     done: bool,
 ) -> Done
-    ensures { λ r. ⌜ (now (words .entry) ≡ replicate 8704 0 → (rs : Reasons) →
-        begunOf (stateOf (now (plan .entry)) edges (now (noted .entry)) rs (now (left .entry)) «last_len» done) (now (noted .exit)) (now (words .exit)) (now (left .exit)) r (now (table .exit)) (now (list .exit)) (now (log .exit))
-        ≡ initialized (stateOf (now (plan .entry)) edges (now (noted .entry)) rs (now (left .entry)) «last_len» done) cursor (now (table .entry)) (now (log .entry)) (now (list .entry))) ⌝ }
+    ensures { λ r. ⌜ ((s : GraphDivision) → Parts s (now (plan .entry)) edges (now (noted .entry)) → now (left .entry) ≡ s .last → «last_len» ≡ s .«last_len» → done ≡ s .initialized →
+        begunOf s (now (noted .exit)) (now (words .exit)) (now (left .exit)) r (now (table .exit)) (now (list .exit)) (now (log .exit))
+        ≡ initializedOver s cursor (now (words .entry)) (now (table .entry)) (now (log .entry)) (now (list .entry))) ⌝ }
 {
     let ends = edges;
     let stood = *noted;
@@ -153,5 +197,19 @@ pub fn initialize(
         answer: Answer::Refused { number: n },
         judged: false,
         len: 0,
+    }
+}
+
+// Whether an initialise with this answer is marked in the state.
+pub fn is_consistent(answer: Answer) -> bool
+    ensures { λ r. ⌜ r ≡ isConsistent answer ⌝ }
+{
+    match answer {
+        Answer::Consistent { handed: _ } => true,
+        Answer::Conflict => false,
+        Answer::Noted => false,
+        Answer::Undone => false,
+        Answer::Reason { len: _ } => false,
+        Answer::Refused { number: _ } => false,
     }
 }

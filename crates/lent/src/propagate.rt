@@ -2,29 +2,17 @@
 use crate::Done;
 use graph_division::Answer;
 use judge::Judgement;
+use notifications::try_out;
 use noting::note::note;
 use undo_log::Cursor;
 ghost use mathlib.Core.Path.{_≡_};
 ghost use mathlib.Core.Bool.{Bool};
-ghost use mathlib.Core.List.{List, _∷_, []};
+ghost use mathlib.Core.List.{List};
 ghost use Prim.Native.Nat.{ℕ};
-ghost use lib.ListN.{replicate};
-ghost use Rattle.noting.specs.Note.{noting, note};
 ghost use Rattle.recorded.specs.declared.Reasons.{Reasons};
-ghost use Rattle.graph_division.specs.Calls.{settled, adding, propagated};
-ghost use Rattle.lent.specs.Lent.{stateOf, calledOf};
-
-// The words noted with literal `lit`, tried out with no log.
-fn try_out(plan: &[u32; 15241], noted: &mut [u32; 384], lit: u16)
-    ensures { λ _. ⌜ now (noted .exit) ≡ note (now (plan .entry)) lit (noting (now (noted .entry)) (0 ∷ []) (record { used = 0; standing = 0 })) .noted ⌝ }
-{
-    let mut none = [0u64; 1];
-    let start = Cursor {
-        used: 0,
-        standing: 0,
-    };
-    note(plan, noted, &mut none, start, lit);
-}
+ghost use Rattle.graph_division.specs.declared.GraphDivision.{GraphDivision};
+ghost use Rattle.graph_division.specs.Calls.{adding};
+ghost use Rattle.lent.specs.Lent.{stateOf, Parts, calledOf, settledOver, propagatedOver};
 
 // The literal is noted and nothing is analyzed.
 fn add(
@@ -38,9 +26,9 @@ fn add(
         calledOf (stateOf (now (plan .entry)) ends (now (noted .entry)) rs last len b) (now (noted .exit)) proposals left r t list (now (log .exit))
         ≡ adding (stateOf (now (plan .entry)) ends (now (noted .entry)) rs last len b) cursor lit t list (now (log .entry))) ⌝ }
 {
-    let c = note(plan, noted, log, cursor, lit);
+    let moved = note(plan, noted, log, cursor, lit);
     Done {
-        cursor: c,
+        cursor: moved,
         answer: Answer::Noted,
         judged: false,
         len: 0,
@@ -60,9 +48,9 @@ fn settle(
     cursor: Cursor,
     lit: u16,
 ) -> Done
-    ensures { λ r. ⌜ (now (proposals .entry) ≡ replicate 8704 0 → now (left .entry) ≡ replicate 260 0 → (rs : Reasons) (last : List ℕ) (len : ℕ) (b : Bool) →
+    ensures { λ r. ⌜ ((rs : Reasons) (last : List ℕ) (len : ℕ) (b : Bool) →
         calledOf (stateOf (now (plan .entry)) edges (now (noted .entry)) rs last len b) (now (noted .exit)) (now (proposals .exit)) (now (left .exit)) r (now (table .exit)) (now (list .exit)) (now (log .exit))
-        ≡ settled (stateOf (now (plan .entry)) edges (now (noted .entry)) rs last len b) cursor lit (now (table .entry)) (now (list .entry)) (now (log .entry))) ⌝ }
+        ≡ settledOver (stateOf (now (plan .entry)) edges (now (noted .entry)) rs last len b) cursor (now (proposals .entry)) (now (left .entry)) lit (now (table .entry)) (now (list .entry)) (now (log .entry))) ⌝ }
 {
     let mut trial = *noted;
     try_out(plan, &mut trial, lit);
@@ -96,7 +84,8 @@ fn settle(
     }
 }
 
-// Notifies the literal. The proposals and the list left are those of the analysis after it, where they were all 0 before.
+// Notifies the literal. With a pending number other than 0 it is only noted. The proposals and the list left are those of the analysis
+// after it, over what they held before: a caller lends zeros.
 pub fn propagate(
     plan: &[u32; 15241],
     edges: [[u8; 2]; 128],
@@ -110,9 +99,9 @@ pub fn propagate(
     lit: i32,
     num_pending_propagations: i32,
 ) -> Done
-    ensures { λ r. ⌜ (now (proposals .entry) ≡ replicate 8704 0 → now (left .entry) ≡ replicate 260 0 → (rs : Reasons) (last : List ℕ) (len : ℕ) (b : Bool) →
-        calledOf (stateOf (now (plan .entry)) edges (now (noted .entry)) rs last len b) (now (noted .exit)) (now (proposals .exit)) (now (left .exit)) r (now (table .exit)) (now (list .exit)) (now (log .exit))
-        ≡ propagated (stateOf (now (plan .entry)) edges (now (noted .entry)) rs last len b) cursor lit «num_pending_propagations» (now (table .entry)) (now (list .entry)) (now (log .entry))) ⌝ }
+    ensures { λ r. ⌜ ((s : GraphDivision) → Parts s (now (plan .entry)) edges (now (noted .entry)) →
+        calledOf s (now (noted .exit)) (now (proposals .exit)) (now (left .exit)) r (now (table .exit)) (now (list .exit)) (now (log .exit))
+        ≡ propagatedOver s cursor (now (proposals .entry)) (now (left .entry)) lit «num_pending_propagations» (now (table .entry)) (now (list .entry)) (now (log .entry))) ⌝ }
 {
     let ends = edges;
     let stood = *noted;

@@ -3,14 +3,12 @@ use crate::Done;
 use graph_division::Answer;
 use undo_log::Cursor;
 ghost use mathlib.Core.Path.{_≡_};
-ghost use mathlib.Core.Bool.{Bool};
-ghost use mathlib.Core.List.{List};
-ghost use Prim.Native.Nat.{ℕ};
-ghost use Rattle.recorded.specs.declared.Reasons.{Reasons};
+ghost use mathlib.Core.Bool.{false};
+ghost use Rattle.graph_division.specs.declared.GraphDivision.{GraphDivision};
 ghost use Rattle.graph_division.specs.Calls.{outcome, withNoted, undone};
-ghost use Rattle.lent.specs.Lent.{stateOf};
+ghost use Rattle.lent.specs.Lent.{Parts};
 
-// Takes back the newest notification, which must be the literal's: 11 where it is not.
+// Takes back the newest notification, which must be the literal's: 11 where it is not. There is no analysis, so nothing is to be recorded.
 pub fn undo<'a>(
     plan: &'a [u32; 15241],
     edges: [[u8; 2]; 128],
@@ -19,9 +17,9 @@ pub fn undo<'a>(
     cursor: Cursor,
     lit: i32,
 ) -> Done
-    ensures { λ r. ⌜ ((rs : Reasons) (last : List ℕ) (len : ℕ) (b : Bool) →
-        outcome (withNoted (now (noted .exit)) (stateOf (now (plan .entry)) edges (now (noted .entry)) rs last len b)) (r .cursor) (r .answer)
-        ≡ undone (stateOf (now (plan .entry)) edges (now (noted .entry)) rs last len b) cursor lit (now (log .entry))) ⌝ }
+    ensures { λ r. ⌜ ((s : GraphDivision) → Parts s (now (plan .entry)) edges (now (noted .entry)) →
+        outcome (withNoted (now (noted .exit)) s) (r .cursor) (r .answer) ≡ undone s cursor lit (now (log .entry))) ⌝ }
+    ensures { λ r. ⌜ (r .judged ≡ false) × (r .len ≡ 0) ⌝ }
 {
     let stood = *noted;
     let n = refusals::undo_refusal(plan, &edges, &stood, log, cursor, lit);

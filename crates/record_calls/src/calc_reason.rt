@@ -25,7 +25,7 @@ pub(crate) fn calc_reason_words(
     ensures { λ r. ⌜ fetched r (now (buffer .exit)) ≡ pick (reaches (s .plan) len cursor) (reasonFetched s cursor (now (words .entry)) lit (now (buffer .entry))) (fetched (Refused 7) (now (buffer .entry))) ⌝ }
 {
     if reaches(&s.plan, len, cursor) {
-        return graph_division::calc_reason::calc_reason(s, words, cursor, lit, buffer);
+        return by_value::calc_reason::calc_reason(s, words, cursor, lit, buffer);
     }
     Answer::Refused { number: 7 }
 }
@@ -57,7 +57,7 @@ pub(crate) fn calc_last_words(
     ensures { λ r. ⌜ fetched r (now (buffer .exit)) ≡ pick (reaches (s .plan) len cursor) (lastFetched s cursor (now (words .entry)) (now (buffer .entry))) (fetched (Refused 7) (now (buffer .entry))) ⌝ }
 {
     if reaches(&s.plan, len, cursor) {
-        return graph_division::calc_reason::calc_last(s, words, cursor, buffer);
+        return by_value::calc_reason::calc_last(s, words, cursor, buffer);
     }
     Answer::Refused { number: 7 }
 }

@@ -27,7 +27,7 @@ pub(crate) fn initialize_words(
     ensures { λ r. ⌜ called r (now (table .exit)) (now (list .exit)) (now (words .exit)) ≡ pick (reaches (s .plan) len cursor) (initialized s cursor (now (table .entry)) (now (words .entry)) (now (list .entry))) (called (refuse 7 s cursor) (now (table .entry)) (now (list .entry)) (now (words .entry))) ⌝ }
 {
     if reaches(&s.plan, len, cursor) {
-        return graph_division::initialize::initialize(s, table, list, words, cursor);
+        return by_value::initialize::initialize(s, table, list, words, cursor);
     }
     refuse(s, cursor)
 }

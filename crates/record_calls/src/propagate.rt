@@ -28,7 +28,7 @@ pub(crate) fn propagate_words(
     ensures { λ r. ⌜ called r (now (table .exit)) (now (list .exit)) (now (words .exit)) ≡ pick (reaches (s .plan) len cursor) (propagated s cursor lit «num_pending_propagations» (now (table .entry)) (now (list .entry)) (now (words .entry))) (called (refuse 7 s cursor) (now (table .entry)) (now (list .entry)) (now (words .entry))) ⌝ }
 {
     if reaches(&s.plan, len, cursor) {
-        return graph_division::propagate::propagate(
+        return by_value::propagate::propagate(
             s,
             table,
             list,

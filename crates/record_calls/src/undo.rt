@@ -24,7 +24,7 @@ pub(crate) fn undo_words(
     ensures { λ r. ⌜ r ≡ pick (reaches (s .plan) len cursor) (undone s cursor lit (now (words .entry))) (refuse 7 s cursor) ⌝ }
 {
     if reaches(&s.plan, len, cursor) {
-        return graph_division::undo::undo(s, words, cursor, lit);
+        return by_value::undo::undo(s, words, cursor, lit);
     }
     refuse(s, cursor)
 }

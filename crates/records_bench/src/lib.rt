@@ -53,7 +53,7 @@ fn flat_noted(
         left -= 1;
         let s = o.state;
         let c = o.cursor;
-        o = graph_division::propagate::propagate(s, table, list, log, c, lits[left % 4096], 1);
+        o = by_value::propagate::propagate(s, table, list, log, c, lits[left % 4096], 1);
     }
     o
 }
@@ -61,10 +61,10 @@ fn flat_noted(
 fn flat_turn(o: Outcome, table: &mut [u8], list: &mut [u32], log: &mut [u64], lit: i32) -> Outcome {
     let s = o.state;
     let c = o.cursor;
-    let p = graph_division::propagate::propagate(s, table, list, log, c, lit, 0);
+    let p = by_value::propagate::propagate(s, table, list, log, c, lit, 0);
     let t = p.state;
     let d = p.cursor;
-    let u = graph_division::undo::undo(t, log, d, lit);
+    let u = by_value::undo::undo(t, log, d, lit);
     let state = u.state;
     let cursor = u.cursor;
     let answer = p.answer;

@@ -3,7 +3,7 @@ use mathlib.Core.Path.{_≡_, refl, sym, ap, ap₂, subst, _∙_}
 use mathlib.Core.Logic.{_⊎_, inl, inr, ⊎-elim}
 use mathlib.Core.Bool.{true, false}
 use mathlib.Core.List.{List, [], _∷_}
-use Prim.Native.Nat.{ℕ, _+_, _*_, _≤_}
+use Prim.Native.Nat.{ℕ, zero, suc, _+_, _*_, _≤_}
 use native.Mathlib.Omega.{arith}
 use lib.Dec.{eqb}
 use lib.IntN.{ℤ}
@@ -53,7 +53,6 @@ use Rattle.graph_division.specs.declared.Answer.the-variants as answer
 use Rattle.graph_division.specs.Calls.{Fetched, fetched, copied, reasonGiven, isNone, lastFetched, recordedFor, listFor, giving, reasonFetched}
 use Rattle.graph_division.specs.Outcomes.{answerFor, answerOf}
 use Rattle.simulation.proofs.Represents.{planIn, Represents}
-use Rattle.graph_division.proofs.Saved.{tab-length}
 use Rattle.simulation.proofs.Looked.{tab-take}
 
 -- a fetch on state, log and cursor; the definition's outcome is o
@@ -63,6 +62,11 @@ pub record SimulatesFetched (s : GraphDivision) (log : List ℕ) (c : Cursor) (b
   pub buffer : x .buffer ≡ sets before 0 (listIn (o .answer))
   pub whole : take (length (listIn (o .answer))) (x .buffer) ≡ listIn (o .answer)
   pub represents : Represents s log c (o .world)
+
+tab-length : (f : ℕ → ℕ) (n : ℕ) → length (tab f n) ≡ n
+unfolding tab
+tab-length f zero = refl
+tab-length f (suc n) = ap suc (tab-length (λ i. f (suc i)) n)
 
 copied-is : (l m b : List ℕ) (n : ℕ) → tab (word l) n ≡ m → length m ≤ length b → copied l n b ≡ fetched (answer.Reason (length m)) (sets b 0 m)
 unfolding copied

@@ -1,12 +1,13 @@
-use mathlib.Core.Path.{_≡_, ap, _∙_}
+use mathlib.Core.Path.{_≡_, refl, ap, _∙_}
 use native.Mathlib.Omega.{arith}
 use Rattle.undo_log.specs.declared.Cursor.{Cursor}
+use Rattle.graph_division.specs.declared.GraphDivision.{GraphDivision}
 use Rattle.graph_division.specs.Calls.{Called}
-use Rattle.graph_division.specs.Initialize.{initialized}
-use Rattle.lent.specs.Lent.{stateOf, begunOf}
-use Rattle.host.specs.Layout.{reasonsIn, stateIn, cursorIn, logIn}
+use Rattle.lent.specs.Lent.{begunOf, initializedOver}
+use Rattle.lent.proofs.Parting.{begun-over-zeros}
+use Rattle.host.specs.Layout.{stateIn, cursorIn, listIn, logIn}
 use Rattle.host.specs.Host.{initializedIn, leftOf}
-use Rattle.host.proofs.Leaving.{list-fits, log-fits, left-back}
+use Rattle.host.proofs.Leaving.{parts-in, list-fits, log-fits, left-back}
 use Rattle.host.proofs.Initializing.{words-fit, begun-leaves, begun-state}
 use borrow.Author.Needs.{needs}
 use Rattle.host.proofs.initialize.begin.Statement.{statement}
@@ -75,9 +76,12 @@ returns c =
     let k = (c .before .before .before .before .before .before .before .before .before .before .before .before .before .before .before .before .before .before .before .before .before .before .before .before .before .before .before .before .before .before .before .before .before .before .before .before .before .before .before .is-initialized) in
     let f = (c .before .before .before .before .before .before .before .before .before .before .before .before .finish) in
     let y : Called = initializedIn (a .state .now) (a .table .now) (a .list .now) (a .log .now) (a .cursor .now) in
-    let e : begunOf (stateOf (a .plan .now) (a .edges) (a .noted .now) (reasonsIn (a .state .now)) (a .last .now) (w .result) (k .result)) _ _ _ _ _ _ _ ≡ y = ((c .before .before .before .before .before .before .before .before .before .before .before .before .before .before .before .before .before .before .before .before .before .before .before .before .before .before .before .before .before .before .before .before .initialize .ensures) (c .before .before .before .before .before .before .before .before .before .before .before .before .before .before .before .before .before .before .before .before .before .before .before .before .before .before .before .before .before .before .before .before .before .before .before .before .before .before .before .before .before .before .before .no-words .ensures) (reasonsIn (a .state .now)) ∙ (λ i. initialized (stateOf ((p .1) i) ((p .2) i) ((p .3) i) (reasonsIn (a .state .now)) ((p .4) i) ((w .ensures) i) ((k .ensures) i)) ((p .6) i) (a .table .now) (((p .7) ∙ ap (λ (q : Cursor). logIn q (a .log .now)) (p .6)) i) ((p .5) i))) in (
+    let s : GraphDivision = stateIn (a .state .now) in
+    let e : begunOf s _ _ _ _ _ _ _ ≡ y = (c .before .before .before .before .before .before .before .before .before .before .before .before .before .before .before .before .before .before .before .before .before .before .before .before .before .before .before .before .before .before .before .before .initialize .ensures) s (parts-in (a .state .now) (p .1) (p .2) (p .3)) (p .4) (w .ensures) (k .ensures)
+    ∙ ((λ i. initializedOver s ((p .6) i) ((c .before .before .before .before .before .before .before .before .before .before .before .before .before .before .before .before .before .before .before .before .before .before .before .before .before .before .before .before .before .before .before .before .before .before .before .before .before .before .before .before .before .before .before .no-words .ensures) i) (a .table .now) (((p .7) ∙ ap (λ (q : Cursor). logIn q (a .log .now)) (p .6)) i) ((p .5) i))
+    ∙ begun-over-zeros s (cursorIn (a .cursor .now)) (a .table .now) (logIn (cursorIn (a .cursor .now)) (a .log .now)) (listIn (a .list .now))) in (
       left-back (cursorIn (a .cursor .now)) y _ _ _ _ _ _ _ _ (begun-leaves _ (a .before) _ _ _ _ _ _ _ y e _ _ _ _ _ _ _ ((f .ensures .0)) ∙ ap (λ (q : Cursor). leftOf q y (a .list .now) (a .log .now) (a .cursor .now)) (p .6)),
-      begun-state _ (a .before) _ _ _ _ _ _ _ y e (a .state .now) _ _ (λ i. stateOf ((p .1) i) ((p .2) i) ((p .3) i) (reasonsIn (a .state .now)) ((p .4) i) ((w .ensures) i) ((k .ensures) i)) ((f .ensures .1 .0)) (λ n. (f .ensures .1 .1 .0) n (p .1)) (c .before .before .store-initialized .ensures .0) (c .before .before .store-initialized .ensures .1 .0) (f .ensures .1 .1 .1) (c .before .before .store-initialized .ensures .1 .1),
+      begun-state _ (a .before) _ _ _ _ _ _ _ y e (a .state .now) _ _ refl ((f .ensures .1 .0)) (λ n. (f .ensures .1 .1 .0) n (p .1)) (c .before .before .store-initialized .ensures .0) (c .before .before .store-initialized .ensures .1 .0) (f .ensures .1 .1 .1) (c .before .before .store-initialized .ensures .1 .1),
     )
 
 pub begin-spec : {M : Type 1} → statement M

@@ -1,57 +1,50 @@
-use mathlib.Core.Path.{_≡_, refl, sym, ap, ap₂, _∙_}
-use Rattle.lent.specs.Lent.{stateOf, stateAfter, calledOf}
-use Rattle.walks.specs.Answers as walks
-use Rattle.walks.specs.Written.{outOf}
-use Rattle.lists.specs.Lists.{reasonLits}
-use Rattle.base.proofs.Loop.{pick-yes, pick-no}
-use Rattle.graph_division.specs.Calls.{isNone, giving, listFor, reasonGiven}
+use mathlib.Core.Path.{_∙_, ap}
+use mir.Facts.{toZ-ofZ}
+use Rattle.refusals.specs.Refusals.{literalRefusal}
+use Rattle.lent.specs.Lent.{stateOf}
+use Rattle.lent.proofs.Parting.{of-parts}
+use Rattle.lent.proofs.Fetching.{reason-refused, lit-refused, reason-found}
 use borrow.Author.Needs.{needs}
 use Rattle.lent.proofs.fetch.calc_reason.Statement.{statement}
 use Rattle.lent.proofs.fetch.calc_reason.Tie as tie
 
-reason-of-requires : tie.Need-reason-of-requires
-reason-of-requires c κs = search needs
+fetch-refusal-requires : tie.Need-fetch-refusal-requires
+fetch-refusal-requires c κs = search needs
 
-is-none-requires : tie.Need-is-none-requires
-is-none-requires c κs = search needs
+literal-refusal-requires : tie.Need-literal-refusal-requires
+literal-refusal-requires c κs = search needs
 
-returns : tie.Need-returns
-unfolding giving
-returns c = λ rs last len b. sym (pick-yes _ _ (sym ((c .before .is-none .ensures) ∙ ap isNone (c .before .before .reason-of .ensures)) ∙ (c .if1 .taken)))
-
-no-list-requires : tie.Need-no-list-requires
-no-list-requires c κs = search needs
-
-slice-aggregate-reason-lits : tie.Need-slice-aggregate-reason-lits
-slice-aggregate-reason-lits c = search needs
-
-reason-lits-requires : tie.Need-reason-lits-requires
-reason-lits-requires c κs = search needs
-
-slice-aggregate-give : tie.Need-slice-aggregate-give
-slice-aggregate-give c = search needs
-
-give-requires : tie.Need-give-requires
-give-requires c κs = search needs
+calc-requires : tie.Need-calc-requires
+calc-requires c κs = search needs
 
 same-length : tie.Need-same-length
 same-length c = search needs
 
+returns : tie.Need-returns
+returns c =
+    let a = c .before .before .before .before .before .before .before .before .before .before .before .args in
+    let m = (c .before .before .before .before .before .literal-refusal .ensures) ∙ ap (literalRefusal (a .plan .now)) (toZ-ofZ (c .before .before .before .before .before .before .before .before .before .before .before .fits .lit)) in
+    of-parts _ (λ rs last len b. reason-found (stateOf (a .plan .now) (a .edges) (a .noted .now) rs last len b) _ _ _ _ (c .before .before .before .before .before .before .before .fetch-refusal .ensures) (a .lit) _ _ _ m (c .before .before .before .before .before .before .if1 .taken) (c .before .before .before .before .if2 .taken) ((c .before .before .calc .ensures) rs last len b))
+
 returns-2 : tie.Need-returns-2
-unfolding giving listFor
-returns-2 c = λ rs last len b. (c .before .before .give .ensures) ∙ (ap (λ (x : walks.Answer). reasonGiven (x .text) (x .listed) (c .before .before .before .before .before .before .before .before .before .before .before .before .before .args .buffer .now)) ((c .before .before .before .before .before .before .reason-lits .ensures) ∙ (λ i. reasonLits (c .before .before .before .before .before .before .before .before .before .before .before .before .before .args .plan .now) (c .before .before .before .before .before .before .before .before .before .before .before .before .before .args .edges) (c .before .before .before .before .before .before .before .before .before .before .before .before .before .args .noted .now) ((c .before .before .before .before .before .before .before .before .before .before .before .reason-of .ensures) i) (outOf ((c .before .before .before .before .before .before .before .before .no-list .ensures) i) 0))) ∙ sym (pick-no _ _ (sym ((c .before .before .before .before .before .before .before .before .before .before .is-none .ensures) ∙ ap isNone (c .before .before .before .before .before .before .before .before .before .before .before .reason-of .ensures)) ∙ (c .before .before .before .before .before .before .before .before .before .if1 .left))))
+returns-2 c =
+    let a = c .before .before .before .before .before .before .before .args in
+    let m = (c .before .literal-refusal .ensures) ∙ ap (literalRefusal (a .plan .now)) (toZ-ofZ (c .before .before .before .before .before .before .before .fits .lit)) in
+    of-parts _ (λ rs last len b. lit-refused (stateOf (a .plan .now) (a .edges) (a .noted .now) rs last len b) _ _ _ _ (c .before .before .before .fetch-refusal .ensures) (a .lit) _ _ m (c .before .before .if1 .taken) (c .if2 .left))
+
+returns-3 : tie.Need-returns-3
+returns-3 c =
+    let a = c .before .before .before .before .before .args in
+    of-parts _ (λ rs last len b. reason-refused (stateOf (a .plan .now) (a .edges) (a .noted .now) rs last len b) _ _ _ _ (c .before .fetch-refusal .ensures) _ _ (c .if1 .left))
 
 pub calc-reason-spec : {M : Type 1} → statement M
 calc-reason-spec =
     tie.close
     (tie.spec
-    reason-of-requires
-    is-none-requires
-    returns
-    no-list-requires
-    slice-aggregate-reason-lits
-    reason-lits-requires
-    slice-aggregate-give
-    give-requires
+    fetch-refusal-requires
+    literal-refusal-requires
+    calc-requires
     same-length
-    returns-2)
+    returns
+    returns-2
+    returns-3)

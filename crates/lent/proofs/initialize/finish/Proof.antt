@@ -2,7 +2,7 @@ use mathlib.Core.Path.{refl}
 use Rattle.base.specs.Iter.{pick}
 use Rattle.graph_division.specs.declared.Answer.the-variants as answer
 use Rattle.graph_division.specs.Calls.{withNoted, refuse}
-use Rattle.graph_division.proofs.Begun.{end-fine, end-clash, end-stopped}
+use Rattle.lent.proofs.Begun.{end-fine, end-clash, end-stopped}
 use Rattle.lent.specs.Lent.{stateOf, stateAfter, isConsistent, begunAfter, begunOf}
 use Rattle.lent.proofs.Beginning.{taken-done, taken-over}
 use borrow.Author.Needs.{needs}

@@ -2,6 +2,7 @@ use Rattle.base.specs.Iter.{pick}
 use Rattle.graph_division.specs.Calls.{withNoted, refuse}
 use Rattle.lent.specs.Lent.{stateOf, stateAfter, isConsistent, begunAfter, begunOf}
 use Rattle.lent.proofs.Beginning.{is-begun, is-refused}
+use Rattle.lent.proofs.Parting.{of-all}
 use borrow.Author.Needs.{needs}
 use Rattle.lent.proofs.initialize.initialize.Statement.{statement}
 use Rattle.lent.proofs.initialize.initialize.Tie as tie
@@ -30,8 +31,9 @@ same-length-5 c = search needs
 returns : tie.Need-returns
 returns c =
     let a = (c .before .before .before .before .before .before .before .before .before .before .before .before .before .before .before .before .before .before .before .before .before .before .before .before .before .before .before .before .before .args) in
-    λ p rs. is-begun (stateOf (a .plan .now) (a .edges) (a .noted .now) rs (a .left .now) (a .last-len) (a .done)) (a .cursor) (a .table .now) (a .log .now) (a .list .now) _ (c .before .before .before .before .before .before .before .before .before .before .before .before .before .before .before .before .before .before .initialize-refusal .ensures) _ (c .before .before .before .before .before .before .before .before .before .before .before .before .before .before .before .before .before .if1 .taken)
-    ((c .before .before .before .before .before .before .before .before .before .before .begin .ensures) p rs (a .done))
+    of-all _
+    (λ rs. is-begun (stateOf (a .plan .now) (a .edges) (a .noted .now) rs (a .left .now) (a .last-len) (a .done)) (a .cursor) (a .words .now) (a .table .now) (a .log .now) (a .list .now) _ (c .before .before .before .before .before .before .before .before .before .before .before .before .before .before .before .before .before .before .initialize-refusal .ensures) _ (c .before .before .before .before .before .before .before .before .before .before .before .before .before .before .before .before .before .if1 .taken)
+    ((c .before .before .before .before .before .before .before .before .before .before .begin .ensures) rs (a .done)))
 
 same-length-6 : tie.Need-same-length-6
 same-length-6 c = search needs
@@ -43,7 +45,7 @@ returns-2 : tie.Need-returns-2
 unfolding begunOf begunAfter isConsistent stateAfter pick withNoted refuse
 returns-2 c =
     let a = (c .before .before .before .before .before .before .before .before .before .before .before .before .args) in
-    λ p rs. is-refused (stateOf (a .plan .now) (a .edges) (a .noted .now) rs (a .left .now) (a .last-len) (a .done)) (a .cursor) (a .table .now) (a .log .now) (a .list .now) _ (c .before .initialize-refusal .ensures) (c .if1 .left)
+    of-all _ (λ rs. is-refused (stateOf (a .plan .now) (a .edges) (a .noted .now) rs (a .left .now) (a .last-len) (a .done)) (a .cursor) (a .words .now) (a .table .now) (a .log .now) (a .list .now) _ (c .before .initialize-refusal .ensures) (c .if1 .left))
 
 pub initialize-spec : {M : Type 1} → statement M
 initialize-spec =

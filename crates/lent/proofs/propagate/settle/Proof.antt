@@ -1,10 +1,10 @@
-use mathlib.Core.Path.{_≡_, refl, sym, ap, ap₂, _∙_}
+use mathlib.Core.Path.{refl, _∙_}
 use Rattle.lent.specs.Lent.{stateOf, stateAfter, calledOf}
 use Rattle.graph_division.specs.Calls.{withNoted, withJudged, refuse, triedOut}
 use Rattle.base.specs.Iter.{pick}
 use Rattle.judge.specs.Judge.{judgeWords}
 use Rattle.lent.proofs.Lending.{noted-judged}
-use Rattle.graph_division.proofs.Settling.{settle-fine, settle-clash, settle-stopped}
+use Rattle.lent.proofs.Settling.{settle-fine, settle-clash, settle-stopped}
 use borrow.Author.Needs.{needs}
 use Rattle.lent.proofs.propagate.settle.Statement.{statement}
 use Rattle.lent.proofs.propagate.settle.Tie as tie
@@ -50,7 +50,10 @@ same-length-5 c = search needs
 
 returns : tie.Need-returns
 unfolding calledOf stateAfter pick withNoted withJudged refuse triedOut
-returns c = λ p q rs last len b. settle-fine (stateOf (c .before .before .before .before .before .before .before .before .before .before .before .before .before .before .before .before .before .before .before .before .before .before .before .before .before .before .before .before .before .before .before .before .args .plan .now) (c .before .before .before .before .before .before .before .before .before .before .before .before .before .before .before .before .before .before .before .before .before .before .before .before .before .before .before .before .before .before .before .before .args .edges) (c .before .before .before .before .before .before .before .before .before .before .before .before .before .before .before .before .before .before .before .before .before .before .before .before .before .before .before .before .before .before .before .before .args .noted .now) rs last len b) (c .before .before .before .before .before .before .before .before .before .before .before .before .before .before .before .before .before .before .before .before .before .before .before .before .before .before .before .before .before .before .before .before .args .cursor) (c .before .before .before .before .before .before .before .before .before .before .before .before .before .before .before .before .before .before .before .before .before .before .before .before .before .before .before .before .before .before .before .before .args .lit) (c .before .before .before .before .before .before .before .before .before .before .before .before .before .before .before .before .before .before .before .before .before .before .before .before .before .before .before .before .before .before .before .before .args .table .now) (c .before .before .before .before .before .before .before .before .before .before .before .before .before .before .before .before .before .before .before .before .before .before .before .before .before .before .before .before .before .before .before .before .args .list .now) (c .before .before .before .before .before .before .before .before .before .before .before .before .before .before .before .before .before .before .before .before .before .before .before .before .before .before .before .before .before .before .before .before .args .log .now) _ _ _ ((c .before .before .before .before .before .before .before .before .before .before .before .before .before .before .before .before .before .before .before .judge .ensures) ∙ (λ i. judgeWords (c .before .before .before .before .before .before .before .before .before .before .before .before .before .before .before .before .before .before .before .before .before .before .before .before .before .before .before .before .before .before .before .before .args .plan .now) (c .before .before .before .before .before .before .before .before .before .before .before .before .before .before .before .before .before .before .before .before .before .before .before .before .before .before .before .before .before .before .before .before .args .edges) ((c .before .before .before .before .before .before .before .before .before .before .before .before .before .before .before .before .before .before .before .before .before .before .before .before .try-out .ensures) i) (c .before .before .before .before .before .before .before .before .before .before .before .before .before .before .before .before .before .before .before .before .before .before .before .before .before .before .before .before .before .before .before .before .args .table .now) (p i) (q i))) _ _ _ _ _ (c .before .before .before .before .before .before .before .before .before .before .before .before .before .enum-told .given .1) (c .before .before .before .before .before .before .before .before .before .hand-on .ensures) (noted-judged (stateOf (c .before .before .before .before .before .before .before .before .before .before .before .before .before .before .before .before .before .before .before .before .before .before .before .before .before .before .before .before .before .before .before .before .args .plan .now) (c .before .before .before .before .before .before .before .before .before .before .before .before .before .before .before .before .before .before .before .before .before .before .before .before .before .before .before .before .before .before .before .before .args .edges) (c .before .before .before .before .before .before .before .before .before .before .before .before .before .before .before .before .before .before .before .before .before .before .before .before .before .before .before .before .before .before .before .before .args .noted .now) rs last len b) (c .before .before .before .before .before .before .before .before .before .before .before .before .before .before .before .before .before .before .before .before .before .before .before .before .before .before .before .before .before .before .before .before .args .cursor) (c .before .before .before .before .before .before .before .before .before .before .before .before .before .before .before .before .before .before .before .before .before .before .before .before .before .before .before .before .before .before .before .before .args .lit) 0 _ _ _ _ _ _ _ (c .before .before .note .ensures))
+returns c =
+    let a = c .before .before .before .before .before .before .before .before .before .before .before .before .before .before .before .before .before .before .before .before .before .before .before .before .before .before .before .before .before .before .before .before .args in
+    λ rs last len b.
+    settle-fine (stateOf (a .plan .now) (a .edges) (a .noted .now) rs last len b) (a .cursor) (a .proposals .now) (a .left .now) (a .lit) (a .table .now) (a .list .now) (a .log .now) _ _ _ ((c .before .before .before .before .before .before .before .before .before .before .before .before .before .before .before .before .before .before .before .judge .ensures) ∙ (λ i. judgeWords (a .plan .now) (a .edges) ((c .before .before .before .before .before .before .before .before .before .before .before .before .before .before .before .before .before .before .before .before .before .before .before .before .try-out .ensures) i) (a .table .now) (a .proposals .now) (a .left .now))) _ _ _ _ _ (c .before .before .before .before .before .before .before .before .before .before .before .before .before .enum-told .given .1) (c .before .before .before .before .before .before .before .before .before .hand-on .ensures) (noted-judged (stateOf (a .plan .now) (a .edges) (a .noted .now) rs last len b) (a .cursor) (a .lit) 0 _ _ _ _ _ _ _ (c .before .before .note .ensures))
 
 same-length-6 : tie.Need-same-length-6
 same-length-6 c = search needs
@@ -66,7 +69,10 @@ same-length-9 c = search needs
 
 returns-2 : tie.Need-returns-2
 unfolding calledOf stateAfter pick withNoted withJudged refuse triedOut
-returns-2 c = λ p q rs last len b. settle-clash (stateOf (c .before .before .before .before .before .before .before .before .before .before .before .before .before .before .before .before .before .before .before .before .before .before .before .before .before .args .plan .now) (c .before .before .before .before .before .before .before .before .before .before .before .before .before .before .before .before .before .before .before .before .before .before .before .before .before .args .edges) (c .before .before .before .before .before .before .before .before .before .before .before .before .before .before .before .before .before .before .before .before .before .before .before .before .before .args .noted .now) rs last len b) (c .before .before .before .before .before .before .before .before .before .before .before .before .before .before .before .before .before .before .before .before .before .before .before .before .before .args .cursor) (c .before .before .before .before .before .before .before .before .before .before .before .before .before .before .before .before .before .before .before .before .before .before .before .before .before .args .lit) (c .before .before .before .before .before .before .before .before .before .before .before .before .before .before .before .before .before .before .before .before .before .before .before .before .before .args .table .now) (c .before .before .before .before .before .before .before .before .before .before .before .before .before .before .before .before .before .before .before .before .before .before .before .before .before .args .list .now) (c .before .before .before .before .before .before .before .before .before .before .before .before .before .before .before .before .before .before .before .before .before .before .before .before .before .args .log .now) _ _ _ ((c .before .before .before .before .before .before .before .before .before .before .before .before .judge .ensures) ∙ (λ i. judgeWords (c .before .before .before .before .before .before .before .before .before .before .before .before .before .before .before .before .before .before .before .before .before .before .before .before .before .args .plan .now) (c .before .before .before .before .before .before .before .before .before .before .before .before .before .before .before .before .before .before .before .before .before .before .before .before .before .args .edges) ((c .before .before .before .before .before .before .before .before .before .before .before .before .before .before .before .before .before .try-out .ensures) i) (c .before .before .before .before .before .before .before .before .before .before .before .before .before .before .before .before .before .before .before .before .before .before .before .before .before .args .table .now) (p i) (q i))) _ _ _ (c .before .before .before .before .before .before .found .given .1) (noted-judged (stateOf (c .before .before .before .before .before .before .before .before .before .before .before .before .before .before .before .before .before .before .before .before .before .before .before .before .before .args .plan .now) (c .before .before .before .before .before .before .before .before .before .before .before .before .before .before .before .before .before .before .before .before .before .before .before .before .before .args .edges) (c .before .before .before .before .before .before .before .before .before .before .before .before .before .before .before .before .before .before .before .before .before .before .before .before .before .args .noted .now) rs last len b) (c .before .before .before .before .before .before .before .before .before .before .before .before .before .before .before .before .before .before .before .before .before .before .before .before .before .args .cursor) (c .before .before .before .before .before .before .before .before .before .before .before .before .before .before .before .before .before .before .before .before .before .before .before .before .before .args .lit) _ _ _ _ _ _ _ _ (c .before .before .note2 .ensures))
+returns-2 c =
+    let a = c .before .before .before .before .before .before .before .before .before .before .before .before .before .before .before .before .before .before .before .before .before .before .before .before .before .args in
+    λ rs last len b.
+    settle-clash (stateOf (a .plan .now) (a .edges) (a .noted .now) rs last len b) (a .cursor) (a .proposals .now) (a .left .now) (a .lit) (a .table .now) (a .list .now) (a .log .now) _ _ _ ((c .before .before .before .before .before .before .before .before .before .before .before .before .judge .ensures) ∙ (λ i. judgeWords (a .plan .now) (a .edges) ((c .before .before .before .before .before .before .before .before .before .before .before .before .before .before .before .before .before .try-out .ensures) i) (a .table .now) (a .proposals .now) (a .left .now))) _ _ _ (c .before .before .before .before .before .before .found .given .1) (noted-judged (stateOf (a .plan .now) (a .edges) (a .noted .now) rs last len b) (a .cursor) (a .lit) _ _ _ _ _ _ _ _ (c .before .before .note2 .ensures))
 
 same-length-10 : tie.Need-same-length-10
 same-length-10 c = search needs
@@ -79,7 +85,10 @@ same-length-12 c = search needs
 
 returns-3 : tie.Need-returns-3
 unfolding calledOf stateAfter pick withNoted withJudged refuse triedOut
-returns-3 c = λ p q rs last len b. settle-stopped (stateOf (c .before .before .before .before .before .before .before .before .before .before .before .before .before .before .before .before .before .before .before .before .args .plan .now) (c .before .before .before .before .before .before .before .before .before .before .before .before .before .before .before .before .before .before .before .before .args .edges) (c .before .before .before .before .before .before .before .before .before .before .before .before .before .before .before .before .before .before .before .before .args .noted .now) rs last len b) (c .before .before .before .before .before .before .before .before .before .before .before .before .before .before .before .before .before .before .before .before .args .cursor) (c .before .before .before .before .before .before .before .before .before .before .before .before .before .before .before .before .before .before .before .before .args .lit) (c .before .before .before .before .before .before .before .before .before .before .before .before .before .before .before .before .before .before .before .before .args .table .now) (c .before .before .before .before .before .before .before .before .before .before .before .before .before .before .before .before .before .before .before .before .args .list .now) (c .before .before .before .before .before .before .before .before .before .before .before .before .before .before .before .before .before .before .before .before .args .log .now) _ _ _ ((c .before .before .before .before .before .before .before .judge .ensures) ∙ (λ i. judgeWords (c .before .before .before .before .before .before .before .before .before .before .before .before .before .before .before .before .before .before .before .before .args .plan .now) (c .before .before .before .before .before .before .before .before .before .before .before .before .before .before .before .before .before .before .before .before .args .edges) ((c .before .before .before .before .before .before .before .before .before .before .before .before .try-out .ensures) i) (c .before .before .before .before .before .before .before .before .before .before .before .before .before .before .before .before .before .before .before .before .args .table .now) (p i) (q i))) _ _ (c .before .found2 .given .1) refl
+returns-3 c =
+    let a = c .before .before .before .before .before .before .before .before .before .before .before .before .before .before .before .before .before .before .before .before .args in
+    λ rs last len b.
+    settle-stopped (stateOf (a .plan .now) (a .edges) (a .noted .now) rs last len b) (a .cursor) (a .proposals .now) (a .left .now) (a .lit) (a .table .now) (a .list .now) (a .log .now) _ _ _ ((c .before .before .before .before .before .before .before .judge .ensures) ∙ (λ i. judgeWords (a .plan .now) (a .edges) ((c .before .before .before .before .before .before .before .before .before .before .before .before .try-out .ensures) i) (a .table .now) (a .proposals .now) (a .left .now))) _ _ (c .before .found2 .given .1) refl
 
 pub settle-spec : {M : Type 1} → statement M
 settle-spec =

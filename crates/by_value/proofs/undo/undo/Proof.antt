@@ -1,0 +1,19 @@
+use mir.Facts.{toZ-ofZ}
+use Rattle.graph_division.specs.Calls.{withNoted}
+use Rattle.by_value.proofs.Shell.{undo-shell}
+use borrow.Author.Needs.{needs}
+use Rattle.by_value.proofs.undo.undo.Statement.{statement}
+use Rattle.by_value.proofs.undo.undo.Tie as tie
+
+table-of-requires : tie.Need-table-of-requires
+table-of-requires c κs = search needs
+
+undo-requires : tie.Need-undo-requires
+undo-requires c κs = search needs
+
+returns : tie.Need-returns
+unfolding withNoted
+returns c = undo-shell (c .before .before .before .before .before .before .before .before .before .before .before .before .before .args .t1) _ _ (c .before .before .before .before .before .before .before .before .before .before .table-of .ensures) _ _ _ _ _ _ (toZ-ofZ (c .before .before .before .before .before .before .before .before .before .before .before .before .before .fits .lit)) (c .before .before .before .before .before .undo .ensures .0)
+
+pub undo-spec : {M : Type 1} → statement M
+undo-spec = tie.close (tie.spec table-of-requires undo-requires returns)

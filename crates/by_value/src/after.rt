@@ -1,0 +1,31 @@
+// The state put together again.
+use graph_division::GraphDivision;
+use lent::Done;
+ghost use mathlib.Core.Path.{_≡_};
+ghost use Rattle.lent.specs.Lent.{stateAfter};
+
+// The state after a call on its parts.
+pub(crate) fn state_after(
+    s: GraphDivision,
+    noted: [u32; 384],
+    proposals: &[u64],
+    left: [u32; 260],
+    done: Done,
+) -> GraphDivision
+    ensures { λ r. ⌜ r ≡ stateAfter s noted (now (proposals .entry)) left done ⌝ }
+{
+    let judged = done.judged;
+    let len = done.len;
+    if judged {
+        let old = s.reasons;
+        let reasons = recorded::record(&s.plan, proposals, old);
+        return GraphDivision {
+            noted: noted,
+            reasons: reasons,
+            last: left,
+            last_len: len,
+            ..s
+        };
+    }
+    GraphDivision { noted: noted, ..s }
+}

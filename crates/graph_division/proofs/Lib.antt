@@ -1,3 +1,0 @@
-pub mod Settling
-pub mod Saved
-pub mod Begun
