@@ -1,5 +1,4 @@
 -- Condition 3 holds of every proper plan.
-use lib.ListN.{length}
 use Prim.Native.Nat.{ℕ, _+_, _-_, _*_, _/_, _%_}
 use native.Mathlib.Omega.{arith}
 use mathlib.Core.Path.{_≡_, refl, sym, _∙_, ap, subst}
@@ -12,7 +11,6 @@ use Rattle.base.specs.Lists.{Every}
 use Rattle.base.proofs.Loop.{eq-or-not, pick-yes, pick-no, pick-ind}
 use Rattle.base.proofs.Tests.{or-cases}
 use Rattle.sat.specs.Literal.{negate, value, Holds}
-use Rattle.division.specs.Analysis.{Proposal}
 use Rattle.division.specs.Plan.{Plain, Plan, Proper}
 use Rattle.division.specs.Division.{Valid, Describes}
 use Rattle.division.specs.Reasons.{Reason}
@@ -20,13 +18,14 @@ use Rattle.division.specs.Noting.{In, Consistent, noteAll}
 use Rattle.division.specs.Runs.{fetched, reasonOf}
 use Rattle.division.proofs.Proposed.{Full}
 use Rattle.division.proofs.Whole.{exactly, nothing-left}
-use Rattle.calls.specs.Table.{has}
+use Rattle.calls.specs.Table.{has, knows}
 use Rattle.calls.specs.Look.{Looked, gone}
-use Rattle.calls.specs.Calls.{World, built, Call, propagate, calcReason, calcLast, Answer, consistent, conflicting, noted, undone, refused, reason, accepted, Outcome, refuse, noting, settledBy, give, call, after, run}
+use Rattle.calls.specs.Calls.{World, built, Query, reasonFor, lastLeft, Call, propagate, ask, Answer, consistent, conflicting, noted, undone, refused, reason, accepted, Outcome, refuse, noting, settledBy, giveReason, answerTo, tell, onAsk, call, after, run}
 use Rattle.calls.specs.Claim.{counted, Covers, AllQuiet, answered, Condition3}
-use Rattle.calls.proofs.View.{Saw, saw, Did, away, added, agreed, clashed, gave, gaveLast, did}
+use Rattle.calls.proofs.View.{Saw, saw, Did, away, added, agreed, clashed, did}
 use Rattle.calls.proofs.Looks.{clash-not-fine, saw-fine, looked-fine}
 use Rattle.calls.proofs.Stands.{add-consistent, stands-from-calls, run-consistent, all-quiet-same}
+use Rattle.calls.proofs.Queries.{one-reason}
 use Rattle.calls.proofs.Recent.{isConflict, handed-justified, conflict-refuted}
 
 pub has-in : (ls : List ℕ) (l : ℕ) → has ls l ≡ true → In ls l
@@ -95,18 +94,6 @@ did-exact d k pl w g (clashed room t l p pf o e f q bt kn) a v =
           absurd (clash-not-fine (sym q ∙ ap (λ (z : Looked). z .judgement) e ∙ looked-fine d (l ∷ w .standing) t (exactly d k _ c pl (s .σ) x .1 (s .valid)) (nothing-left d k _ c (s .σ) x))),
     )
 
--- at most one reason is found
-pub one-reason : (l : ℕ) (ps : List Proposal) (r : Reason) (rs : List Reason) → reasonOf l ps ≡ r ∷ rs → rs ≡ []
-unfolding reasonOf
-one-reason l [] r rs e = absurd (nil-cons e)
-  where
-    nil-cons : {x : Reason} {k : List Reason} → [] ≡ x ∷ k → ⊥
-    nil-cons q = let z : _≡_ {A = ℕ} 0 _ = ap length q in omega arith
-one-reason l (p ∷ ps) r rs e = pick-ind (λ (z : List Reason). z ≡ r ∷ rs → rs ≡ []) (eqb l (p .lit)) (p .why ∷ []) (reasonOf l ps) (λ _ q. tails q) (λ _ q. one-reason l ps r rs q) e
-  where
-    tails : {a b : Reason} {k m : List Reason} → a ∷ k ≡ b ∷ m → m ≡ k
-    tails q = cc
-
 unfoldable pub listIn : Answer → List ℕ
 listIn consistent = []
 listIn conflicting = []
@@ -115,32 +102,35 @@ listIn undone = []
 listIn (refused n) = []
 listIn (reason ls) = ls
 
-did-list : (d : Plan) (w : World) {room : Bool} {l : ℕ} {o : Outcome} {list : List ℕ} → Did d w (calcReason room l) o → o .answer ≡ reason list →
-    (r : Reason) × (rs : List Reason) × (reasonOf l (w .reasons) ≡ r ∷ rs) × (fetched d (w .standing) r ≡ list)
-unfolding refuse accepted give listIn
-did-list d w (away c n) e = absurd (false≢true (ap accepted e))
-did-list d w (gave room l r rs q n) e = (r, rs, q, ap listIn e)
+refused-no-list : {n : ℕ} {list : List ℕ} → refused n ≡ reason list → ⊥
+unfolding accepted
+refused-no-list e = false≢true (ap accepted e)
 
--- a fetch of a literal gives the list of the newest reason that is recorded for it
-pub fetch-list : (d : Plan) (w : World) (room : Bool) (l : ℕ) (list : List ℕ) → call d (calcReason room l) w .answer ≡ reason list →
-    (r : Reason) × (rs : List Reason) × (reasonOf l (w .reasons) ≡ r ∷ rs) × (fetched d (w .standing) r ≡ list)
-fetch-list d w room l list e = did-list d w (did d w (calcReason room l)) e
+-- a query that gives a list is lent enough
+ask-given : (d : Plan) (w : World) (room : Bool) (q : Query) (list : List ℕ) → call d (ask room q) w .answer ≡ reason list → answerTo d w q ≡ reason list
+unfolding call onAsk tell
+ask-given d w room q list e = pick-ind (λ (a : Answer). a ≡ reason list → answerTo d w q ≡ reason list) (not room) (refused 7) (answerTo d w q) (λ _ z. absurd (refused-no-list z)) (λ _ z. z) e
 
-did-open : (d : Plan) (w : World) {room : Bool} {l : ℕ} {o : Outcome} {list : List ℕ} → Did d w (calcReason room l) o → o .answer ≡ reason list →
+-- a fetch of a literal gives the list of the newest reason that is recorded for it, whose paths are there
+pub fetch-open : (d : Plan) (w : World) (room : Bool) (l : ℕ) (list : List ℕ) → call d (ask room (reasonFor l)) w .answer ≡ reason list →
     (r : Reason) × (reasonOf l (w .reasons) ≡ r ∷ []) × (gone d (noteAll d (w .standing)) r ≡ false) × (fetched d (w .standing) r ≡ list)
-unfolding refuse accepted give listIn
-did-open d w (away c n) e = absurd (false≢true (ap accepted e))
-did-open d w (gave room l r rs q n) e = (r, q ∙ ap (λ (z : List Reason). r ∷ z) (one-reason l (w .reasons) r rs q), n, ap listIn e)
+unfolding answerTo giveReason listIn
+fetch-open d w room l list e =
+    pick-ind (λ (a : Answer). a ≡ reason list → Open) (not (knows d l)) _ _ (λ _ z. absurd (refused-no-list z)) (λ _ z. by (reasonOf l (w .reasons)) refl z) (ask-given d w room (reasonFor l) list e)
+  where
+    Open : Type 0
+    Open = (r : Reason) × (reasonOf l (w .reasons) ≡ r ∷ []) × (gone d (noteAll d (w .standing)) r ≡ false) × (fetched d (w .standing) r ≡ list)
 
--- and its paths are there
-pub fetch-open : (d : Plan) (w : World) (room : Bool) (l : ℕ) (list : List ℕ) → call d (calcReason room l) w .answer ≡ reason list →
-    (r : Reason) × (reasonOf l (w .reasons) ≡ r ∷ []) × (gone d (noteAll d (w .standing)) r ≡ false) × (fetched d (w .standing) r ≡ list)
-fetch-open d w room l list e = did-open d w (did d w (calcReason room l)) e
+    by : (rs : List Reason) → reasonOf l (w .reasons) ≡ rs → giveReason d w rs ≡ reason list → Open
+    by [] q z = absurd (refused-no-list z)
+    by (r ∷ rs) q z =
+        pick-ind (λ (a : Answer). a ≡ reason list → Open) (gone d (noteAll d (w .standing)) r) _ _ (λ _ y. absurd (refused-no-list y))
+        (λ n y. (r, q ∙ ap (λ (x : List Reason). r ∷ x) (one-reason l (w .reasons) r rs q), n, ap listIn y)) z
 
-pub did-last : (d : Plan) (w : World) {room : Bool} {o : Outcome} {list : List ℕ} → Did d w (calcLast room) o → o .answer ≡ reason list → w .last ≡ list
-unfolding refuse accepted give listIn
-did-last d w (away c n) e = absurd (false≢true (ap accepted e))
-did-last d w (gaveLast room) e = ap listIn e
+-- and one without a literal the list last left
+pub last-given : (d : Plan) (w : World) (room : Bool) (list : List ℕ) → call d (ask room lastLeft) w .answer ≡ reason list → w .last ≡ list
+unfolding answerTo listIn
+last-given d w room list e = ap listIn (ask-given d w room lastLeft list e)
 
 after-one : (d : Plan) (cs : List Call) (c : Call) (w : World) → after d w (cs ++ (c ∷ [])) ≡ call d c (after d w cs) .world
 unfolding after
@@ -159,20 +149,20 @@ pub condition-3 : (d : Plan) → Proper d → Plain d → Condition3 d
 condition-3 d k pl = record { conflicts = conflicts; handed = handed; exact = exact }
   where
     conflicts : (before : List Call) (c : Call) (room : Bool) (list : List ℕ) → answered d before c .answer ≡ conflicting →
-        call d (calcLast room) (answered d before c .world) .answer ≡ reason list →
+        call d (ask room lastLeft) (answered d before c .world) .answer ≡ reason list →
         (σ : ℕ → Bool) → Valid d σ → Every (Holds σ) list → ⊥
     conflicts before c room list e q σ y x =
         conflict-refuted d k pl (run d before) c (run-consistent d before) e σ y
-        (subst (Every (Holds σ)) (sym (did-last d (answered d before c .world) (did d (answered d before c .world) (calcLast room)) q)) x)
+        (subst (Every (Holds σ)) (sym (last-given d (answered d before c .world) room list q)) x)
 
     handed : (before : List Call) (c : Call) (amid : List Call) (l : ℕ) (room : Bool) (list : List ℕ) →
         In (answered d before c .handed) l → AllQuiet d (answered d before c .world) amid →
-        call d (calcReason room l) (after d (answered d before c .world) amid) .answer ≡ reason list →
+        call d (ask room (reasonFor l)) (after d (answered d before c .world) amid) .answer ≡ reason list →
         (σ : ℕ → Bool) → Valid d σ → Every (Holds σ) list → Holds σ l
     handed before c amid l room list m s q σ y x =
         let w = answered d before c .world in
         let (r, e, j) = handed-justified d k (run d before) c (run-consistent d before) l m in
-        let (r2, rs, e2, f) = fetch-list d w room l list (ap (λ (z : World). call d (calcReason room l) z .answer) (sym (all-quiet-same d s)) ∙ q) in
+        let (r2, e2, g, f) = fetch-open d w room l list (ap (λ (z : World). call d (ask room (reasonFor l)) z .answer) (sym (all-quiet-same d s)) ∙ q) in
         let same : r2 ≡ r = heads (sym e2 ∙ e) in
         j .sound pl σ y (subst (Every (Holds σ)) (sym f ∙ ap (fetched d (w .standing)) same) x)
 

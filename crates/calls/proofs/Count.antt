@@ -22,10 +22,10 @@ use Rattle.division.proofs.Rules.{proposed-explained}
 use Rattle.division.proofs.Whole.{each-found, reason-there}
 use Rattle.calls.specs.Table.{most, knows, variables, rising, badTable, enter}
 use Rattle.calls.specs.Look.{Looked, offers, handOn, stop, clashes, offered, looked}
-use Rattle.calls.specs.Calls.{World, Call, Outcome, refuse, noting, settledBy, give, Going, joinBy, lastBy, finishBy, entry, call, run}
+use Rattle.calls.specs.Calls.{World, Call, Outcome, refuse, noting, settledBy, tell, Going, joinBy, lastBy, finishBy, entry, call, run}
 use Rattle.calls.specs.Claim.{answered}
 use Rattle.calls.specs.Marks.{Marked}
-use Rattle.calls.proofs.View.{Saw, saw, sawStop, sawConflict, sawFalse, sawFine, Steps, over, more, ends, halts, Did, away, added, agreed, clashed, took, gave, gaveLast, began, beganLast, beganClash, did}
+use Rattle.calls.proofs.View.{Saw, saw, sawStop, sawConflict, sawFalse, sawFine, Steps, over, more, ends, halts, Did, away, added, agreed, clashed, took, asked, began, beganLast, beganClash, did}
 use Rattle.calls.proofs.Looks.{halted, hand-in, offer-in}
 use Rattle.calls.proofs.Stands.{add-consistent, or-left, fine-on, clash-on, not-halted, run-consistent}
 use Rattle.calls.proofs.Fetchable.{good, is-known}
@@ -162,14 +162,13 @@ module _ (d : Plan) (k : Proper d) where
   steps-handed t z (halts n e) h c m = absurd (not-halted e h)
 
   did-handed : (w : World) {c : Call} {o : Outcome} → Did d w c o → Consistent (w .standing) → (t : List ℕ) × (u : List ℕ) × Handed d t (o .handed) u
-  unfolding refuse settledBy give lastBy finishBy entry
+  unfolding refuse settledBy tell lastBy finishBy entry
   did-handed w (away c n) g = ([], [], none-handed d [])
   did-handed w (added room t l p e f kn) g = ([], [], none-handed d [])
   did-handed w (agreed room t l p pf o e f q bt kn) g = (t, o .table, looked-handed _ t (add-consistent w l f g) (long-enough d t bt) o e)
   did-handed w (clashed room t l p pf o e f q bt kn) g = (t, o .table, looked-handed _ t (add-consistent w l f g) (long-enough d t bt) o e)
   did-handed w (took room l x xs e) g = ([], [], none-handed d [])
-  did-handed w (gave room l r rs e n) g = ([], [], none-handed d [])
-  did-handed w (gaveLast room) g = ([], [], none-handed d [])
+  did-handed w (asked room q) g = ([], [], none-handed d [])
   did-handed w (began room t a s j v bt) g = (t, a .table, steps-handed t (long-enough d t bt) s (fine-on j) g (none-handed d t))
   did-handed w (beganLast room t a s j c v bt) g = (t, a .table, steps-handed t (long-enough d t bt) s (fine-on j) g (none-handed d t))
   did-handed w (beganClash room t a s j bt) g = (t, a .table, steps-handed t (long-enough d t bt) s (clash-on j) g (none-handed d t))

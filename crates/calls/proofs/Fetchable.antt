@@ -1,4 +1,4 @@
--- A literal that was handed on can be fetched, and all of its reason stands, until a call other than a fetch is accepted.
+-- A literal that was handed on can be fetched, and all of its reason stands, until a call other than a query is accepted.
 use Prim.Native.Nat.{ℕ, _+_, _-_, _/_, _<_}
 use mathlib.Core.Path.{_≡_, refl, _∙_, ap}
 use mathlib.Core.Bool.{Bool, true, false, not, _||_}
@@ -27,7 +27,7 @@ use Rattle.division.proofs.Noting.{noted-all}
 use Rattle.division.proofs.Whole.{each-found, reason-there, reason-newer, run-fetched}
 use Rattle.calls.specs.Table.{knows}
 use Rattle.calls.specs.Look.{unjoined, gone}
-use Rattle.calls.specs.Calls.{World, Call, calcReason, reason, Outcome, give, giveReason, onCalcReason, call, after, run}
+use Rattle.calls.specs.Calls.{World, reasonFor, Call, ask, reason, giveReason, answerTo, tell, onAsk, call, after, run}
 use Rattle.calls.specs.Claim.{AllQuiet, answered}
 use Rattle.calls.proofs.Known.{edge-known, size-known}
 use Rattle.calls.proofs.View.{did}
@@ -97,15 +97,15 @@ module _ (d : Plan) (k : Proper d) where
   is-known s l r (bySameSize p lp up q lq uq u g o h e hp hq hu xa ya xb yb) = edge-known d l g h (half e)
 
   fetch-gives : (w : World) (l : ℕ) (r : Reason) → reasonOf l (w .reasons) ≡ r ∷ [] → Explains d (noteAll d (w .standing)) l r →
-      call d (calcReason true l) w .answer ≡ reason (fetched d (w .standing) r)
-  unfolding call onCalcReason giveReason give
+      call d (ask true (reasonFor l)) w .answer ≡ reason (fetched d (w .standing) r)
+  unfolding call onAsk tell answerTo giveReason
   fetch-gives w l r e x =
-      ap (λ (o : Outcome). o .answer) (pick-no _ _ refl ∙ pick-no _ _ (ap not (is-known _ l r x)) ∙ ap (giveReason d w) e ∙ pick-no _ _ (not-gone _ l r x))
+      pick-no _ _ refl ∙ pick-no _ _ (ap not (is-known _ l r x)) ∙ ap (giveReason d w) e ∙ pick-no _ _ (not-gone _ l r x)
 
-  -- a literal that was handed on, then refused calls and fetches, then a fetch of it: a list is given, all of it stands,
+  -- a literal that was handed on, then refused calls and queries, then a fetch of it: a list is given, all of it stands,
   -- and the literal follows from it
   pub handed-fetched : (before : List Call) (c : Call) (amid : List Call) (l : ℕ) → In (answered d before c .handed) l → AllQuiet d (answered d before c .world) amid →
-      (list : List ℕ) × (call d (calcReason true l) (after d (answered d before c .world) amid) .answer ≡ reason list) × Every (In (answered d before c .world .standing)) list ×
+      (list : List ℕ) × (call d (ask true (reasonFor l)) (after d (answered d before c .world) amid) .answer ≡ reason list) × Every (In (answered d before c .world .standing)) list ×
       (Plain d → (σ : ℕ → Bool) → Valid d σ → Every (Holds σ) list → Holds σ l)
   handed-fetched before c amid l m q =
       let w = run d before in
@@ -116,7 +116,7 @@ module _ (d : Plan) (k : Proper d) where
       let j = run-fetched d k (x .run) g l r e in
       let y : Explains d (noteAll d (v .standing)) l r = each-found l r (x .recent) (run-explained (x .run) (v .standing) g (λ _ z. z)) e in (
         fetched d (v .standing) r,
-        ap (λ (z : World). call d (calcReason true l) z .answer) (all-quiet-same d q) ∙ fetch-gives v l r (ap (reasonOf l) (x .all) ∙ reason-newer l r (x .recent) (w .reasons) e) y,
+        ap (λ (z : World). call d (ask true (reasonFor l)) z .answer) (all-quiet-same d q) ∙ fetch-gives v l r (ap (reasonOf l) (x .all) ∙ reason-newer l r (x .recent) (w .reasons) e) y,
         j .stands,
         j .sound,
       )

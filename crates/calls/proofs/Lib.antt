@@ -4,6 +4,7 @@ pub mod Stands
 pub mod Recent
 pub mod Claim
 pub mod Known
+pub mod Queries
 pub mod Fetchable
 pub mod Order
 pub mod Room

@@ -15,8 +15,8 @@ use Rattle.division.specs.Runs.{analysis}
 use Rattle.calls.specs.Marks.{sign, Marked}
 use Rattle.calls.specs.Table.{codeOf, unsetIn, enter}
 use Rattle.calls.specs.Look.{Looked, offers, handOn, enterAll, stop, clashes, offered, looked}
-use Rattle.calls.specs.Calls.{World, Call, Outcome, tableOf, refuse, settledBy, give, Going, joinBy, lastBy, finishBy, entry, call}
-use Rattle.calls.proofs.View.{Saw, saw, sawStop, sawConflict, sawFalse, sawFine, Steps, over, more, ends, halts, Did, away, added, agreed, clashed, took, gave, gaveLast, began, beganLast, beganClash, did}
+use Rattle.calls.specs.Calls.{World, Call, Outcome, tableOf, refuse, settledBy, tell, Going, joinBy, lastBy, finishBy, entry, call}
+use Rattle.calls.proofs.View.{Saw, saw, sawStop, sawConflict, sawFalse, sawFine, Steps, over, more, ends, halts, Did, away, added, agreed, clashed, took, asked, began, beganLast, beganClash, did}
 use Rattle.calls.proofs.Looks.{halted}
 use Rattle.calls.proofs.Stands.{fine-on, clash-on, not-halted}
 
@@ -113,14 +113,13 @@ steps-marked d t {a} (ends {l = l} o e f q) h m = marked-then t (a .handed) (a .
 steps-marked d t (halts n e) h m = absurd (not-halted e h)
 
 did-marked : (d : Plan) (w : World) {c : Call} {o : Outcome} → Did d w c o → Marked (tableOf c) (o .handed) (o .table)
-unfolding tableOf refuse settledBy give lastBy finishBy entry
+unfolding tableOf refuse settledBy tell lastBy finishBy entry
 did-marked d w (away c n) = unmarked _
 did-marked d w (added room t l p e f kn) = unmarked t
 did-marked d w (agreed room t l p pf o e f q bt kn) = looked-marked d _ t o e
 did-marked d w (clashed room t l p pf o e f q bt kn) = looked-marked d _ t o e
 did-marked d w (took room l x xs e) = unmarked []
-did-marked d w (gave room l r rs e n) = unmarked []
-did-marked d w (gaveLast room) = unmarked []
+did-marked d w (asked room q) = unmarked []
 did-marked d w (began room t a s j v bt) = steps-marked d t s (fine-on j) (unmarked t)
 did-marked d w (beganLast room t a s j c v bt) = steps-marked d t s (fine-on j) (unmarked t)
 did-marked d w (beganClash room t a s j bt) = steps-marked d t s (clash-on j) (unmarked t)

@@ -14,8 +14,9 @@ use Rattle.division.specs.Noting.{In, Consistent}
 use Rattle.division.specs.Runs.{analysis, Justifies, reasonOf, Run, start, note, look}
 use Rattle.division.proofs.Whole.{conflicts, run-fetched, reason-there, reason-newer}
 use Rattle.calls.specs.Look.{fine, clash, Looked, looked}
-use Rattle.calls.specs.Calls.{World, Call, Answer, consistent, conflicting, noted, undone, refused, reason, Outcome, refuse, noting, adding, settledBy, give, Going, joinBy, lastBy, finishBy, entry, call}
-use Rattle.calls.proofs.View.{Saw, saw, Steps, over, more, ends, halts, Did, away, added, agreed, clashed, took, gave, gaveLast, began, beganLast, beganClash, did}
+use Rattle.calls.specs.Calls.{World, Call, Answer, consistent, conflicting, noted, undone, refused, reason, Outcome, refuse, noting, adding, settledBy, Query, answerTo, tell, Going, joinBy, lastBy, finishBy, entry, call}
+use Rattle.calls.proofs.Queries.{Answered, denied, given, answer-judged}
+use Rattle.calls.proofs.View.{Saw, saw, Steps, over, more, ends, halts, Did, away, added, agreed, clashed, took, asked, began, beganLast, beganClash, did}
 use Rattle.calls.proofs.Looks.{halted, saw-handed, saw-records, saw-clash, clash-not-fine}
 use Rattle.calls.proofs.Stands.{add-consistent, fine-on, clash-on, not-halted, steps-consistent, call-consistent}
 
@@ -75,14 +76,13 @@ again d w v h ls f r = record {
 }
 
 pub did-recent : (d : Plan) (w : World) {c : Call} {o : Outcome} → Did d w c o → Recent d w (o .world) (o .handed)
-unfolding refuse adding settledBy give lastBy finishBy entry
+unfolding refuse adding settledBy tell lastBy finishBy entry
 did-recent d w (away c n) = nothing-yet d w
 did-recent d w (added room t l p e f kn) = record { recent = []; run = start _; all = refl; each = λ x m. absurd (List·Memᴰ·not-nil m) }
 did-recent d w (agreed room t l p pf o e f q bt kn) = joined d w w [] t l o e (fine-on q) (nothing-yet d w)
 did-recent d w (clashed room t l p pf o e f q bt kn) = joined d w w [] t l o e (clash-on q) (nothing-yet d w)
 did-recent d w (took room l x xs e) = record { recent = []; run = start _; all = refl; each = λ x m. absurd (List·Memᴰ·not-nil m) }
-did-recent d w (gave room l r rs e n) = nothing-yet d w
-did-recent d w (gaveLast room) = nothing-yet d w
+did-recent d w (asked room q) = nothing-yet d w
 did-recent d w (began room t a s j v bt) = again d w (a .world) (a .handed) _ _ (steps-recent d w s (fine-on j) (nothing-yet d w))
 did-recent d w (beganLast room t a s j c v bt) = again d w (a .world) (a .handed) _ _ (steps-recent d w s (fine-on j) (nothing-yet d w))
 did-recent d w (beganClash room t a s j bt) = steps-recent d w s (clash-on j) (nothing-yet d w)
@@ -112,18 +112,26 @@ isConflict undone = false
 isConflict (refused n) = false
 isConflict (reason ls) = false
 
+-- no query is answered a conflict
+pub answer-quiet : (d : Plan) (w : World) (q : Query) → isConflict (answerTo d w q) ≡ false
+unfolding isConflict
+answer-quiet d w q = by (answer-judged d w q)
+  where
+    by : {a : Answer} → Answered d w q a → isConflict a ≡ false
+    by (denied n e x f) = ap isConflict e
+    by (given list e f) = ap isConflict e
+
 -- the list that a conflict leaves
 did-conflict : (d : Plan) (k : Proper d) (pl : Plain d) (w : World) → Consistent (w .standing) → {c : Call} {o : Outcome} → Did d w c o → isConflict (o .answer) ≡ true →
     (σ : ℕ → Bool) → Valid d σ → Every (Holds σ) (o .world .last) → ⊥
-unfolding isConflict refuse settledBy noting give lastBy finishBy entry
+unfolding isConflict refuse settledBy noting tell lastBy finishBy entry
 did-conflict d k pl w g (away c n) h σ y x = false≢true h
 did-conflict d k pl w g (added room t l p e f kn) h σ y x = false≢true h
 did-conflict d k pl w g (agreed room t l p pf o e f q bt kn) h σ y x = false≢true h
 did-conflict d k pl w g (clashed room t l p pf o e f q bt kn) h σ y x =
     saw-clash d (l ∷ w .standing) t k pl (add-consistent w l f g) (subst (Saw d (l ∷ w .standing) t) (sym e) (saw d _ _)) q σ y x
 did-conflict d k pl w g (took room l z zs e) h σ y x = false≢true h
-did-conflict d k pl w g (gave room l r rs e n) h σ y x = false≢true h
-did-conflict d k pl w g (gaveLast room) h σ y x = false≢true h
+did-conflict d k pl w g (asked room q) h σ y x = false≢true (sym (answer-quiet d w q) ∙ h)
 did-conflict d k pl w g (began room t a s j v bt) h σ y x = false≢true h
 did-conflict d k pl w g (beganLast room t a s j c v bt) h σ y x = conflicts d k (a .world .standing) (steps-consistent d s (fine-on j) g) c v .sound σ y x
 did-conflict d k pl w g (beganClash room t a s j bt) h σ y x = steps-clash d k pl s refl j g σ y x

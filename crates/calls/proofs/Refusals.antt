@@ -12,21 +12,20 @@ use borrow.Author.Tests.{eqb-true, eqb-false, ltb-true, ltb-false, ne-eqb}
 use Rattle.base.specs.Lists.{Every, none, more}
 use Rattle.base.proofs.Loop.{pick-ind, pick-no, tested, pick-yes}
 use Rattle.base.proofs.Tests.{or-cases, le-or-lt}
-use Rattle.division.specs.Noting.{noteAll}
-use Rattle.division.specs.Reasons.{Reason}
 use Rattle.division.specs.Plan.{Plan}
-use Rattle.division.specs.Runs.{analysis, reasonOf}
+use Rattle.division.specs.Runs.{analysis}
 use Rattle.division.specs.Analysis.{Verdict, going, conflict, crossed, zeroSize}
 use Rattle.division.proofs.Verdicts.{verdict-crosses, crosses-verdict, verdict-zero, zero-verdict}
 use Rattle.calls.specs.Table.{codeOf, coded, currentIn, someCurrent, tooHigh, badTable, has, variables, falseIn, entered}
-use Rattle.calls.specs.Look.{fine, clash, stopped, Looked, looked, lookedBy, offered, offers, firstFalse, stop, clashes, gone, Judgement}
-use Rattle.calls.specs.Calls.{consistent, conflicting, noted, undone, refused, reason, World, taken, Call, onPropagate, onUndo, onCalcReason, onCalcLast, Answer, settled, takeBack, giveReason, refuse, propagate, accepted, undo, calcReason, give, calcLast, Outcome, settledBy, Going, propagateAll, oneBy, entry, joinBy, finishBy, lastBy, initialize, onInitialize, call}
-use Rattle.calls.specs.Refusals.{BadTable, short, high, Known, Stands, Stops, at12, at13, at14, roomOf, Applies, First, Stage, CrossedAt, ZeroAt}
+use Rattle.calls.specs.Look.{fine, clash, stopped, Looked, looked, lookedBy, offered, offers, firstFalse, stop, clashes, Judgement}
+use Rattle.calls.specs.Calls.{consistent, conflicting, noted, undone, refused, reason, World, taken, Call, onPropagate, onUndo, Query, Answer, settled, takeBack, tell, onAsk, refuse, propagate, accepted, undo, ask, Outcome, settledBy, Going, propagateAll, oneBy, entry, joinBy, finishBy, lastBy, initialize, onInitialize, call}
+use Rattle.calls.specs.Refusals.{BadTable, short, high, Known, Stands, Stops, at12, at13, at14, roomOf, AppliesTo, Applies, First, Stage, CrossedAt, ZeroAt}
 use Rattle.calls.proofs.Looks.{stop-not-fine, stop-not-clash}
 use Rattle.calls.proofs.Known.{known, unknown}
 use Rattle.calls.proofs.Stands.{or-left}
 use Rattle.calls.proofs.View.{not-not, or-right, stop-stays, clash-stays}
-use Rattle.calls.proofs.Claim.{has-in, in-has, one-reason}
+use Rattle.calls.proofs.Claim.{has-in, in-has}
+use Rattle.calls.proofs.Queries.{not-false, Answered, denied, given, query-late, answer-judged}
 
 -- 7
 high-at : (t : List ℕ) → tooHigh t ≡ true → (i : ℕ) × (i < length t) × (4 < getD t i 0)
@@ -134,10 +133,6 @@ refused-or noted = inr refl
 refused-or undone = inr refl
 refused-or (refused n) = inl (n, refl)
 refused-or (reason ls) = inr refl
-
-not-false : (b : Bool) → not b ≡ true → b ≡ false
-not-false true e = absurd (false≢true e)
-not-false false e = refl
 
 -- how a call is judged
 data Judged (d : Plan) (w : World) (c : Call) (a : Answer) : Type 0 where
@@ -287,84 +282,22 @@ module _ (d : Plan) (w : World) where
           pick-ind J _ _ _ (λ e. passed refl (λ n y. none-of a b xs (q ∙ ap (λ z. z ∷ xs) (eqb-true _ _ e)) n (to-undo y)))
           (λ e. turned 11 refl (record { applies = Applies.notNewest room l (λ ls f. eqb-false _ _ e (heads (sym q ∙ f))); least = λ m h y. below11 a b m h (to-undo y) }))
 
-  -- to a fetch of a literal
-  data ToReason (room : Bool) (l n : ℕ) : Type 0 where
-    is7 : n ≡ 7 → room ≡ false → ToReason room l n
-    is9 : n ≡ 9 → (Known d l → ⊥) → ToReason room l n
-    is15 : n ≡ 15 → reasonOf l (w .reasons) ≡ [] → ToReason room l n
-    is16 : n ≡ 16 → (r : Reason) → reasonOf l (w .reasons) ≡ r ∷ [] → gone d (noteAll d (w .standing)) r ≡ true → ToReason room l n
-
-  to-reason : {room : Bool} {l n : ℕ} → Applies d w (calcReason room l) n → ToReason room l n
+  -- to a query
+  to-ask : {room : Bool} {q : Query} {n : ℕ} → Applies d w (ask room q) n → ((n ≡ 7) × (room ≡ false)) ⊎ AppliesTo d w q n
   unfolding roomOf
-  to-reason (Applies.noRoom c e) = is7 refl e
-  to-reason (Applies.unknownReason room l k) = is9 refl k
-  to-reason (Applies.noReason room l e) = is15 refl e
-  to-reason (Applies.pathGone room l r e g) = is16 refl r e g
+  to-ask (Applies.noRoom c e) = inl (refl, e)
+  to-ask (Applies.ofQuery room q n x) = inr x
 
-  judge-reason : (room : Bool) (l : ℕ) → Judged d w (calcReason room l) (onCalcReason d w room l .answer)
-  unfolding onCalcReason giveReason refuse give accepted roomOf
-  judge-reason room l =
-      pick-ind J _ _ _ (λ e. turned 7 refl (record { applies = Applies.noRoom _ (not-false _ e); least = λ m h x. below7 m h (to-reason x) }))
-      (λ e. let no7 : room ≡ false → ⊥ = λ r. true≢false (sym (not-not _ e) ∙ r) in
-      pick-ind J _ _ _ (λ k. turned 9 refl (record { applies = Applies.unknownReason room l (unknown d l (not-false _ k)); least = λ m h x. below9 no7 m h (to-reason x) }))
-      (λ k. by no7 (λ u. u (known d l (not-not _ k))) (reasonOf l (w .reasons)) refl))
+  judge-ask : (room : Bool) (q : Query) → Judged d w (ask room q) (onAsk d w room q .answer)
+  unfolding onAsk tell accepted roomOf
+  judge-ask room q =
+      pick-ind (Judged d w (ask room q)) _ _ _
+      (λ e. turned 7 refl (record { applies = Applies.noRoom _ (not-false _ e); least = λ m h x. ⊎-elim (λ z. let y = z .0 in omega arith) (λ z. let y = query-late d w z in omega arith) (to-ask x) }))
+      (λ e. by (λ r. true≢false (sym (not-not _ e) ∙ r)) (answer-judged d w q))
     where
-      J : Outcome → Type 0
-      J o = Judged d w (calcReason room l) (o .answer)
-
-      below7 : (m : ℕ) → m < 7 → ToReason room l m → ⊥
-      below7 m h (is7 e x) = omega arith
-      below7 m h (is9 e x) = omega arith
-      below7 m h (is15 e x) = omega arith
-      below7 m h (is16 e r x y) = omega arith
-
-      below9 : (room ≡ false → ⊥) → (m : ℕ) → m < 9 → ToReason room l m → ⊥
-      below9 a m h (is7 e x) = a x
-      below9 a m h (is9 e x) = omega arith
-      below9 a m h (is15 e x) = omega arith
-      below9 a m h (is16 e r x y) = omega arith
-
-      below15 : (room ≡ false → ⊥) → ((Known d l → ⊥) → ⊥) → (m : ℕ) → m < 15 → ToReason room l m → ⊥
-      below15 a b m h (is7 e x) = a x
-      below15 a b m h (is9 e x) = b x
-      below15 a b m h (is15 e x) = omega arith
-      below15 a b m h (is16 e r x y) = omega arith
-
-      nil-cons : {x : Reason} {k : List Reason} → [] ≡ x ∷ k → ⊥
-      nil-cons q = let z : _≡_ {A = ℕ} 0 _ = ap length q in omega arith
-
-      heads : {a b : Reason} {k m : List Reason} → a ∷ k ≡ b ∷ m → a ≡ b
-      heads q = cc
-
-      below16 : (room ≡ false → ⊥) → ((Known d l → ⊥) → ⊥) → (r : Reason) (rs : List Reason) → reasonOf l (w .reasons) ≡ r ∷ rs → (m : ℕ) → m < 16 → ToReason room l m → ⊥
-      below16 a b r rs q m h (is7 e x) = a x
-      below16 a b r rs q m h (is9 e x) = b x
-      below16 a b r rs q m h (is15 e x) = nil-cons (sym x ∙ q)
-      below16 a b r rs q m h (is16 e r2 x y) = omega arith
-
-      none-of : (room ≡ false → ⊥) → ((Known d l → ⊥) → ⊥) → (r : Reason) (rs : List Reason) → reasonOf l (w .reasons) ≡ r ∷ rs → gone d (noteAll d (w .standing)) r ≡ false → (m : ℕ) → ToReason room l m → ⊥
-      none-of a b r rs q g m (is7 e x) = a x
-      none-of a b r rs q g m (is9 e x) = b x
-      none-of a b r rs q g m (is15 e x) = nil-cons (sym x ∙ q)
-      none-of a b r rs q g m (is16 e r2 x y) = true≢false (sym y ∙ ap (gone d (noteAll d (w .standing))) (heads (sym x ∙ q)) ∙ g)
-
-      by : (room ≡ false → ⊥) → ((Known d l → ⊥) → ⊥) → (rs : List Reason) → reasonOf l (w .reasons) ≡ rs → J (giveReason d w rs)
-      by a b [] q = turned 15 refl (record { applies = Applies.noReason room l q; least = λ m h x. below15 a b m h (to-reason x) })
-      by a b (r ∷ rs) q =
-          pick-ind J _ _ _ (λ e. turned 16 refl (record { applies = Applies.pathGone room l r (q ∙ ap (λ z. r ∷ z) (one-reason l _ r rs q)) e; least = λ m h x. below16 a b r rs q m h (to-reason x) }))
-          (λ e. passed refl (λ n x. none-of a b r rs q e n (to-reason x)))
-
-  -- to a fetch without a literal
-  to-last : {room : Bool} {n : ℕ} → Applies d w (calcLast room) n → (n ≡ 7) × (room ≡ false)
-  unfolding roomOf
-  to-last (Applies.noRoom c e) = (refl, e)
-
-  judge-last : (room : Bool) → Judged d w (calcLast room) (onCalcLast w room .answer)
-  unfolding onCalcLast refuse give accepted roomOf
-  judge-last room =
-      pick-ind (λ (o : Outcome). Judged d w (calcLast room) (o .answer)) _ _ _
-      (λ e. turned 7 refl (record { applies = Applies.noRoom _ (not-false _ e); least = λ m h x. let z = to-last x .0 in omega arith }))
-      (λ e. passed refl (λ n x. true≢false (sym (not-not _ e) ∙ to-last x .1)))
+      by : {a : Answer} → (room ≡ false → ⊥) → Answered d w q a → Judged d w (ask room q) a
+      by no7 (denied n e x f) = turned n e (record { applies = Applies.ofQuery room q n x; least = λ m h y. ⊎-elim (λ z. no7 (z .1)) (λ z. f m h z) (to-ask y) })
+      by no7 (given list e f) = passed (ap accepted e) (λ n y. ⊎-elim (λ z. no7 (z .1)) (λ z. f n z) (to-ask y))
 
 module _ (d : Plan) (w : World) (t : List ℕ) where
   -- what applies to the work of an initialize
@@ -543,8 +476,7 @@ unfolding call
 judge d w (initialize room t) = judge-initialize d w t room
 judge d w (propagate room t l pending) = judge-propagate d w room t l pending
 judge d w (undo room l) = judge-undo d w room l
-judge d w (calcReason room l) = judge-reason d w room l
-judge d w (calcLast room) = judge-last d w room
+judge d w (ask room q) = judge-ask d w room q
 
 -- a call is refused with a number exactly when it is the first of the table that applies
 pub refusals : (d : Plan) (w : World) (c : Call) (n : ℕ) → (call d c w .answer ≡ refused n) ↔ First d w c n

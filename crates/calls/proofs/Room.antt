@@ -2,7 +2,7 @@
 use Prim.Native.Nat.{ℕ, _+_, _<_, _≤_, zero-le}
 use native.Mathlib.Omega.{arith}
 use mathlib.Core.Path.{_≡_, refl, sym, ap, subst}
-use mathlib.Core.Bool.{Bool, true, false, not, true≢false, false≢true}
+use mathlib.Core.Bool.{Bool, true, false, not, true≢false}
 use mathlib.Core.List.{List, [], _∷_, _++_}
 use lib.ListN.{length, length-append}
 use Rattle.base.specs.Iter.{pick}
@@ -23,14 +23,14 @@ use Rattle.division.proofs.Fits.{path-short, decided-short, potential-short, de
 use Rattle.division.proofs.Noting.{noted-all}
 use Rattle.division.proofs.Whole.{conflicts, reasons, each-found, reason-there}
 use Rattle.calls.specs.Look.{unjoined, gone, Looked, stop, clashes, offered, falseList, listFor}
-use Rattle.calls.specs.Calls.{World, built, Call, calcReason, calcLast, reason, accepted, Outcome, refuse, noting, adding, settledBy, give, Going, joinBy, lastBy, finishBy, entry, call, after, run}
+use Rattle.calls.specs.Calls.{World, built, reasonFor, lastLeft, Call, ask, reason, Outcome, refuse, noting, adding, settledBy, tell, Going, joinBy, lastBy, finishBy, entry, call, after, run}
 use Rattle.calls.specs.Claim.{answered}
-use Rattle.calls.proofs.View.{or-right, Saw, saw, sawStop, sawConflict, sawFalse, sawFine, Steps, over, more, ends, halts, Did, away, added, agreed, clashed, took, gave, gaveLast, began, beganLast, beganClash, did}
+use Rattle.calls.proofs.View.{or-right, Saw, saw, sawStop, sawConflict, sawFalse, sawFine, Steps, over, more, ends, halts, Did, away, added, agreed, clashed, took, asked, began, beganLast, beganClash, did}
 use Rattle.calls.proofs.Looks.{halted, offer-in, first-in}
 use Rattle.calls.proofs.Stands.{add-consistent, or-left, fine-on, clash-on, not-halted, steps-consistent, call-consistent, run-consistent}
 use Rattle.calls.proofs.Recent.{did-recent}
 use Rattle.calls.proofs.Fetchable.{each-map, each-append, run-explained}
-use Rattle.calls.proofs.Claim.{listIn, did-last}
+use Rattle.calls.proofs.Claim.{fetch-open, last-given}
 
 -- what stays true of a recorded reason whatever is undone
 pub data Formed (d : Plan) : Reason → Type 0 where
@@ -128,14 +128,13 @@ module _ (d : Plan) (k : Proper d) where
   steps-left (halts n e) h c z = absurd (not-halted e h)
 
   did-left : (w : World) {c : Call} {o : Outcome} → Did d w c o → Consistent (w .standing) → length (w .last) ≤ room d → length (o .world .last) ≤ room d
-  unfolding refuse adding settledBy noting give lastBy finishBy entry
+  unfolding refuse adding settledBy noting tell lastBy finishBy entry
   did-left w (away c n) g z = z
   did-left w (added room t l p e f kn) g z = z
   did-left w (agreed room t l p pf o e f q bt kn) g z = looked-left _ t (add-consistent w l f g) o e
   did-left w (clashed room t l p pf o e f q bt kn) g z = looked-left _ t (add-consistent w l f g) o e
   did-left w (took room l x xs e) g z = z
-  did-left w (gave room l r rs e n) g z = z
-  did-left w (gaveLast room) g z = z
+  did-left w (asked room q) g z = z
   did-left w (began room t a s j v bt) g z = steps-left s (fine-on j) g z
   did-left w (beganLast room t a s j c v bt) g z = conflicts d k (a .world .standing) (steps-consistent d s (fine-on j) g) c v .fits
   did-left w (beganClash room t a s j bt) g z = steps-left s (clash-on j) g z
@@ -161,15 +160,12 @@ module _ (d : Plan) (k : Proper d) where
       head : {a c : Reason} {m n : List Reason} → a ∷ m ≡ c ∷ n → a ≡ c
       head q = cc
 
-  did-fits : (w : World) → Consistent (w .standing) → AllFormed w → {full : Bool} {l : ℕ} {o : Outcome} {list : List ℕ} → Did d w (calcReason full l) o → o .answer ≡ reason list → length list ≤ room d
-  unfolding refuse accepted give listIn
-  did-fits w g f (away c n) e = absurd (false≢true (ap accepted e))
-  did-fits w g f (gave full l r rs q n) e =
-      subst (λ (z : List ℕ). length z ≤ room d) (ap listIn e) (formed-fits (noteAll d (w .standing)) (noted-all d (w .standing) g .bounded) r (heads-formed l r rs _ f q) n)
-
   -- whatever was called before: the list of a fetch of a literal fits, and so does the list last left
-  pub fetch-fits : (before : List Call) (full : Bool) (l : ℕ) (list : List ℕ) → answered d before (calcReason full l) .answer ≡ reason list → length list ≤ room d
-  fetch-fits before full l list e = did-fits (run d before) (run-consistent d before) (run-formed before) (did d (run d before) (calcReason full l)) e
+  pub fetch-fits : (before : List Call) (full : Bool) (l : ℕ) (list : List ℕ) → answered d before (ask full (reasonFor l)) .answer ≡ reason list → length list ≤ room d
+  fetch-fits before full l list e =
+      let w = run d before in
+      let (r, q, n, f) = fetch-open d w full l list e in
+      subst (λ (z : List ℕ). length z ≤ room d) f (formed-fits (noteAll d (w .standing)) (noted-all d (w .standing) (run-consistent d before) .bounded) r (heads-formed l r [] _ (run-formed before) q) n)
 
-  pub last-fits : (before : List Call) (full : Bool) (list : List ℕ) → answered d before (calcLast full) .answer ≡ reason list → length list ≤ room d
-  last-fits before full list e = subst (λ (z : List ℕ). length z ≤ room d) (did-last d (run d before) (did d (run d before) (calcLast full)) e) (run-left before)
+  pub last-fits : (before : List Call) (full : Bool) (list : List ℕ) → answered d before (ask full lastLeft) .answer ≡ reason list → length list ≤ room d
+  last-fits before full list e = subst (λ (z : List ℕ). length z ≤ room d) (last-given d (run d before) full list e) (run-left before)

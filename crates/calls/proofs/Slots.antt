@@ -17,7 +17,7 @@ use Rattle.graph.proofs.Mark.{lt-cases}
 use Rattle.division.specs.Plan.{Plan}
 use Rattle.division.specs.Noting.{In}
 use Rattle.calls.specs.Table.{knows, entered, trueIn}
-use Rattle.calls.specs.Calls.{World, built, Call, Outcome, Going, call, after, run, taken, joinBy, refuse, noting, adding, settledBy, give, lastBy, finishBy, entry}
+use Rattle.calls.specs.Calls.{World, built, Call, Outcome, Going, call, after, run, taken, joinBy, refuse, noting, adding, settledBy, tell, lastBy, finishBy, entry}
 use Rattle.calls.specs.Refusals.{Known, ofEdge, ofDomain}
 use Rattle.calls.specs.Slots.{slots, occurs, records}
 use Rattle.calls.proofs.Stands.{not-halted, fine-on, clash-on}
@@ -158,14 +158,13 @@ module _ (d : Plan) where
       go′ (more p e) = e
 
   did-kept : (w : World) {c : Call} {o : Outcome} → Did d w c o → Kept (w .standing) → Kept (o .world .standing)
-  unfolding refuse adding settledBy noting give lastBy finishBy entry
+  unfolding refuse adding settledBy noting tell lastBy finishBy entry
   did-kept w (Did.away c n) x = x
   did-kept w (Did.added room t l p e f kn) x = kept-more w l f kn x
   did-kept w (Did.agreed room t l p pf o e f q bt kn) x = kept-more w l f kn x
   did-kept w (Did.clashed room t l p pf o e f q bt kn) x = kept-more w l f kn x
   did-kept w (Did.took room l y ys e) x = tail-kept (subst Kept e x)
-  did-kept w (Did.gave room l r rs e n) x = x
-  did-kept w (Did.gaveLast room) x = x
+  did-kept w (Did.asked room q) x = x
   did-kept w (Did.began room t a s j v bt) x = steps-kept s (fine-on j) (entered-known t) x
   did-kept w (Did.beganLast room t a s j c v bt) x = steps-kept s (fine-on j) (entered-known t) x
   did-kept w (Did.beganClash room t a s j bt) x = steps-kept s (clash-on j) (entered-known t) x

@@ -7,16 +7,16 @@ use mathlib.Core.List.{List, [], _∷_, List·Memᴰ·tail, List·Memᴰ·not-ni
 use lib.Dec.{eqb}
 use borrow.Author.Tests.{eq-eqb}
 use Rattle.base.specs.Iter.{pick}
-use Rattle.base.proofs.Loop.{pick-yes, pick-no}
+use Rattle.base.proofs.Loop.{pick-yes, pick-no, pick-ind}
 use Rattle.sat.specs.Literal.{negate, value}
 use Rattle.sat.proofs.Literal.{value-negate, negate-twice}
 use Rattle.division.specs.Plan.{Plan}
 use Rattle.division.specs.Noting.{In, Consistent}
 use Rattle.calls.specs.Table.{has}
 use Rattle.calls.specs.Look.{Judgement, fine, clash, stopped, Looked}
-use Rattle.calls.specs.Calls.{World, built, Call, calcReason, calcLast, accepted, tableOf, Outcome, refuse, taken, noting, adding, settledBy, give, Going, joinBy, lastBy, finishBy, entry, call, after, run}
-use Rattle.calls.specs.Claim.{isClash, addUpTo, tail, counts, counted, Quiet, aReason, aLast, turnedAway, AllQuiet, done, next}
-use Rattle.calls.proofs.View.{or-right, Steps, over, more, ends, halts, Did, away, added, agreed, clashed, took, gave, gaveLast, began, beganLast, beganClash, did}
+use Rattle.calls.specs.Calls.{World, built, Call, accepted, tableOf, Outcome, refuse, taken, noting, adding, settledBy, answerTo, tell, onAsk, Going, joinBy, lastBy, finishBy, entry, call, after, run}
+use Rattle.calls.specs.Claim.{isClash, addUpTo, tail, counts, counted, Quiet, aQuery, turnedAway, AllQuiet, done, next}
+use Rattle.calls.proofs.View.{or-right, Steps, over, more, ends, halts, Did, away, added, agreed, clashed, took, asked, began, beganLast, beganClash, did}
 use Rattle.calls.proofs.Looks.{halted}
 
 pub or-left : (a b : Bool) → (a || b) ≡ false → a ≡ false
@@ -76,27 +76,25 @@ steps-standing d {a} (ends {l = l} {ls = ls} o e f q) h =
 steps-standing d (halts n e) h = absurd (not-halted e h)
 
 did-standing : (d : Plan) (w : World) {c : Call} {o : Outcome} → Did d w c o → o .world .standing ≡ pick (accepted (o .answer)) (counts d c (w .standing)) (w .standing)
-unfolding refuse accepted pick counts adding settledBy noting give lastBy finishBy entry tail
+unfolding refuse accepted pick counts adding settledBy noting tell lastBy finishBy entry tail
 did-standing d w (away c n) = refl
 did-standing d w (added room t l p e f kn) = refl
 did-standing d w (agreed room t l p pf o e f q bt kn) = refl
 did-standing d w (clashed room t l p pf o e f q bt kn) = refl
 did-standing d w (took room l x xs e) = sym (ap tail e)
-did-standing d w (gave room l r rs e n) = refl
-did-standing d w (gaveLast room) = refl
+did-standing d w (asked room q) = pick-ind (λ (ls : List ℕ). w .standing ≡ ls) (accepted (answerTo d w q)) (w .standing) (w .standing) (λ _. refl) (λ _. refl)
 did-standing d w (began room t a s j v bt) = steps-standing d s (fine-on j)
 did-standing d w (beganLast room t a s j c v bt) = steps-standing d s (fine-on j)
 did-standing d w (beganClash room t a s j bt) = steps-standing d s (clash-on j)
 
 did-consistent : (d : Plan) (w : World) {c : Call} {o : Outcome} → Did d w c o → Consistent (w .standing) → Consistent (o .world .standing)
-unfolding refuse adding settledBy noting give lastBy finishBy entry
+unfolding refuse adding settledBy noting tell lastBy finishBy entry
 did-consistent d w (away c n) k = k
 did-consistent d w (added room t l p e f kn) k = add-consistent w l f k
 did-consistent d w (agreed room t l p pf o e f q bt kn) k = add-consistent w l f k
 did-consistent d w (clashed room t l p pf o e f q bt kn) k = add-consistent w l f k
 did-consistent d w (took room l x xs e) k = λ y a b. k y (subst (λ z. In z y) (sym e) (List·Memᴰ·tail a)) (subst (λ z. In z (negate y)) (sym e) (List·Memᴰ·tail b))
-did-consistent d w (gave room l r rs e n) k = k
-did-consistent d w (gaveLast room) k = k
+did-consistent d w (asked room q) k = k
 did-consistent d w (began room t a s j v bt) k = steps-consistent d s (fine-on j) k
 did-consistent d w (beganLast room t a s j c v bt) k = steps-consistent d s (fine-on j) k
 did-consistent d w (beganClash room t a s j bt) k = steps-consistent d s (clash-on j) k
@@ -125,14 +123,13 @@ pub call-consistent : (d : Plan) (w : World) (c : Call) → Consistent (w .stand
 call-consistent d w c k = did-consistent d w (did d w c) k
 
 did-refused : (d : Plan) (w : World) {c : Call} {o : Outcome} → Did d w c o → accepted (o .answer) ≡ false → (o .world ≡ w) × (o .table ≡ tableOf c) × (o .handed ≡ [])
-unfolding refuse accepted settledBy give lastBy finishBy
+unfolding refuse accepted settledBy tell lastBy finishBy tableOf
 did-refused d w (away c n) e = (refl, refl, refl)
 did-refused d w (added room t l p i f kn) e = absurd (true≢false e)
 did-refused d w (agreed room t l p pf o i f q bt kn) e = absurd (true≢false e)
 did-refused d w (clashed room t l p pf o i f q bt kn) e = absurd (true≢false e)
 did-refused d w (took room l x xs i) e = absurd (true≢false e)
-did-refused d w (gave room l r rs i n) e = absurd (true≢false e)
-did-refused d w (gaveLast room) e = absurd (true≢false e)
+did-refused d w (asked room q) e = (refl, refl, refl)
 did-refused d w (began room t a s j v bt) e = absurd (true≢false e)
 did-refused d w (beganLast room t a s j c v bt) e = absurd (true≢false e)
 did-refused d w (beganClash room t a s j bt) e = absurd (true≢false e)
@@ -141,22 +138,12 @@ did-refused d w (beganClash room t a s j bt) e = absurd (true≢false e)
 pub refused-same : (d : Plan) (w : World) (c : Call) → accepted (call d c w .answer) ≡ false → (call d c w .world ≡ w) × (call d c w .table ≡ tableOf c) × (call d c w .handed ≡ [])
 refused-same d w c e = did-refused d w (did d w c) e
 
-did-fetched : (d : Plan) (w : World) {room : Bool} {l : ℕ} {o : Outcome} → Did d w (calcReason room l) o → o .world ≡ w
-unfolding refuse give
-did-fetched d w (away c n) = refl
-did-fetched d w (gave room l r rs e n) = refl
-
-did-last : (d : Plan) (w : World) {room : Bool} {o : Outcome} → Did d w (calcLast room) o → o .world ≡ w
-unfolding refuse give
-did-last d w (away c n) = refl
-did-last d w (gaveLast room) = refl
-
 pub quiet-same : (d : Plan) (w : World) {c : Call} → Quiet d w c → call d c w .world ≡ w
-quiet-same d w (aReason room l) = did-fetched d w (did d w (calcReason room l))
-quiet-same d w (aLast room) = did-last d w (did d w (calcLast room))
+unfolding call onAsk tell
+quiet-same d w (aQuery room q) = refl
 quiet-same d w (turnedAway c e) = refused-same d w c e .0
 
--- refused calls and fetches leave the world
+-- refused calls and queries leave the world
 pub all-quiet-same : (d : Plan) {w : World} {cs : List Call} → AllQuiet d w cs → after d w cs ≡ w
 unfolding after
 all-quiet-same d done = refl

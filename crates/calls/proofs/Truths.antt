@@ -29,7 +29,7 @@ use Rattle.division.proofs.Whole.{each-found, reason-there, reasons, conflicts}
 use Rattle.calls.specs.Refusals.{Stage}
 use Rattle.calls.specs.Table.{codeOf, trueIn, falseIn, coded, someCurrent}
 use Rattle.calls.specs.Look.{clash, Looked, looked, firstFalse, listFor, falseList, stop, clashes, offered, unjoined, gone, fine}
-use Rattle.calls.specs.Calls.{World, Call, calcReason, conflicting, reason, Outcome, Going, call, run, joinBy, refuse, noting, settledBy, give, lastBy, finishBy, entry, initialize, adding}
+use Rattle.calls.specs.Calls.{World, reasonFor, Call, ask, conflicting, reason, Outcome, Going, call, run, joinBy, refuse, noting, settledBy, tell, lastBy, finishBy, entry, initialize, adding}
 use Rattle.calls.specs.Claim.{answered}
 use Rattle.calls.specs.Truths.{recordedIn, Walked, Recorded, Analyzes, ofPropagate, ofInitialize, ofLast, Backed, allStand, ofFalse}
 use Rattle.calls.proofs.Refusals.{not-taken, not-stands}
@@ -38,7 +38,7 @@ use Rattle.calls.proofs.Fetchable.{each-append, each-map, good}
 use Rattle.calls.proofs.View.{Saw, sawStop, sawConflict, sawFalse, sawFine, saw, Steps, over, more, ends, halts, Did, did, or-right}
 use Rattle.calls.proofs.Looks.{stop-not-clash, clash-not-fine, first-in, offer-in, halted, saw-records}
 use Rattle.calls.proofs.Stands.{or-left, run-consistent, add-consistent, not-halted, clash-on, steps-consistent, fine-on}
-use Rattle.calls.proofs.Recent.{isConflict}
+use Rattle.calls.proofs.Recent.{isConflict, answer-quiet}
 use Rattle.calls.proofs.Room.{Formed, formedIn, formedBetween, formedTooLarge, formedLarge, formedSmall, formedMismatch, formedSpread, formedSameSize, run-formed}
 use Rattle.division.proofs.Whole as whole
 
@@ -164,14 +164,13 @@ module _ (d : Plan) (k : Proper d) where
       begin = nothing-new _ _ refl
 
     did-grown : {c : Call} {o : Outcome} → Did d w c o → Grown c (o .world)
-    unfolding refuse adding settledBy give lastBy finishBy
+    unfolding refuse adding settledBy tell lastBy finishBy
     did-grown (Did.away c n) = nothing-new c w refl
     did-grown (Did.added room t l p e f kn) = nothing-new _ _ refl
     did-grown (Did.agreed room t l p pf o e f q bt kn) = looked-more _ w t l o e (fine-on q) (ofPropagate room t l p pf (not-stands w l f)) (nothing-new _ w refl)
     did-grown (Did.clashed room t l p pf o e f q bt kn) = looked-more _ w t l o e (clash-on q) (ofPropagate room t l p pf (not-stands w l f)) (nothing-new _ w refl)
     did-grown (Did.took room l x xs e) = nothing-new _ _ refl
-    did-grown (Did.gave room l r rs e n) = nothing-new _ _ refl
-    did-grown (Did.gaveLast room) = nothing-new _ _ refl
+    did-grown (Did.asked room q) = nothing-new _ _ refl
     did-grown (Did.began room t a s j v bt) = let x = steps-more room t s Stage.first (fine-on j) (begin room t) in one-more _ (a .world) _ _ (ofLast room t a (x .1 j)) refl (x .0)
     did-grown (Did.beganLast room t a s j c v bt) = let x = steps-more room t s Stage.first (fine-on j) (begin room t) in one-more _ (a .world) _ _ (ofLast room t a (x .1 j)) refl (x .0)
     did-grown (Did.beganClash room t a s j bt) = steps-more room t s Stage.first (clash-on j) (begin room t) .0
@@ -233,7 +232,7 @@ module _ (d : Plan) (k : Proper d) where
         (every-append (decidedRegion d s u) _ (stand r _ (decided-stands d S s k n u hu)) (held r _ (every-in _))))
 
   -- A list that a fetch of a literal gives, whatever was undone since: the literals of walked edges, and a step 4 edge's two, stand.
-  pub fetched-walked : (before : List Call) (room : Bool) (l : ℕ) (list : List ℕ) → call d (calcReason room l) (run d before) .answer ≡ reason list →
+  pub fetched-walked : (before : List Call) (room : Bool) (l : ℕ) (list : List ℕ) → call d (ask room (reasonFor l)) (run d before) .answer ≡ reason list →
       (r : Reason) × (reasonOf l (run d before .reasons) ≡ r ∷ []) × Walked d (run d before .standing) r list
   unfolding recordedIn
   fetched-walked before room l list e =
@@ -276,14 +275,13 @@ module _ (d : Plan) (k : Proper d) where
   steps-backed (Steps.halts n e) i j c = absurd (not-halted e (clash-on j))
 
   did-backed : (w : World) → Consistent (w .standing) → {c : Call} {o : Outcome} → Did d w c o → isConflict (o .answer) ≡ true → Backed (o .world .standing) (o .table) (o .world .last)
-  unfolding isConflict refuse settledBy noting give lastBy finishBy entry
+  unfolding isConflict refuse settledBy noting tell lastBy finishBy entry
   did-backed w g (Did.away c n) h = absurd (false≢true h)
   did-backed w g (Did.added room t l p e f kn) h = absurd (false≢true h)
   did-backed w g (Did.agreed room t l p pf o e f q bt kn) h = absurd (false≢true h)
   did-backed w g (Did.clashed room t l p pf o e f q bt kn) h = looked-backed _ t (add-consistent w l f g) o e q
   did-backed w g (Did.took room l z zs e) h = absurd (false≢true h)
-  did-backed w g (Did.gave room l r rs e n) h = absurd (false≢true h)
-  did-backed w g (Did.gaveLast room) h = absurd (false≢true h)
+  did-backed w g (Did.asked room q) h = absurd (false≢true (sym (answer-quiet d w q) ∙ h))
   did-backed w g (Did.began room t a s j v bt) h = absurd (false≢true h)
   did-backed w g (Did.beganLast room t a s j c v bt) h = allStand (conflicts d k (a .world .standing) (steps-consistent d s (fine-on j) g) c v .stands)
   did-backed w g (Did.beganClash room t a s j bt) h = steps-backed s refl j g

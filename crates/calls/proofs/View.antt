@@ -5,14 +5,13 @@ use mathlib.Core.Bool.{Bool, true, false, not, _||_, true≢false}
 use mathlib.Core.List.{List, [], _∷_}
 use Rattle.base.proofs.Loop.{pick-ind}
 use Rattle.division.specs.Plan.{Plan}
-use Rattle.division.specs.Reasons.{Reason}
 use Rattle.division.specs.Conflicts.{Conflict, conflictList}
 use Rattle.division.specs.Analysis.{zeroSize, Verdict, going, conflict, crossed}
 use Rattle.division.specs.Noting.{noteAll}
-use Rattle.division.specs.Runs.{analysis, fetched, reasonOf}
+use Rattle.division.specs.Runs.{analysis}
 use Rattle.calls.specs.Table.{entered, badTable, someCurrent, knows}
-use Rattle.calls.specs.Look.{Judgement, fine, clash, stopped, Looked, offers, firstFalse, falseList, stop, clashes, offered, lookedBy, looked, gone}
-use Rattle.calls.specs.Calls.{World, Call, initialize, propagate, undo, calcReason, calcLast, noted, undone, tableOf, Outcome, refuse, taken, adding, settledBy, settled, onPropagate, takeBack, onUndo, give, giveReason, onCalcReason, onCalcLast, Going, joinBy, oneBy, propagateAll, lastBy, finishBy, entry, onInitialize, call}
+use Rattle.calls.specs.Look.{Judgement, fine, clash, stopped, Looked, offers, firstFalse, falseList, stop, clashes, offered, lookedBy, looked}
+use Rattle.calls.specs.Calls.{World, Answer, Call, initialize, propagate, undo, Query, ask, noted, undone, tableOf, Outcome, refuse, taken, adding, settledBy, settled, onPropagate, takeBack, onUndo, answerTo, tell, onAsk, Going, joinBy, oneBy, propagateAll, lastBy, finishBy, entry, onInitialize, call}
 
 -- an analysis with a table
 pub data Saw (d : Plan) (ls t : List ℕ) : Looked → Type 0 where
@@ -97,8 +96,7 @@ pub data Did (d : Plan) (w : World) : Call → Outcome → Type 0 where
       Did d w (propagate room t l pending) (settledBy w t l o clash)
   took : (room : Bool) (l x : ℕ) (xs : List ℕ) → w .standing ≡ x ∷ xs →
       Did d w (undo room l) (record { answer = undone; world = record { standing = xs; reasons = w .reasons; last = w .last; done = w .done }; table = []; handed = [] })
-  gave : (room : Bool) (l : ℕ) (r : Reason) (rs : List Reason) → reasonOf l (w .reasons) ≡ r ∷ rs → gone d (noteAll d (w .standing)) r ≡ false → Did d w (calcReason room l) (give w (fetched d (w .standing) r))
-  gaveLast : (room : Bool) → Did d w (calcLast room) (give w (w .last))
+  asked : (room : Bool) (q : Query) → Did d w (ask room q) (tell w (answerTo d w q))
   began : (room : Bool) (t : List ℕ) (a : Going) → Steps d (entry w t) (entered d t) a → a .judgement ≡ fine → analysis d (a .world .standing) .verdict ≡ going → badTable d t ≡ false →
       Did d w (initialize room t) (lastBy d w t a (analysis d (a .world .standing)) going)
   beganLast : (room : Bool) (t : List ℕ) (a : Going) → Steps d (entry w t) (entered d t) a → a .judgement ≡ fine → (c : Conflict) → analysis d (a .world .standing) .verdict ≡ conflict c → badTable d t ≡ false →
@@ -134,20 +132,9 @@ module _ (d : Plan) (w : World) where
       by [] e = away _ 11
       by (x ∷ xs) e = pick-ind D _ _ _ (λ _. took room l x xs e) (λ _. away _ 11)
 
-  reason-did : (room : Bool) (l : ℕ) → Did d w (calcReason room l) (onCalcReason d w room l)
-  unfolding onCalcReason giveReason tableOf
-  reason-did room l = pick-ind D _ _ _ (λ _. away _ 7) (λ _. pick-ind D _ _ _ (λ _. away _ 9) (λ _. by _ refl))
-    where
-      D : Outcome → Type 0
-      D = Did d w (calcReason room l)
-
-      by : (rs : List Reason) → reasonOf l (w .reasons) ≡ rs → D (giveReason d w rs)
-      by [] e = away _ 15
-      by (r ∷ rs) e = pick-ind D _ _ _ (λ _. away _ 16) (λ n. gave room l r rs e n)
-
-  last-did : (room : Bool) → Did d w (calcLast room) (onCalcLast w room)
-  unfolding onCalcLast tableOf
-  last-did room = pick-ind (Did d w (calcLast room)) _ _ _ (λ _. away _ 7) (λ _. gaveLast room)
+  ask-did : (room : Bool) (q : Query) → Did d w (ask room q) (onAsk d w room q)
+  unfolding onAsk tell refuse tableOf
+  ask-did room q = pick-ind (λ (a : Answer). Did d w (ask room q) (tell w a)) _ _ _ (λ _. away _ 7) (λ _. asked room q)
 
   initialize-did : (room : Bool) (t : List ℕ) → Did d w (initialize room t) (onInitialize d w room t)
   unfolding onInitialize entry lastBy finishBy tableOf
@@ -188,5 +175,4 @@ module _ (d : Plan) (w : World) where
   did (initialize room t) = initialize-did room t
   did (propagate room t l pending) = propagate-did room t l pending
   did (undo room l) = undo-did room l
-  did (calcReason room l) = reason-did room l
-  did (calcLast room) = last-did room
+  did (ask room q) = ask-did room q

@@ -25,13 +25,17 @@ pub record World : Type 0 where
 unfoldable pub built : World
 built = record { standing = []; reasons = []; last = []; done = false }
 
+-- what a call that changes nothing asks for: the reason of a literal, or the list last left
+pub data Query : Type 0 where
+  reasonFor : (l : ℕ) → Query
+  lastLeft : Query
+
 -- room: all other buffers that the call is lent pass refusal 7's tests
 pub data Call : Type 0 where
   initialize : (room : Bool) (table : List ℕ) → Call
   propagate : (room : Bool) (table : List ℕ) (l : ℕ) (pending : Bool) → Call
   undo : (room : Bool) (l : ℕ) → Call
-  calcReason : (room : Bool) (l : ℕ) → Call
-  calcLast : (room : Bool) → Call
+  ask : (room : Bool) (q : Query) → Call
 
 pub data Answer : Type 0 where
   consistent : Answer
@@ -54,8 +58,7 @@ unfoldable pub tableOf : Call → List ℕ
 tableOf (initialize room t) = t
 tableOf (propagate room t l pending) = t
 tableOf (undo room l) = []
-tableOf (calcReason room l) = []
-tableOf (calcLast room) = []
+tableOf (ask room q) = []
 
 pub record Outcome : Type 0 where
   pub answer : Answer
@@ -100,18 +103,21 @@ takeBack w l (x ∷ xs) = pick (eqb x l) (record { answer = undone; world = reco
 unfoldable pub onUndo : Plan → World → Bool → ℕ → Outcome
 onUndo d w room l = pick (not room) (refuse 7 w []) (pick (not (knows d l)) (refuse 9 w []) (takeBack w l (w .standing)))
 
-unfoldable pub give : World → List ℕ → Outcome
-give w ls = record { answer = reason ls; world = w; table = []; handed = [] }
+unfoldable pub giveReason : Plan → World → List Reason → Answer
+giveReason d w [] = refused 15
+giveReason d w (r ∷ rs) = pick (gone d (noteAll d (w .standing)) r) (refused 16) (reason (fetched d (w .standing) r))
 
-unfoldable pub giveReason : Plan → World → List Reason → Outcome
-giveReason d w [] = refuse 15 w []
-giveReason d w (r ∷ rs) = pick (gone d (noteAll d (w .standing)) r) (refuse 16 w []) (give w (fetched d (w .standing) r))
+-- what a query is answered: no world comes out of it
+unfoldable pub answerTo : Plan → World → Query → Answer
+answerTo d w (reasonFor l) = pick (not (knows d l)) (refused 9) (giveReason d w (reasonOf l (w .reasons)))
+answerTo d w lastLeft = reason (w .last)
 
-unfoldable pub onCalcReason : Plan → World → Bool → ℕ → Outcome
-onCalcReason d w room l = pick (not room) (refuse 7 w []) (pick (not (knows d l)) (refuse 9 w []) (giveReason d w (reasonOf l (w .reasons))))
+-- an answer where the world stays as it is
+unfoldable pub tell : World → Answer → Outcome
+tell w a = record { answer = a; world = w; table = []; handed = [] }
 
-unfoldable pub onCalcLast : World → Bool → Outcome
-onCalcLast w room = pick (not room) (refuse 7 w []) (give w (w .last))
+unfoldable pub onAsk : Plan → World → Bool → Query → Outcome
+onAsk d w room q = tell w (pick (not room) (refused 7) (answerTo d w q))
 
 -- initialize on its way
 pub record Going : Type 0 where
@@ -171,8 +177,7 @@ unfoldable pub call : Plan → Call → World → Outcome
 call d (initialize room t) w = onInitialize d w room t
 call d (propagate room t l pending) w = onPropagate d w room t l pending
 call d (undo room l) w = onUndo d w room l
-call d (calcReason room l) w = onCalcReason d w room l
-call d (calcLast room) w = onCalcLast w room
+call d (ask room q) w = onAsk d w room q
 
 -- the calls in their order
 unfoldable pub after : Plan → World → List Call → World

@@ -12,7 +12,7 @@ use Rattle.division.specs.Division.{Valid, Describes}
 use Rattle.division.specs.Noting.{In}
 use Rattle.calls.specs.Table.{entered}
 use Rattle.calls.specs.Look.{Judgement, fine, clash, stopped, looked}
-use Rattle.calls.specs.Calls.{World, built, Call, initialize, propagate, undo, calcReason, calcLast, consistent, conflicting, reason, accepted, Outcome, call, after, run}
+use Rattle.calls.specs.Calls.{World, built, Query, Call, initialize, propagate, undo, reasonFor, lastLeft, ask, consistent, conflicting, reason, accepted, Outcome, call, after, run}
 
 unfoldable pub isClash : Judgement → Bool
 isClash fine = false
@@ -33,8 +33,7 @@ unfoldable pub counts : Plan → Call → List ℕ → List ℕ
 counts d (initialize room t) ls = addUpTo d ls t (entered d t)
 counts d (propagate room t l pending) ls = l ∷ ls
 counts d (undo room l) ls = tail ls
-counts d (calcReason room l) ls = ls
-counts d (calcLast room) ls = ls
+counts d (ask room q) ls = ls
 
 -- every other call, refused ones included, leaves what stands
 unfoldable pub counted : Plan → World → List Call → List ℕ → List ℕ
@@ -46,10 +45,9 @@ pub record Covers (d : Plan) (ls : List ℕ) : Type 0 where
   pub edge : (g : ℕ) → g < d .edges → In ls (d .edgeLit g) ⊎ In ls (negate (d .edgeLit g))
   pub domain : (v j : ℕ) → v < d .vertices → suc j < d .domainLen v → In ls (d .domLit v j) ⊎ In ls (negate (d .domLit v j))
 
--- a refused call or a fetch, where the world is w
+-- a refused call or a query, as a fetch is, where the world is w
 pub data Quiet (d : Plan) (w : World) : Call → Type 0 where
-  aReason : (room : Bool) (l : ℕ) → Quiet d w (calcReason room l)
-  aLast : (room : Bool) → Quiet d w (calcLast room)
+  aQuery : (room : Bool) (q : Query) → Quiet d w (ask room q)
   turnedAway : (c : Call) → accepted (call d c w .answer) ≡ false → Quiet d w c
 
 pub data AllQuiet (d : Plan) : World → List Call → Type 0 where
@@ -64,12 +62,12 @@ answered d before c = call d c (run d before)
 pub record Condition3 (d : Plan) : Type 0 where
   -- no call answers a conflict whose listed literals, which a fetch straight after it gives, all hold in some valid division
   pub conflicts : (before : List Call) (c : Call) (room : Bool) (list : List ℕ) → answered d before c .answer ≡ conflicting →
-      call d (calcLast room) (answered d before c .world) .answer ≡ reason list →
+      call d (ask room lastLeft) (answered d before c .world) .answer ≡ reason list →
       (σ : ℕ → Bool) → Valid d σ → Every (Holds σ) list → ⊥
   -- no call hands on a literal that fails in a valid division where its reason, fetched before any later accepted call but a fetch, holds
   pub handed : (before : List Call) (c : Call) (amid : List Call) (l : ℕ) (room : Bool) (list : List ℕ) →
       In (answered d before c .handed) l → AllQuiet d (answered d before c .world) amid →
-      call d (calcReason room l) (after d (answered d before c .world) amid) .answer ≡ reason list →
+      call d (ask room (reasonFor l)) (after d (answered d before c .world) amid) .answer ≡ reason list →
       (σ : ℕ → Bool) → Valid d σ → Every (Holds σ) list → Holds σ l
   -- an accepted notification with nothing pending, after which every variable has a standing literal,
   -- is answered consistent exactly when the standing literals describe a valid division

@@ -7,7 +7,7 @@ use Rattle.base.specs.Iter.{pick}
 use Rattle.base.specs.Lists.{tab}
 use Rattle.division.specs.Plan.{Plan}
 use Rattle.calls.specs.Table.{unsetIn, enter, variables}
-use Rattle.calls.specs.Calls.{World, built, initialize, propagate, undo, calcReason, calcLast, Answer, consistent, conflicting, noted, undone, refused, reason, accepted, Outcome, call}
+use Rattle.calls.specs.Calls.{World, built, initialize, propagate, undo, reasonFor, lastLeft, ask, Answer, consistent, conflicting, noted, undone, refused, reason, accepted, Outcome, call}
 
 pub data Line : Type 0 where
   value : (v code : ℕ) → Line
@@ -49,8 +49,8 @@ obey d init a = let o = call d (initialize true (a .table)) (a .world) in printi
 obey d (told l) a = notified d l false a
 obey d (only l) a = notified d l true a
 obey d (back l) a = let o = call d (undo true l) (a .world) in printing o (pick (accepted (o .answer)) (set (a .table) (l / 2) 0) (a .table)) a
-obey d (why l) a = let o = call d (calcReason true l) (a .world) in printing o (a .table) a
-obey d last a = let o = call d (calcLast true) (a .world) in printing o (a .table) a
+obey d (why l) a = let o = call d (ask true (reasonFor l)) (a .world) in printing o (a .table) a
+obey d last a = let o = call d (ask true lastLeft) (a .world) in printing o (a .table) a
 
 unfoldable pub obeyAll : Plan → List Line → Desk → Desk
 obeyAll d [] a = a

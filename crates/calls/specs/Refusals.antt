@@ -17,14 +17,13 @@ use Rattle.division.specs.Views.{viewOf}
 use Rattle.division.specs.Runs.{analysis, reasonOf}
 use Rattle.calls.specs.Table.{codeOf, variables, entered}
 use Rattle.calls.specs.Look.{fine, looked, offers, firstFalse, falseList, gone}
-use Rattle.calls.specs.Calls.{World, Call, initialize, propagate, undo, calcReason, calcLast, Going, joinBy, entry}
+use Rattle.calls.specs.Calls.{World, Query, reasonFor, Call, initialize, propagate, undo, ask, Going, joinBy, entry}
 
 unfoldable pub roomOf : Call → Bool
 roomOf (initialize room t) = room
 roomOf (propagate room t l pending) = room
 roomOf (undo room l) = room
-roomOf (calcReason room l) = room
-roomOf (calcLast room) = room
+roomOf (ask room q) = room
 
 -- 7: "table shorter than largest variable + 1 (0 with none), any entry of it over 4"
 pub data BadTable (d : Plan) (t : List ℕ) : Type 0 where
@@ -66,7 +65,16 @@ pub data Stage (d : Plan) (w : World) (t : List ℕ) : Going → List ℕ → Ty
   next : {a : Going} {l : ℕ} {ls : List ℕ} → Stage d w t a (l ∷ ls) → (Stands (a .world) l → ⊥) → looked d (l ∷ a .world .standing) (a .table) .judgement ≡ fine →
       Stage d w t (joinBy a l (looked d (l ∷ a .world .standing) (a .table)) fine) ls
 
--- the table of refusals
+-- the table of refusals, of a query
+pub data AppliesTo (d : Plan) (w : World) : Query → ℕ → Type 0 where
+  -- 9: "literal unknown to the plan"
+  unknownReason : (l : ℕ) → (Known d l → ⊥) → AppliesTo d w (reasonFor l) 9
+  -- 15: "no reason recorded"
+  noReason : (l : ℕ) → reasonOf l (w .reasons) ≡ [] → AppliesTo d w (reasonFor l) 15
+  -- 16: "recorded path gone"
+  pathGone : (l : ℕ) (r : Reason) → reasonOf l (w .reasons) ≡ r ∷ [] → gone d (noteAll d (w .standing)) r ≡ true → AppliesTo d w (reasonFor l) 16
+
+-- and of any call
 pub data Applies (d : Plan) (w : World) : Call → ℕ → Type 0 where
   -- 7; what it asks of the other buffers is the room
   noRoom : (c : Call) → roomOf c ≡ false → Applies d w c 7
@@ -77,7 +85,6 @@ pub data Applies (d : Plan) (w : World) : Call → ℕ → Type 0 where
   -- 9: "literal unknown to the plan"
   unknownPropagate : (room : Bool) (t : List ℕ) (l : ℕ) (pending : Bool) → (Known d l → ⊥) → Applies d w (propagate room t l pending) 9
   unknownUndo : (room : Bool) (l : ℕ) → (Known d l → ⊥) → Applies d w (undo room l) 9
-  unknownReason : (room : Bool) (l : ℕ) → (Known d l → ⊥) → Applies d w (calcReason room l) 9
   -- 10, which initialize tests literal by literal
   stands : (room : Bool) (t : List ℕ) (l : ℕ) (pending : Bool) → Stands w l → Applies d w (propagate room t l pending) 10
   standsLater : (room : Bool) (t : List ℕ) (a : Going) (l : ℕ) (ls : List ℕ) → Stage d w t a (l ∷ ls) → Stands (a .world) l → Applies d w (initialize room t) 10
@@ -90,10 +97,8 @@ pub data Applies (d : Plan) (w : World) : Call → ℕ → Type 0 where
   -- 12 and 13 in initialize's last pass
   crossedLast : (room : Bool) (t : List ℕ) (a : Going) → Stage d w t a [] → CrossedAt d (a .world .standing) → Applies d w (initialize room t) 12
   zeroLast : (room : Bool) (t : List ℕ) (a : Going) → Stage d w t a [] → ZeroAt d (a .world .standing) → Applies d w (initialize room t) 13
-  -- 15: "no reason recorded"
-  noReason : (room : Bool) (l : ℕ) → reasonOf l (w .reasons) ≡ [] → Applies d w (calcReason room l) 15
-  -- 16: "recorded path gone"
-  pathGone : (room : Bool) (l : ℕ) (r : Reason) → reasonOf l (w .reasons) ≡ r ∷ [] → gone d (noteAll d (w .standing)) r ≡ true → Applies d w (calcReason room l) 16
+  -- those of a query
+  ofQuery : (room : Bool) (q : Query) (n : ℕ) → AppliesTo d w q n → Applies d w (ask room q) n
 
 -- the first number that applies
 pub record First (d : Plan) (w : World) (c : Call) (n : ℕ) : Type 0 where

@@ -29,14 +29,13 @@ use Rattle.calls.specs.Claim as claim
 use Rattle.calls.specs.Claim.{Covers}
 use Rattle.calls.proofs.Marks.{call-marked}
 use Rattle.calls.proofs.Refusals.{refusals, acceptances}
-use Rattle.calls.proofs.Claim.{listIn, did-last, condition-3}
-use Rattle.calls.proofs.View.{did}
+use Rattle.calls.proofs.Claim.{last-given, condition-3}
 use Rattle.calls.proofs.Stands.{stands-from-calls}
 use Rattle.calls.proofs.Truths.{conflict-backed, fetched-walked, recorded-stood}
 use Rattle.graph_division.specs.declared.Answer.{Answer}
 use Rattle.graph_division.specs.declared.Answer.the-variants.{Consistent, Conflict, Reason, Refused}
-use Rattle.graph_division.specs.Runs.{Request, initialize, propagate, undo, calcReason, calcLast, tableOf, roomFor, Kept, logFor, Reply, reply, keeping, after, callOf, callsOf}
-use Rattle.claims.specs.Conditions.{accepted, isConsistent, counts, counted, HandsOn, Quiet, aReason, aLast, turnedAway, AllQuiet, done, next, fetchedBy, Condition1, Condition2, Condition3}
+use Rattle.graph_division.specs.Runs.{Query, reasonFor, lastLeft, Request, initialize, propagate, undo, ask, tableOf, roomFor, queryOf, Kept, logFor, Reply, reply, keeping, after, callOf, callsOf}
+use Rattle.claims.specs.Conditions.{accepted, isConsistent, counts, counted, HandsOn, Quiet, aQuery, turnedAway, AllQuiet, done, next, fetchedBy, Condition1, Condition2, Condition3}
 use Rattle.graph_division.specs.Outcomes.{answerOf}
 use Rattle.simulation.proofs.Represents.{planIn}
 use Rattle.simulation.proofs.Running.{RepresentsKept, valuesFor, Replies}
@@ -106,16 +105,14 @@ unfolding callOf tableOf calls.tableOf
 table-same k (initialize t list tail) = refl
 table-same k (propagate lit pending t list tail) = refl
 table-same k (undo lit tail) = refl
-table-same k (calcReason lit b tail) = refl
-table-same k (calcLast b tail) = refl
+table-same k (ask q b tail) = refl
 
 counts-same : (d : Plan) (k : Kept) (q : Request) (ls : List ℕ) → counts d q ls ≡ claim.counts d (callOf k q) ls
 unfolding counts claim.counts callOf
 counts-same d k (initialize t list tail) ls = refl
 counts-same d k (propagate lit pending t list tail) ls = refl
 counts-same d k (undo lit tail) ls = refl
-counts-same d k (calcReason lit b tail) ls = refl
-counts-same d k (calcLast b tail) ls = refl
+counts-same d k (ask q b tail) ls = refl
 
 calls-more : (k : Kept) (qs : List Request) (q : Request) → callsOf k (qs ++ (q ∷ [])) ≡ callsOf k qs ++ (callOf (after k qs) q ∷ [])
 unfolding callsOf after
@@ -144,8 +141,7 @@ module _ (D : Plan) where
 
   quiet : (k : Kept) (w : World) → At D k w → {q : Request} → Quiet k q → claim.Quiet D w (callOf k q)
   unfolding callOf
-  quiet k w a (aReason lit b tail) = claim.aReason _ _
-  quiet k w a (aLast b tail) = claim.aLast _
+  quiet k w a (aQuery q b tail) = claim.aQuery _ _
   quiet k w a (turnedAway q e) = claim.turnedAway (callOf k q) (sym (accepted-is (calls.call D (callOf k q) w)) ∙ ap accepted (sym (reply-at D k w a q .answer)) ∙ e)
 
   all-quiet : (k : Kept) (w : World) → At D k w → {qs : List Request} → AllQuiet k qs → claim.AllQuiet D w (callsOf k qs)
@@ -154,23 +150,14 @@ module _ (D : Plan) where
   all-quiet k w a (next {q = q} x xs) = claim.next (quiet k w a x) (all-quiet (keeping (reply k q)) _ (next-at D k w a q) xs)
 
   -- ---- a fetch's list
-  -- what a fetch gives is the definition's reason
-  fetch-back : (k : Kept) (w : World) → At D k w → (q : Request) → valuesFor q (calls.call D (callOf k q) w) ≡ listIn (calls.call D (callOf k q) w .answer) → (len : ℕ) → reply k q .answer ≡ Reason len →
-      (calls.call D (callOf k q) w .answer ≡ calls.reason (fetchedBy (reply k q) len))
-  fetch-back k w a q r len e =
-      let o = calls.call D (callOf k q) w in
-      let (f, g) = reason-back o len (sym (reply-at D k w a q .answer) ∙ e) in
-      f ∙ ap calls.reason (sym (ap (λ (n : ℕ). take n (reply k q .list)) (sym g) ∙ subst (λ (l : List ℕ). take (length l) (reply k q .list) ≡ l) r (reply-at D k w a q .whole)))
-
-  last-back : (k : Kept) (w : World) → At D k w → (b rest : List ℕ) (len : ℕ) → reply k (calcLast b rest) .answer ≡ Reason len →
-      calls.call D (callOf k (calcLast b rest)) w .answer ≡ calls.reason (fetchedBy (reply k (calcLast b rest)) len)
+  -- what a query gives is what the definition's does
+  ask-back : (k : Kept) (w : World) → At D k w → (q : Query) (b rest : List ℕ) (len : ℕ) → reply k (ask q b rest) .answer ≡ Reason len →
+      calls.call D (callOf k (ask q b rest)) w .answer ≡ calls.reason (fetchedBy (reply k (ask q b rest)) len)
   unfolding valuesFor
-  last-back k w a b rest len e = fetch-back k w a (calcLast b rest) refl len e
-
-  reason-given : (k : Kept) (w : World) → At D k w → (lit : ℤ) (b rest : List ℕ) (len : ℕ) → reply k (calcReason lit b rest) .answer ≡ Reason len →
-      calls.call D (callOf k (calcReason lit b rest)) w .answer ≡ calls.reason (fetchedBy (reply k (calcReason lit b rest)) len)
-  unfolding valuesFor
-  reason-given k w a lit b rest len e = fetch-back k w a (calcReason lit b rest) refl len e
+  ask-back k w a q b rest len e =
+      let y = reply-at D k w a (ask q b rest) in
+      let (f, g) = reason-back (calls.call D (callOf k (ask q b rest)) w) len (sym (y .answer) ∙ e) in
+      f ∙ ap calls.reason (sym (ap (λ (n : ℕ). take n (reply k (ask q b rest) .list)) (sym g) ∙ y .whole))
 
   module _ (start : Kept) (a : At D start calls.built) where
     abbrev world : List Request → World
@@ -218,11 +205,8 @@ module _ (D : Plan) where
           ap (λ (m : ℕ). take m (reply k q .list)) (sym (consistent-many (outcome before q) n (sym (answer-of before q) ∙ f)))
           ∙ subst (λ (l : List ℕ). take (length l) (reply k q .list) ≡ l) e (r .whole)
 
-      last-left : (w : World) (room : Bool) (list : List ℕ) → calls.call D (calls.calcLast room) w .answer ≡ calls.reason list → w .last ≡ list
-      last-left w room list e = did-last D w (did D w (calls.calcLast room)) e
-
       pub condition-2 : Condition2 start D
-      unfolding valuesFor callOf
+      unfolding valuesFor callOf queryOf
       condition-2 = record {
         began = λ before t list rest n e. values-taken before (initialize t list rest) n refl e;
         notified = λ before lit pending t list rest n e. values-taken before (propagate lit pending t list rest) n refl e;
@@ -232,15 +216,15 @@ module _ (D : Plan) where
             let o = outcome before q in
             let n = keeping (reply k q) in
             let na = next-at D k (world before) (at before) q in
-            let z : o .world .last ≡ fetchedBy (reply n (calcLast b rest)) len = last-left (o .world) _ _ (last-back n (o .world) na b rest len f) in
+            let z : o .world .last ≡ fetchedBy (reply n (ask lastLeft b rest)) len = last-given D (o .world) _ _ (ask-back n (o .world) na lastLeft b rest len f) in
             let g = conflict-backed D proper (callsOf start before) (callOf k q) (conflict-back o (sym (answer-of before q) ∙ e)) in
             subst (λ (l : List ℕ). Backed (counted D start (before ++ (q ∷ [])) []) (reply k q .table) l) z
             (subst (λ (u : List ℕ). Backed (counted D start (before ++ (q ∷ [])) []) u (o .world .last)) (sym (reply-at D k (world before) (at before) q .table))
             (subst (λ (ms : List ℕ). Backed ms (o .table) (o .world .last)) (ap (λ (w : World). w .standing) (sym (run-more before q)) ∙ standing-after (before ++ (q ∷ []))) g));
         reasons = λ before lit b rest len e.
             let k = after start before in
-            let (r, f, g) = fetched-walked D proper (callsOf start before) _ (litGiven lit) _ (reason-given k (world before) (at before) lit b rest len e) in
-            (r, f, subst (λ (ms : List ℕ). Walked D ms r (fetchedBy (reply k (calcReason lit b rest)) len)) (standing-after before) g);
+            let (r, f, g) = fetched-walked D proper (callsOf start before) _ (litGiven lit) _ (ask-back k (world before) (at before) (reasonFor lit) b rest len e) in
+            (r, f, subst (λ (ms : List ℕ). Walked D ms r (fetchedBy (reply k (ask (reasonFor lit) b rest)) len)) (standing-after before) g);
         recorded = λ before q.
             let (recent, e, f) = recorded-stood D proper (callsOf start before) (callOf (after start before) q) in
             (recent, ap (λ (w : World). w .reasons) (run-more before q) ∙ e, f);
@@ -282,23 +266,23 @@ module _ (D : Plan) where
               )
 
         pub condition-three : Condition3 start D
-        unfolding callOf calls.call
+        unfolding callOf queryOf calls.call
         condition-three = record {
           conflicts = λ before q b rest len e f σ v h.
               let k = after start before in
               let n = keeping (reply k q) in
               let o = calls.call D (callOf k q) (world before) in
               let na = next-at D k (world before) (at before) q in
-              condition-3 D proper plain .conflicts (callsOf start before) (callOf k q) _ (fetchedBy (reply n (calcLast b rest)) len)
+              condition-3 D proper plain .conflicts (callsOf start before) (callOf k q) _ (fetchedBy (reply n (ask lastLeft b rest)) len)
               (conflict-back o (sym (reply-at D k (world before) (at before) q .answer) ∙ e))
-              (last-back n (o .world) na b rest len f) σ v h;
+              (ask-back n (o .world) na lastLeft b rest len f) σ v h;
           handed = λ before q amid lit b rest len h s f σ v x.
               let k = after start before in
               let n = keeping (reply k q) in
               let o = calls.call D (callOf k q) (world before) in
               let na = next-at D k (world before) (at before) q in
-              condition-3 D proper plain .handed (callsOf start before) (callOf k q) (callsOf n amid) (litGiven lit) _ (fetchedBy (reply (after n amid) (calcReason lit b rest)) len)
+              condition-3 D proper plain .handed (callsOf start before) (callOf k q) (callsOf n amid) (litGiven lit) _ (fetchedBy (reply (after n amid) (ask (reasonFor lit) b rest)) len)
               (hands-on k (world before) (at before) q (litGiven lit) h) (all-quiet n (o .world) na s)
-              (reason-given (after n amid) _ (after-at D amid n (o .world) na) lit b rest len f) σ v x;
+              (ask-back (after n amid) _ (after-at D amid n (o .world) na) (reasonFor lit) b rest len f) σ v x;
           exact = exactly;
         }

@@ -23,7 +23,7 @@ use Rattle.graph_division.specs.declared.Answer.{Answer}
 use Rattle.graph_division.specs.declared.Answer.the-variants.{Consistent, Conflict, Noted, Undone, Reason, Refused}
 use Rattle.graph_division.specs.Calls.{Called, called, refuse, adding, accepting, handingOn, settledBy, settled, propagated, undone, Fetched, fetched, copied, reasonGiven, isNone, listFor, recordedFor, giving, reasonFetched, lastFetched}
 use Rattle.graph_division.specs.Initialize.{taking, takenOver, endedBy, begun, initialized}
-use Rattle.graph_division.specs.Runs.{Request, initialize, propagate, undo, calcReason, calcLast, tableOf, listOf, tailOf, Kept, logFor, Reply, replied, repliedCalled, repliedFetched, reply}
+use Rattle.graph_division.specs.Runs.{Query, reasonFor, lastLeft, Request, initialize, propagate, undo, ask, tableOf, listOf, tailOf, Kept, logFor, Reply, replied, repliedCalled, repliedFetched, asked, reply}
 use Rattle.claims.specs.Conditions.{turnedAwayWith}
 use Rattle.claims.proofs.Replying.{kindOf, amountOf}
 
@@ -64,10 +64,10 @@ module _ (k : Kept) where
   settled-unchanged lit pending t list tail l x (Clash n) = other k (propagate lit pending t list tail) _ Conflict refl (λ e. omega arith)
   settled-unchanged lit pending t list tail l x (Stopped n) = away k (propagate lit pending t list tail) n _ refl
 
-  given-unchanged : (lit : ℤ) (b tail l : List ℕ) (x : Listed) → Unchanged k (calcReason lit b tail) (repliedFetched k (logFor k tail) (reasonGiven l x b))
+  given-unchanged : (q : Query) (b tail l : List ℕ) (x : Listed) → Unchanged k (ask q b tail) (repliedFetched k (logFor k tail) (reasonGiven l x b))
   unfolding reasonGiven copied repliedFetched replied refuse turnedAwayWith tableOf listOf tailOf kindOf
-  given-unchanged lit b tail l (Past n) = other k (calcReason lit b tail) _ (Reason n) refl (λ e. omega arith)
-  given-unchanged lit b tail l Missing = away k (calcReason lit b tail) 16 _ refl
+  given-unchanged q b tail l (Past n) = other k (ask q b tail) _ (Reason n) refl (λ e. omega arith)
+  given-unchanged q b tail l Missing = away k (ask q b tail) 16 _ refl
 
   -- a call that is refused leaves the state, the cursor and all that it was lent
   refused-initialize : (t list tail : List ℕ) → Unchanged k (initialize t list tail) (reply k (initialize t list tail))
@@ -88,18 +88,15 @@ module _ (k : Kept) where
       (λ e. other k (undo lit tail) _ Undone (ap (λ (y : Outcome). y .answer) (pick-yes _ _ e)) (λ z. omega arith))
       (λ e. away k (undo lit tail) _ _ (ap (λ (y : Outcome). replied y [] [] (logFor k tail)) (pick-no _ _ e)))
 
-  refused-reason : (lit : ℤ) (b tail : List ℕ) → Unchanged k (calcReason lit b tail) (reply k (calcReason lit b tail))
-  unfolding reply reasonFetched giving turnedAwayWith tableOf listOf tailOf repliedFetched replied refuse
-  refused-reason lit b tail =
-      let q = calcReason lit b tail in
+  refused-ask : (q : Query) (b tail : List ℕ) → Unchanged k (ask q b tail) (reply k (ask q b tail))
+  unfolding reply asked reasonFetched giving lastFetched copied turnedAwayWith tableOf listOf tailOf repliedFetched replied refuse kindOf
+  refused-ask (reasonFor lit) b tail =
+      let q = ask (reasonFor lit) b tail in
       by-fetch k q _ _ _ _
-      (by-fetch k q _ _ _ _ (by-fetch k q _ _ _ _ (away k q 15 _ refl) (given-unchanged lit b tail _ _)) (away k q _ _ refl))
+      (by-fetch k q _ _ _ _ (by-fetch k q _ _ _ _ (away k q 15 _ refl) (given-unchanged (reasonFor lit) b tail _ _)) (away k q _ _ refl))
       (away k q _ _ refl)
-
-  refused-last : (b tail : List ℕ) → Unchanged k (calcLast b tail) (reply k (calcLast b tail))
-  unfolding reply lastFetched copied turnedAwayWith tableOf listOf tailOf repliedFetched replied refuse kindOf
-  refused-last b tail =
-      let q = calcLast b tail in
+  refused-ask lastLeft b tail =
+      let q = ask lastLeft b tail in
       by-fetch k q _ _ _ _
       (by-fetch k q _ _ _ _ (away k q 7 _ refl) (other k q _ (Reason _) refl (λ e. omega arith)))
       (away k q _ _ refl)
@@ -110,5 +107,4 @@ module _ (k : Kept) where
   refused-unchanged (initialize t list tail) = refused-initialize t list tail
   refused-unchanged (propagate lit pending t list tail) = refused-propagate lit pending t list tail
   refused-unchanged (undo lit tail) = refused-undo lit tail
-  refused-unchanged (calcReason lit b tail) = refused-reason lit b tail
-  refused-unchanged (calcLast b tail) = refused-last b tail
+  refused-unchanged (ask q b tail) = refused-ask q b tail

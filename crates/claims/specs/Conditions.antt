@@ -27,7 +27,7 @@ use Rattle.calls.specs.Claim.{addUpTo, tail, Covers}
 use Rattle.graph_division.specs.declared.Answer.{Answer}
 use Rattle.graph_division.specs.declared.Answer.the-variants.{Consistent, Conflict, Noted, Undone, Reason, Refused}
 use Rattle.graph_division.specs.Calls.{refuse}
-use Rattle.graph_division.specs.Runs.{Request, initialize, propagate, undo, calcReason, calcLast, tableOf, listOf, tailOf, Kept, logFor, Reply, replied, reply, keeping, after, callOf, callsOf}
+use Rattle.graph_division.specs.Runs.{Query, reasonFor, lastLeft, Request, initialize, propagate, undo, ask, tableOf, listOf, tailOf, Kept, logFor, Reply, replied, reply, keeping, after, callOf, callsOf}
 use Rattle.graph_division.specs.Outcomes.{answerOf}
 
 unfoldable pub accepted : Answer → Bool
@@ -53,8 +53,7 @@ unfoldable pub counts : Plan → Request → List ℕ → List ℕ
 counts d (initialize t list rest) ls = addUpTo d ls t (entered d t)
 counts d (propagate lit pending t list rest) ls = litGiven lit ∷ ls
 counts d (undo lit rest) ls = tail ls
-counts d (calcReason lit b rest) ls = ls
-counts d (calcLast b rest) ls = ls
+counts d (ask q b rest) ls = ls
 
 -- "every other call, refused ones included, leaves them"
 unfoldable pub counted : Plan → Kept → List Request → List ℕ → List ℕ
@@ -66,10 +65,9 @@ pub record HandsOn (k : Kept) (q : Request) (l : ℕ) : Type 0 where
   pub unset : unsetIn (tableOf q) l ≡ true
   pub set : codeOf (reply k q .table) l ≡ sign l
 
--- a refused call or a fetch
+-- a refused call or a query, as a fetch is
 pub data Quiet (k : Kept) : Request → Type 0 where
-  aReason : (lit : ℤ) (b rest : List ℕ) → Quiet k (calcReason lit b rest)
-  aLast : (b rest : List ℕ) → Quiet k (calcLast b rest)
+  aQuery : (q : Query) (b rest : List ℕ) → Quiet k (ask q b rest)
   turnedAway : (q : Request) → accepted (reply k q .answer) ≡ false → Quiet k q
 
 pub data AllQuiet : Kept → List Request → Type 0 where
@@ -112,12 +110,12 @@ pub record Condition2 (start : Kept) (d : Plan) : Type 0 where
   pub shown : (before : List Request) (q : Request) (l : ℕ) → HandsOn (after start before) q l → In (calls.call d (callOf (after start before) q) (worldAfter d start before) .handed) l
   -- the list that a conflict leaves, fetched straight after it: each literal stands, but a false proposal's negation, which is true in the table
   pub conflicts : (before : List Request) (q : Request) (b rest : List ℕ) (len : ℕ) →
-      reply (after start before) q .answer ≡ Conflict → reply (keeping (reply (after start before) q)) (calcLast b rest) .answer ≡ Reason len →
-      Backed (counted d start (before ++ (q ∷ [])) []) (reply (after start before) q .table) (fetchedBy (reply (keeping (reply (after start before) q)) (calcLast b rest)) len)
+      reply (after start before) q .answer ≡ Conflict → reply (keeping (reply (after start before) q)) (ask lastLeft b rest) .answer ≡ Reason len →
+      Backed (counted d start (before ++ (q ∷ [])) []) (reply (after start before) q .table) (fetchedBy (reply (keeping (reply (after start before) q)) (ask lastLeft b rest)) len)
   -- a fetched reason, whatever was undone since: its literals stand, but those that the reason holds, which stood when it was recorded
-  pub reasons : (before : List Request) (lit : ℤ) (b rest : List ℕ) (len : ℕ) → reply (after start before) (calcReason lit b rest) .answer ≡ Reason len →
+  pub reasons : (before : List Request) (lit : ℤ) (b rest : List ℕ) (len : ℕ) → reply (after start before) (ask (reasonFor lit) b rest) .answer ≡ Reason len →
       (r : abstract.Reason) × (reasonOf (litGiven lit) (worldAfter d start before .reasons) ≡ r ∷ []) ×
-      Walked d (counted d start before []) r (fetchedBy (reply (after start before) (calcReason lit b rest)) len)
+      Walked d (counted d start before []) r (fetchedBy (reply (after start before) (ask (reasonFor lit) b rest)) len)
   -- and each that a call records is one of an analysis that it made, and what it holds stood there
   pub recorded : (before : List Request) (q : Request) → (recent : List Proposal) ×
       (worldAfter d start (before ++ (q ∷ [])) .reasons ≡ recent ++ worldAfter d start before .reasons) ×
@@ -129,13 +127,13 @@ pub record Condition3 (start : Kept) (d : Plan) : Type 0 where
   -- "no call answers a conflict whose listed literals", which a fetch straight after it gives, "all hold in some valid division"
   pub conflicts : (before : List Request) (q : Request) (b rest : List ℕ) (len : ℕ) →
       reply (after start before) q .answer ≡ Conflict →
-      reply (keeping (reply (after start before) q)) (calcLast b rest) .answer ≡ Reason len →
-      (σ : ℕ → Bool) → Valid d σ → Every (Holds σ) (fetchedBy (reply (keeping (reply (after start before) q)) (calcLast b rest)) len) → ⊥
+      reply (keeping (reply (after start before) q)) (ask lastLeft b rest) .answer ≡ Reason len →
+      (σ : ℕ → Bool) → Valid d σ → Every (Holds σ) (fetchedBy (reply (keeping (reply (after start before) q)) (ask lastLeft b rest)) len) → ⊥
   -- "no call hands on a literal that fails in a valid division where its reason, fetched before any later accepted call but a fetch, holds"
   pub handed : (before : List Request) (q : Request) (amid : List Request) (lit : ℤ) (b rest : List ℕ) (len : ℕ) →
       HandsOn (after start before) q (litGiven lit) → AllQuiet (keeping (reply (after start before) q)) amid →
-      reply (after (keeping (reply (after start before) q)) amid) (calcReason lit b rest) .answer ≡ Reason len →
-      (σ : ℕ → Bool) → Valid d σ → Every (Holds σ) (fetchedBy (reply (after (keeping (reply (after start before) q)) amid) (calcReason lit b rest)) len) → Holds σ (litGiven lit)
+      reply (after (keeping (reply (after start before) q)) amid) (ask (reasonFor lit) b rest) .answer ≡ Reason len →
+      (σ : ℕ → Bool) → Valid d σ → Every (Holds σ) (fetchedBy (reply (after (keeping (reply (after start before) q)) amid) (ask (reasonFor lit) b rest)) len) → Holds σ (litGiven lit)
   -- "an accepted notification with nothing pending, after which every variable has a standing literal, is answered consistent exactly when
   -- the standing literals describe a valid division"
   pub exact : (before : List Request) (lit : ℤ) (t list rest : List ℕ) →

@@ -16,36 +16,37 @@ use Rattle.graph_division.specs.declared.Answer.{Answer}
 use Rattle.graph_division.specs.Calls.{Called, propagated, undone, Fetched, reasonFetched, lastFetched}
 use Rattle.graph_division.specs.Initialize.{initialized}
 
+-- what a call that changes nothing asks for, with numbers from outside
+pub data Query : Type 0 where
+  reasonFor : (lit : ℤ) → Query
+  lastLeft : Query
+
 -- a call with what it is lent; of the log, the entries from the cursor on
 pub data Request : Type 0 where
   initialize : (table list tail : List ℕ) → Request
   propagate : (lit pending : ℤ) (table list tail : List ℕ) → Request
   undo : (lit : ℤ) (tail : List ℕ) → Request
-  calcReason : (lit : ℤ) (buffer tail : List ℕ) → Request
-  calcLast : (buffer tail : List ℕ) → Request
+  ask : (q : Query) (buffer tail : List ℕ) → Request
 
 -- the table that is lent; a call that is lent none has the empty one
 unfoldable pub tableOf : Request → List ℕ
 tableOf (initialize t list tail) = t
 tableOf (propagate lit pending t list tail) = t
 tableOf (undo lit tail) = []
-tableOf (calcReason lit b tail) = []
-tableOf (calcLast b tail) = []
+tableOf (ask q b tail) = []
 
 -- the list or the reason buffer
 unfoldable pub listOf : Request → List ℕ
 listOf (initialize t list tail) = list
 listOf (propagate lit pending t list tail) = list
 listOf (undo lit tail) = []
-listOf (calcReason lit b tail) = b
-listOf (calcLast b tail) = b
+listOf (ask q b tail) = b
 
 unfoldable pub tailOf : Request → List ℕ
 tailOf (initialize t list tail) = tail
 tailOf (propagate lit pending t list tail) = tail
 tailOf (undo lit tail) = tail
-tailOf (calcReason lit b tail) = tail
-tailOf (calcLast b tail) = tail
+tailOf (ask q b tail) = tail
 
 -- what is kept from call to call: the state, the cursor, and the log up to it
 pub record Kept : Type 0 where
@@ -75,15 +76,20 @@ replied y t list log = record { answer = y .answer; state = y .state; cursor = y
 unfoldable pub repliedCalled : Called → Reply
 repliedCalled x = replied (x .outcome) (x .table) (x .list) (x .log)
 
+-- a query leaves the state, the cursor and the log
 unfoldable pub repliedFetched : Kept → List ℕ → Fetched → Reply
 repliedFetched k log x = record { answer = x .answer; state = k .state; cursor = k .cursor; table = []; list = x .buffer; log = log }
+
+-- a query's answer and its buffer: `calc_reason` of a literal, and without one
+unfoldable pub asked : GraphDivision → Cursor → List ℕ → Query → List ℕ → Fetched
+asked s c log (reasonFor lit) b = reasonFetched s c log lit b
+asked s c log lastLeft b = lastFetched s c log b
 
 unfoldable pub reply : Kept → Request → Reply
 reply k (initialize t list tail) = repliedCalled (initialized (k .state) (k .cursor) t (logFor k tail) list)
 reply k (propagate lit pending t list tail) = repliedCalled (propagated (k .state) (k .cursor) lit pending t list (logFor k tail))
 reply k (undo lit tail) = replied (undone (k .state) (k .cursor) lit (logFor k tail)) [] [] (logFor k tail)
-reply k (calcReason lit b tail) = repliedFetched k (logFor k tail) (reasonFetched (k .state) (k .cursor) (logFor k tail) lit b)
-reply k (calcLast b tail) = repliedFetched k (logFor k tail) (lastFetched (k .state) (k .cursor) (logFor k tail) b)
+reply k (ask q b tail) = repliedFetched k (logFor k tail) (asked (k .state) (k .cursor) (logFor k tail) q b)
 
 unfoldable pub keeping : Reply → Kept
 keeping r = kept (r .state) (r .cursor) (take (r .cursor .used) (r .log))
@@ -91,6 +97,15 @@ keeping r = kept (r .state) (r .cursor) (take (r .cursor .used) (r .log))
 unfoldable pub after : Kept → List Request → Kept
 after k [] = k
 after k (q ∷ qs) = after (keeping (reply k q)) qs
+
+-- the definition's query, and what refusal 7 asks of its buffer, of length n, where the plan's words are ws
+unfoldable pub queryOf : Query → ℕ → calls.Query
+queryOf (reasonFor lit) n = calls.reasonFor (litGiven lit)
+queryOf lastLeft n = calls.lastLeft
+
+unfoldable pub bufferShort : Query → List ℕ → ℕ → Bool
+bufferShort (reasonFor lit) ws n = reasonShort ws n
+bufferShort lastLeft ws n = reasonShort ws n
 
 -- the definition's call for a request: what refusal 7 asks of the lengths of what is lent, but for the table, is the room
 unfoldable pub roomFor : List ℕ → ℕ → Bool → Bool
@@ -100,8 +115,7 @@ unfoldable pub callOf : Kept → Request → calls.Call
 callOf k (initialize t list tail) = calls.initialize (roomFor (k .state .plan) (length (logFor k tail)) (listShort (k .state .plan) (length list))) t
 callOf k (propagate lit pending t list tail) = calls.propagate (roomFor (k .state .plan) (length (logFor k tail)) (listShort (k .state .plan) (length list))) t (litGiven lit) (not (inRange (pos 0) pending))
 callOf k (undo lit tail) = calls.undo (not (logShort (k .state .plan) (length (logFor k tail)))) (litGiven lit)
-callOf k (calcReason lit b tail) = calls.calcReason (roomFor (k .state .plan) (length (logFor k tail)) (reasonShort (k .state .plan) (length b))) (litGiven lit)
-callOf k (calcLast b tail) = calls.calcLast (roomFor (k .state .plan) (length (logFor k tail)) (reasonShort (k .state .plan) (length b)))
+callOf k (ask q b tail) = calls.ask (roomFor (k .state .plan) (length (logFor k tail)) (bufferShort q (k .state .plan) (length b))) (queryOf q (length b))
 
 unfoldable pub callsOf : Kept → List Request → List calls.Call
 callsOf k [] = []

@@ -12,11 +12,11 @@ use Rattle.undo_log.specs.declared.Cursor.{Cursor}
 use Rattle.undo_log.specs.Log.{wordOf}
 use Rattle.graph_division.specs.declared.GraphDivision.{GraphDivision}
 use Rattle.graph_division.specs.declared.Outcome.{Outcome}
-use Rattle.graph_division.specs.Calls.{Called, Fetched, called, fetched, propagated, undone, reasonFetched, lastFetched}
+use Rattle.graph_division.specs.Calls.{Called, Fetched, called, fetched, propagated, undone}
 use Rattle.graph_division.specs.Initialize.{initialized}
-use Rattle.graph_division.specs.Runs.{Request, kept, Reply, replied, repliedCalled, repliedFetched, reply, after}
+use Rattle.graph_division.specs.Runs.{Request, kept, Reply, replied, repliedCalled, repliedFetched, asked, reply, after}
 use Rattle.graph_division.specs.Runs as flat
-use Rattle.record_calls.specs.Runs.{Kept, inWords, logWords, keeping, Made, initializes, propagates, undoes, fetches, fetchesLast, AllMade, none, next}
+use Rattle.record_calls.specs.Runs.{Kept, inWords, logWords, keeping, Made, initializes, propagates, undoes, asks, AllMade, none, next}
 
 map-take : (n : ℕ) (l : List Record) → map wordOf (take n l) ≡ take n (map wordOf l)
 map-take zero l = refl
@@ -43,14 +43,9 @@ module _ (k : Kept) where
         ∙ ap (λ (l : List ℕ). replied (undone (k .state) (k .cursor) lit l) [] [] l) (lent rest),
     keeps (r .state) (r .cursor) (k .records ++ rest),
   )
-  made-replies (fetches lit b b′ rest a e) = (
+  made-replies (asks q b b′ rest a e) = (
     ap (repliedFetched (inWords k) (logWords k rest)) e
-        ∙ ap (λ (l : List ℕ). repliedFetched (inWords k) l (reasonFetched (k .state) (k .cursor) l lit b)) (lent rest),
-    keeps (k .state) (k .cursor) (k .records ++ rest),
-  )
-  made-replies (fetchesLast b b′ rest a e) = (
-    ap (repliedFetched (inWords k) (logWords k rest)) e
-        ∙ ap (λ (l : List ℕ). repliedFetched (inWords k) l (lastFetched (k .state) (k .cursor) l b)) (lent rest),
+        ∙ ap (λ (l : List ℕ). repliedFetched (inWords k) l (asked (k .state) (k .cursor) l q b)) (lent rest),
     keeps (k .state) (k .cursor) (k .records ++ rest),
   )
 

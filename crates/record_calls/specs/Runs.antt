@@ -11,9 +11,9 @@ use Rattle.undo_log.specs.Log.{wordOf}
 use Rattle.graph_division.specs.declared.GraphDivision.{GraphDivision}
 use Rattle.graph_division.specs.declared.Outcome.{Outcome}
 use Rattle.graph_division.specs.declared.Answer.{Answer}
-use Rattle.graph_division.specs.Calls.{called, fetched, propagated, undone, reasonFetched, lastFetched}
+use Rattle.graph_division.specs.Calls.{called, fetched, propagated, undone}
 use Rattle.graph_division.specs.Initialize.{initialized}
-use Rattle.graph_division.specs.Runs.{Request, initialize, propagate, undo, calcReason, calcLast, kept, Reply, replied, repliedFetched}
+use Rattle.graph_division.specs.Runs.{Query, Request, initialize, propagate, undo, ask, kept, Reply, replied, repliedFetched, asked}
 use Rattle.graph_division.specs.Runs as flat
 
 -- what is kept from call to call: the state, the cursor, and the records up to it
@@ -44,10 +44,8 @@ pub data Made (k : Kept) : Request → Reply → Kept → Type 0 where
       Made k (propagate lit pending t list (map wordOf rest)) (replied r t′ list′ (map wordOf log′)) (keeping (r .state) (r .cursor) log′)
   undoes : (lit : ℤ) (rest : List Record) (r : Outcome) → r ≡ undone (k .state) (k .cursor) lit (logWords k rest) →
       Made k (undo lit (map wordOf rest)) (replied r [] [] (logWords k rest)) (keeping (r .state) (r .cursor) (k .records ++ rest))
-  fetches : (lit : ℤ) (b b′ : List ℕ) (rest : List Record) (a : Answer) → fetched a b′ ≡ reasonFetched (k .state) (k .cursor) (logWords k rest) lit b →
-      Made k (calcReason lit b (map wordOf rest)) (repliedFetched (inWords k) (logWords k rest) (fetched a b′)) (keeping (k .state) (k .cursor) (k .records ++ rest))
-  fetchesLast : (b b′ : List ℕ) (rest : List Record) (a : Answer) → fetched a b′ ≡ lastFetched (k .state) (k .cursor) (logWords k rest) b →
-      Made k (calcLast b (map wordOf rest)) (repliedFetched (inWords k) (logWords k rest) (fetched a b′)) (keeping (k .state) (k .cursor) (k .records ++ rest))
+  asks : (q : Query) (b b′ : List ℕ) (rest : List Record) (a : Answer) → fetched a b′ ≡ asked (k .state) (k .cursor) (logWords k rest) q b →
+      Made k (ask q b (map wordOf rest)) (repliedFetched (inWords k) (logWords k rest) (fetched a b′)) (keeping (k .state) (k .cursor) (k .records ++ rest))
 
 -- a list of them
 pub data AllMade : Kept → List Request → Kept → Type 0 where

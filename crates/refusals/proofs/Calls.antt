@@ -17,7 +17,7 @@ use Rattle.noting.specs.Standing.{notNewest}
 use Rattle.noting.specs.Buffers.{reasonShort}
 use Rattle.noting.proofs.Valid.{standingOf}
 use Rattle.calls.specs.Table.{knows, badTable, entered}
-use Rattle.calls.specs.Calls.{World, noted, Outcome, refuse, taken, adding, settled, Going, entry, propagateAll, finishBy, give, giveReason, onInitialize, onPropagate, onUndo, onCalcReason, onCalcLast}
+use Rattle.calls.specs.Calls.{World, Query, reasonFor, Answer, noted, refused, Outcome, refuse, taken, adding, settled, Going, entry, propagateAll, finishBy, giveReason, answerTo, tell, onInitialize, onPropagate, onUndo, onAsk}
 use Rattle.refusals.specs.Refusals.{stateBad, literalRefusal, initializeRefusal, propagateRefusal, undoRefusal, fetchRefusal}
 use Rattle.refusals.specs.Calls.{litGiven, tableRoom, stateRoom, fetchRoom, refusedOr, takenBack}
 use Rattle.refusals.proofs.Standing.{newest-is}
@@ -42,6 +42,12 @@ module _ (w : World) (t : List ℕ) (o : Outcome) where
   three-case k false true c e = refl
   three-case k false false c e = one-case k c e
 
+-- a query's answer behind a test
+told-case : (w : World) (b : Bool) (n : ℕ) (a : Answer) → tell w (pick b (refused n) a) ≡ pick b (refuse n w []) (tell w a)
+unfolding pick tell refuse
+told-case w true n a = refl
+told-case w false n a = refl
+
 -- 7 before a test that depends on the state
 then-case : (s h : Bool) (a b : Outcome) (w : World) → (s ≡ false → a ≡ b) → pick (not (not (s || h))) (refuse 7 w []) a ≡ refusedOr (pick (s || h) 7 0) w [] b
 unfolding pick refusedOr
@@ -64,17 +70,19 @@ module _ (ws : List ℕ) (ends : List (List ℕ)) (words log : List ℕ) (c : Cu
       two-case w t (finishBy d w t (all t) (all t .judgement)) 8 (not (tableRoom ws ends words n log c) || badTable d t) (w .done) refl
       ∙ sym (ap (λ (k : ℕ). refusedOr k w t (finishBy d w t (all t) (all t .judgement))) (initialize-is ws ends words log c w t n))
 
-  pub last-call : (n : ℕ) → onCalcLast w (fetchRoom ws ends words n log c) ≡ refusedOr (fetchRefusal ws ends words n log c) w [] (give w (w .last))
-  unfolding onCalcLast
-  last-call n = one-case w [] (give w (w .last)) 7 (not (fetchRoom ws ends words n log c)) refl ∙ sym (ap (λ (k : ℕ). refusedOr k w [] (give w (w .last))) (fetch-is ws ends words log c w n))
+  pub ask-call : (n : ℕ) (q : Query) → onAsk d w (fetchRoom ws ends words n log c) q ≡ refusedOr (fetchRefusal ws ends words n log c) w [] (tell w (answerTo d w q))
+  unfolding onAsk
+  ask-call n q =
+      told-case w (not (fetchRoom ws ends words n log c)) 7 _
+      ∙ one-case w [] (tell w (answerTo d w q)) 7 (not (fetchRoom ws ends words n log c)) refl ∙ sym (ap (λ (k : ℕ). refusedOr k w [] (tell w (answerTo d w q))) (fetch-is ws ends words log c w n))
 
   pub reason-call : (n : ℕ) (l : ℤ) →
-      onCalcReason d w (fetchRoom ws ends words n log c) (litGiven l)
-      ≡ refusedOr (fetchRefusal ws ends words n log c) w [] (refusedOr (literalRefusal ws l) w [] (giveReason d w (reasonOf (litGiven l) (w .reasons))))
-  unfolding onCalcReason fetchRoom fetchRefusal
-  reason-call n l = then-case (stateBad ws ends words log c) (reasonShort ws n) _ _ w (λ e.
-      one-case w [] (giveReason d w (reasonOf (litGiven l) (w .reasons))) 9 (not (knows d (litGiven l))) refl
-      ∙ sym (ap (λ (k : ℕ). refusedOr k w [] (giveReason d w (reasonOf (litGiven l) (w .reasons)))) (literal-is ws ends (state-proper ws ends words log c e) l)))
+      onAsk d w (fetchRoom ws ends words n log c) (reasonFor (litGiven l))
+      ≡ refusedOr (fetchRefusal ws ends words n log c) w [] (refusedOr (literalRefusal ws l) w [] (tell w (giveReason d w (reasonOf (litGiven l) (w .reasons)))))
+  unfolding onAsk answerTo fetchRoom fetchRefusal
+  reason-call n l = told-case w (not (fetchRoom ws ends words n log c)) 7 _ ∙ then-case (stateBad ws ends words log c) (reasonShort ws n) _ _ w (λ e.
+      told-case w (not (knows d (litGiven l))) 9 _ ∙ one-case w [] (tell w (giveReason d w (reasonOf (litGiven l) (w .reasons)))) 9 (not (knows d (litGiven l))) refl
+      ∙ sym (ap (λ (k : ℕ). refusedOr k w [] (tell w (giveReason d w (reasonOf (litGiven l) (w .reasons))))) (literal-is ws ends (state-proper ws ends words log c e) l)))
 
   module _ (s : w .standing ≡ standingOf (noting words log c)) (l : ℤ) where
     -- what is done with a literal that is not refused

@@ -18,8 +18,8 @@ use Rattle.noting.specs.Note.{noting}
 use Rattle.noting.specs.Buffers.{reasonShort}
 use Rattle.noting.proofs.Valid.{standingOf}
 use Rattle.calls.specs.Table.{knows, variables, tooHigh, badTable}
-use Rattle.calls.specs.Calls.{World, Call, initialize, propagate, undo, calcReason, calcLast, accepted, Outcome, refuse, give, call}
-use Rattle.calls.specs.Refusals.{roomOf, BadTable, Stops, at12, at13, at14, Applies, First}
+use Rattle.calls.specs.Calls.{World, Query, reasonFor, lastLeft, Call, initialize, propagate, undo, ask, accepted, Outcome, refuse, answerTo, tell, call}
+use Rattle.calls.specs.Refusals.{roomOf, BadTable, Stops, at12, at13, at14, AppliesTo, Applies, First}
 use Rattle.calls.proofs.Known.{known}
 use Rattle.calls.proofs.Refusals.{refusals, acceptances}
 use Rattle.refusals.specs.Refusals.{stateBad, literalRefusal, initializeRefusal, propagateRefusal, undoRefusal, fetchRefusal}
@@ -27,7 +27,7 @@ use Rattle.refusals.specs.Calls.{litGiven, tableRoom, stateRoom, fetchRo
 use Rattle.refusals.proofs.State.{state-proper}
 use Rattle.refusals.proofs.Numbers.{literal-is, initialize-is, fetch-is}
 use Rattle.refusals.proofs.Accepted.{pick-zero}
-use Rattle.refusals.proofs.Calls.{initialize-call, propagate-call, undo-call, reason-call, last-call}
+use Rattle.refusals.proofs.Calls.{initialize-call, propagate-call, undo-call, ask-call, reason-call}
 
 module _ (d : Plan) (w : World) (c : Call) where
   numbered : (n : ℕ) (t : List ℕ) (o : Outcome) → call d c w ≡ refusedOr n w t o → 0 < n → First d w c n
@@ -74,12 +74,12 @@ initialize-clear r b n h (Applies.stopsLater room t a l ls k g x y) = absurd (le
 initialize-clear r b n h (Applies.crossedLast room t a g x) = absurd (omega arith)
 initialize-clear r b n h (Applies.zeroLast room t a g x) = absurd (omega arith)
 
-reason-clear : {d : Plan} {w : World} {room : Bool} {l : ℕ} {m : ℕ} → room ≡ true → knows d l ≡ true → m ≤ 9 → Applies d w (calcReason room l) m → ⊥
+reason-clear : {d : Plan} {w : World} {room : Bool} {l : ℕ} {m : ℕ} → room ≡ true → knows d l ≡ true → m ≤ 9 → Applies d w (ask room (reasonFor l)) m → ⊥
 unfolding roomOf
 reason-clear r k h (Applies.noRoom c e) = true≢false (sym r ∙ e)
-reason-clear {d = d} r k h (Applies.unknownReason room l x) = x (known d l k)
-reason-clear r k h (Applies.noReason room l x) = absurd (omega arith)
-reason-clear r k h (Applies.pathGone room l x y z) = absurd (omega arith)
+reason-clear {d = d} r k h (Applies.ofQuery room q n (AppliesTo.unknownReason l x)) = x (known d l k)
+reason-clear r k h (Applies.ofQuery room q n (AppliesTo.noReason l x)) = absurd (omega arith)
+reason-clear r k h (Applies.ofQuery room q n (AppliesTo.pathGone l x y z)) = absurd (omega arith)
 
 module _ (ws : List ℕ) (ends : List (List ℕ)) (words log : List ℕ) (c : Cursor) (w : World) where
   abbrev d : Plan
@@ -97,26 +97,23 @@ module _ (ws : List ℕ) (ends : List (List ℕ)) (words log : List ℕ) (c : Cu
       let (r, b) = or-none (not (tableRoom ws ends words n log c)) (badTable d t) x in
       initialize-clear (not-false _ r) b (pick-zero (w .done) 8 0 (omega arith) y .0) h a
 
-  pub last-first : (n : ℕ) → 0 < fetchRefusal ws ends words n log c → First d w (calcLast (fetchRoom ws ends words n log c)) (fetchRefusal ws ends words n log c)
+  -- a query that is lent a reason buffer
+  pub ask-first : (n : ℕ) (q : Query) → 0 < fetchRefusal ws ends words n log c → First d w (ask (fetchRoom ws ends words n log c) q) (fetchRefusal ws ends words n log c)
   unfolding call
-  last-first n h = numbered d w (calcLast (fetchRoom ws ends words n log c)) _ [] _ (last-call ws ends words log c w n) h
+  ask-first n q h = numbered d w (ask (fetchRoom ws ends words n log c) q) _ [] _ (ask-call ws ends words log c w n q) h
 
-  pub last-none : (n : ℕ) → fetchRefusal ws ends words n log c ≡ 0 → (m : ℕ) → Applies d w (calcLast (fetchRoom ws ends words n log c)) m → ⊥
-  unfolding call give accepted
-  last-none n z = cleared d w (calcLast (fetchRoom ws ends words n log c)) _ [] _ (last-call ws ends words log c w n) z refl
-
-  pub reason-first : (n : ℕ) (l : ℤ) → 0 < fetchRefusal ws ends words n log c → First d w (calcReason (fetchRoom ws ends words n log c) (litGiven l)) (fetchRefusal ws ends words n log c)
-  unfolding call
-  reason-first n l h = numbered d w (calcReason (fetchRoom ws ends words n log c) (litGiven l)) _ [] _ (reason-call ws ends words log c w n l) h
+  pub last-none : (n : ℕ) → fetchRefusal ws ends words n log c ≡ 0 → (m : ℕ) → Applies d w (ask (fetchRoom ws ends words n log c) lastLeft) m → ⊥
+  unfolding call answerTo tell accepted
+  last-none n z = cleared d w (ask (fetchRoom ws ends words n log c) lastLeft) _ [] _ (ask-call ws ends words log c w n lastLeft) z refl
 
   -- a fetch by literal whose buffers pass
-  pub reason-unknown : (n : ℕ) (l : ℤ) → fetchRefusal ws ends words n log c ≡ 0 → 0 < literalRefusal ws l → First d w (calcReason (fetchRoom ws ends words n log c) (litGiven l)) (literalRefusal ws l)
+  pub reason-unknown : (n : ℕ) (l : ℤ) → fetchRefusal ws ends words n log c ≡ 0 → 0 < literalRefusal ws l → First d w (ask (fetchRoom ws ends words n log c) (reasonFor (litGiven l))) (literalRefusal ws l)
   unfolding call refusedOr
-  reason-unknown n l z h = numbered d w (calcReason (fetchRoom ws ends words n log c) (litGiven l)) _ [] _ (reason-call ws ends words log c w n l ∙ pick-yes _ _ (eq-eqb (fetchRefusal ws ends words n log c) 0 z)) h
+  reason-unknown n l z h = numbered d w (ask (fetchRoom ws ends words n log c) (reasonFor (litGiven l))) _ [] _ (reason-call ws ends words log c w n l ∙ pick-yes _ _ (eq-eqb (fetchRefusal ws ends words n log c) 0 z)) h
 
   -- where both are 0, none up to 9 applies; 15 and 16 are left to the work
   pub reason-none : (n : ℕ) (l : ℤ) → fetchRefusal ws ends words n log c ≡ 0 → literalRefusal ws l ≡ 0 →
-      (m : ℕ) → m ≤ 9 → Applies d w (calcReason (fetchRoom ws ends words n log c) (litGiven l)) m → ⊥
+      (m : ℕ) → m ≤ 9 → Applies d w (ask (fetchRoom ws ends words n log c) (reasonFor (litGiven l))) m → ⊥
   unfolding fetchRefusal
   reason-none n l z y m h a =
       let r = pick-zero (not (fetchRoom ws ends words n log c)) 7 0 (omega arith) (sym (fetch-is ws ends words log c w n) ∙ z) .0 in

@@ -1,7 +1,7 @@
--- Both fetches do what the definition says.
+-- Every query does what the definition says.
 use mathlib.Core.Path.{_≡_, refl, sym, ap, ap₂, subst, _∙_}
 use mathlib.Core.Logic.{_⊎_, inl, inr, ⊎-elim}
-use mathlib.Core.Bool.{true, false}
+use mathlib.Core.Bool.{Bool, true, false, not}
 use mathlib.Core.List.{List, [], _∷_}
 use Prim.Native.Nat.{ℕ, zero, suc, _+_, _*_, _≤_}
 use native.Mathlib.Omega.{arith}
@@ -47,15 +47,17 @@ use Rattle.calls.proofs.Alike.{gone-same}
 use Rattle.refusals.specs.Refusals.{litNumber, literalRefusal, fetchRefusal}
 use Rattle.refusals.specs.Calls.{litGiven, fetchRoom, refusedOr}
 use Rattle.refusals.proofs.Accepted.{KnownLit, literal-accepted, fetch-accepted}
-use Rattle.refusals.proofs.Calls.{last-call, reason-call}
+use Rattle.refusals.proofs.Calls.{ask-call, reason-call}
 use Rattle.graph_division.specs.declared.GraphDivision.{GraphDivision}
 use Rattle.graph_division.specs.declared.Answer.the-variants as answer
 use Rattle.graph_division.specs.Calls.{Fetched, fetched, copied, reasonGiven, isNone, lastFetched, recordedFor, listFor, giving, reasonFetched}
+use Rattle.graph_division.specs.Runs.{Query, reasonFor, lastLeft, asked, queryOf, bufferShort}
 use Rattle.graph_division.specs.Outcomes.{answerFor, answerOf}
 use Rattle.simulation.proofs.Represents.{planIn, Represents}
 use Rattle.simulation.proofs.Looked.{tab-take}
+use Rattle.simulation.proofs.Rooms.{fetch-room}
 
--- a fetch on state, log and cursor; the definition's outcome is o
+-- a query on state, log and cursor; the definition's outcome is o
 pub record SimulatesFetched (s : GraphDivision) (log : List ℕ) (c : Cursor) (before : List ℕ) (x : Fetched) (o : calls.Outcome) : Type 0 where
   pub answer : x .answer ≡ answerOf o
   -- the list stands whole from the buffer's start on, all else of it stays
@@ -104,8 +106,8 @@ module _ (s : GraphDivision) (log : List ℕ) (c : Cursor) (w : World) (r : Repr
   unfolding calls.refuse answerOf answerFor listIn
   refused n = record { answer = refl; buffer = refl; whole = refl; represents = r }
 
-  gives : (m : List ℕ) → length m ≤ length b → SimulatesFetched s log c b (fetched (answer.Reason (length m)) (sets b 0 m)) (calls.give w m)
-  unfolding calls.give answerOf answerFor listIn
+  gives : (m : List ℕ) → length m ≤ length b → SimulatesFetched s log c b (fetched (answer.Reason (length m)) (sets b 0 m)) (calls.tell w (calls.reason m))
+  unfolding calls.tell answerOf answerFor listIn
   gives m h = record { answer = refl; buffer = refl; whole = list-taken m b h; represents = r }
 
   buffer-long : number ≡ 0 → edgesOf ws + 2 * verticesOf ws + 4 ≤ length b
@@ -115,10 +117,10 @@ module _ (s : GraphDivision) (log : List ℕ) (c : Cursor) (w : World) (r : Repr
   last-short : length (w .last) ≤ edgesOf ws + 2 * verticesOf ws + 4
   last-short = omega (arith, r .fits, ap length (r .last), tab-length (word (s .last)) (s .«last_len»))
 
-  pub last-simulated : SimulatesFetched s log c b (lastFetched s c log b) (calls.onCalcLast w (fetchRoom ws ends (s .noted) (length b) log c))
-  unfolding lastFetched refusedOr
+  pub last-simulated : SimulatesFetched s log c b (lastFetched s c log b) (calls.onAsk (planIn s) w (fetchRoom ws ends (s .noted) (length b) log c) calls.lastLeft)
+  unfolding lastFetched refusedOr calls.answerTo
   last-simulated =
-      let f = last-call ws ends (s .noted) log c w (length b) in
+      let f = ask-call ws ends (s .noted) log c w (length b) calls.lastLeft in
       tested (eqb number 0)
       (λ t.
       let h : length (w .last) ≤ length b = omega (arith, last-short, buffer-long (eqb-true number 0 t)) in
@@ -148,7 +150,7 @@ module _ (s : GraphDivision) (log : List ℕ) (c : Cursor) (w : World) (r : Repr
           refl (refused 16)
 
       is-there : gone (planIn s) (noteAll (planIn s) (w .standing)) q ≡ false →
-          SimulatesFetched s log c b (reasonGiven (listFor s why .text) (listFor s why .listed) b) (calls.give w (runs.fetched (planIn s) (w .standing) q))
+          SimulatesFetched s log c b (reasonGiven (listFor s why .text) (listFor s why .listed) b) (calls.tell w (calls.reason (runs.fetched (planIn s) (w .standing) q)))
       unfolding listFor reasonGiven
       is-there t =
           let k = gone-same (planIn s) (proper-plan ws ends (r .proper)) _ _ same q ∙ t in
@@ -159,7 +161,7 @@ module _ (s : GraphDivision) (log : List ℕ) (c : Cursor) (w : World) (r : Repr
           fetched-by
           (ap (λ (a : walks.Answer). reasonGiven (a .text) (a .listed) b) (reason-listed ws ends (s .noted) held why q blank m i k ∙ given-whole list (replicate 260 0) h)
           ∙ copied-is (sets (replicate 260 0) 0 list) list b (length list) (tab-take (length list) _ (omega (arith, length-sets (replicate {A = ℕ} 260 0) 0 list)) ∙ list-taken list (replicate 260 0) h) h′)
-          (ap (calls.give w) (sym (list-same (planIn s) (proper-plan ws ends (r .proper)) _ _ same q (within-names (planIn s) q i))))
+          (ap (λ (m : List ℕ). calls.tell w (calls.reason m)) (sym (list-same (planIn s) (proper-plan ws ends (r .proper)) _ _ same q (within-names (planIn s) q i))))
           (gives list h′)
 
     module _ (lit : ℤ) (k : KnownLit ws lit) where
@@ -172,19 +174,22 @@ module _ (s : GraphDivision) (log : List ℕ) (c : Cursor) (w : World) (r : Repr
           let (h, u) = place-back ws ends (r .proper) (litNumber lit) (k .is-known) in
           r .reasons (placeOfLit ws (litNumber lit)) h ∙ ap (λ (l : ℕ). runs.reasonOf l (w .reasons)) (u ∙ k .number)
 
-      given-reason : SimulatesFetched s log c b (giving s why b) (calls.giveReason (planIn s) w (runs.reasonOf (litGiven lit) (w .reasons)))
-      unfolding giving calls.giveReason
+      told : {a b : List abstract.Reason} → a ≡ b → calls.tell w (calls.giveReason (planIn s) w a) ≡ calls.tell w (calls.giveReason (planIn s) w b)
+      told e = ap (λ (rs : List abstract.Reason). calls.tell w (calls.giveReason (planIn s) w rs)) e
+
+      given-reason : SimulatesFetched s log c b (giving s why b) (calls.tell w (calls.giveReason (planIn s) w (runs.reasonOf (litGiven lit) (w .reasons))))
+      unfolding giving calls.giveReason calls.tell calls.refuse
       given-reason = ⊎-elim
-          (λ (n, t). fetched-by (pick-yes _ _ t) (ap (calls.giveReason (planIn s) w) (sym newest ∙ n)) (refused 15))
+          (λ (n, t). fetched-by (pick-yes _ _ t) (told (sym newest ∙ n)) (refused 15))
           (λ (q, m, t).
           let i : Within (planIn s) q = each-found (litGiven lit) q (w .reasons) (r .within) (sym newest ∙ m) in
-          let f = ap (calls.giveReason (planIn s) w) (sym newest ∙ m) in
+          let f = told (sym newest ∙ m) in
           tested (gone (planIn s) (noteAll (planIn s) (w .standing)) q)
-          (λ g. fetched-by (pick-no _ _ t) (f ∙ pick-yes _ _ g) (is-gone why q m i g))
-          (λ g. fetched-by (pick-no _ _ t) (f ∙ pick-no _ _ g) (is-there why q m i g)))
+          (λ g. fetched-by (pick-no _ _ t) (f ∙ ap (calls.tell w) (pick-yes _ _ g)) (is-gone why q m i g))
+          (λ g. fetched-by (pick-no _ _ t) (f ∙ ap (calls.tell w) (pick-no _ _ g)) (is-there why q m i g)))
           (one-reason why)
 
-  pub reason-simulated : (lit : ℤ) → SimulatesFetched s log c b (reasonFetched s c log lit b) (calls.onCalcReason (planIn s) w (fetchRoom ws ends (s .noted) (length b) log c) (litGiven lit))
+  pub reason-simulated : (lit : ℤ) → SimulatesFetched s log c b (reasonFetched s c log lit b) (calls.onAsk (planIn s) w (fetchRoom ws ends (s .noted) (length b) log c) (calls.reasonFor (litGiven lit)))
   unfolding reasonFetched refusedOr
   reason-simulated lit =
       let f = reason-call ws ends (s .noted) log c w (length b) lit in
@@ -193,3 +198,13 @@ module _ (s : GraphDivision) (log : List ℕ) (c : Cursor) (w : World) (r : Repr
       (λ u. fetched-by (pick-yes _ _ t ∙ pick-yes _ _ u) (f ∙ pick-yes _ _ t ∙ pick-yes _ _ u) (given-reason (eqb-true number 0 t) lit (literal-accepted ws lit (eqb-true (literalRefusal ws lit) 0 u))))
       (λ u. fetched-by (pick-yes _ _ t ∙ pick-no _ _ u) (f ∙ pick-yes _ _ t ∙ pick-no _ _ u) (refused (literalRefusal ws lit))))
       (λ t. fetched-by (pick-no _ _ t) (f ∙ pick-no _ _ t) (refused number))
+
+  -- a query that is lent a reason buffer: of what refusal 7 asks, only its length is left
+  by-length : (x : Fetched) (q : calls.Query) → SimulatesFetched s log c b x (calls.onAsk (planIn s) w (fetchRoom ws ends (s .noted) (length b) log c) q) →
+      SimulatesFetched s log c b x (calls.onAsk (planIn s) w (not (reasonShort ws (length b))) q)
+  by-length x q h = subst (λ (room : Bool). SimulatesFetched s log c b x (calls.onAsk (planIn s) w room q)) (fetch-room s log c w r (length b)) h
+
+  pub asked-simulated : (q : Query) → SimulatesFetched s log c b (asked s c log q b) (calls.onAsk (planIn s) w (not (bufferShort q ws (length b))) (queryOf q (length b)))
+  unfolding asked bufferShort queryOf
+  asked-simulated (reasonFor lit) = by-length _ _ (reason-simulated lit)
+  asked-simulated lastLeft = by-length _ _ last-simulated

@@ -40,14 +40,14 @@ use Rattle.graph_division.specs.declared.Answer.the-variants as answer
 use Rattle.graph_division.specs.New.{built}
 use Rattle.graph_division.specs.Calls.{Called, called, refuse, propagated, undone, Fetched, fetched, lastFetched, reasonFetched}
 use Rattle.graph_division.specs.Initialize.{initialized}
-use Rattle.graph_division.specs.Runs.{Request, initialize, propagate, undo, calcReason, calcLast, tableOf, listOf, Kept, kept, logFor, Reply, replied, repliedCalled, repliedFetched, reply, keeping, after, roomFor, callOf, callsOf}
+use Rattle.graph_division.specs.Runs.{Query, reasonFor, lastLeft, Request, initialize, propagate, undo, ask, tableOf, listOf, Kept, kept, logFor, Reply, replied, repliedCalled, repliedFetched, asked, reply, keeping, after, roomFor, queryOf, bufferShort, callOf, callsOf}
 use Rattle.graph_division.specs.Outcomes.{answerFor, answerOf}
 use Rattle.simulation.proofs.Represents.{planIn, Represents, Simulates, SimulatesCalled}
-use Rattle.simulation.proofs.Rooms.{state-room, table-room, fetch-room}
+use Rattle.simulation.proofs.Rooms.{state-room, table-room}
 use Rattle.simulation.proofs.Undoing.{undo-simulated}
 use Rattle.simulation.proofs.Propagating.{propagate-simulated}
 use Rattle.simulation.proofs.Starting.{initialize-simulated}
-use Rattle.simulation.proofs.Fetching.{SimulatesFetched, last-simulated, reason-simulated}
+use Rattle.simulation.proofs.Fetching.{SimulatesFetched, asked-simulated}
 use Rattle.simulation.proofs.Building.{new-represents}
 
 or-true : (b : Bool) → (b || true) ≡ true
@@ -115,8 +115,7 @@ unfoldable pub valuesFor : Request → calls.Outcome → List ℕ
 valuesFor (initialize t list tail) o = o .handed
 valuesFor (propagate lit pending t list tail) o = o .handed
 valuesFor (undo lit tail) o = []
-valuesFor (calcReason lit b tail) o = listIn (o .answer)
-valuesFor (calcLast b tail) o = listIn (o .answer)
+valuesFor (ask q b tail) o = listIn (o .answer)
 
 -- reply y to a request is that of the definition's call, with outcome o
 pub record Replies (k : Kept) (q : Request) (y : Reply) (o : calls.Outcome) : Type 0 where
@@ -196,21 +195,21 @@ module _ (k : Kept) (w : World) (r : RepresentsKept k w) where
     unfolding fetchRefusal
     fetch-seven n = pick-yes _ _ (ap (λ (b : Bool). b || reasonShort (k .state .plan) n) bad)
 
-    short-reason : (lit : ℤ) (b : List ℕ) → Replies k (calcReason lit b tail) (reply k (calcReason lit b tail)) (calls.call d (callOf k (calcReason lit b tail)) w)
-    unfolding reply callOf calls.call repliedFetched reasonFetched tableOf listOf valuesFor listIn calls.onCalcReason calls.refuse replied refuse
-    short-reason lit b =
-        let n = fetch-seven (length b) in
-        turned-away (calcReason lit b tail) refl _
-        (ap (repliedFetched k (logFor k tail)) (pick-no _ _ (seven _ n) ∙ ap (λ (m : ℕ). fetched (answer.Refused m) b) n)) _
-        (pick-yes _ _ (ap not (no-room (reasonShort (k .state .plan) (length b)))))
+    fetch-short : (b : List ℕ) (x : Fetched) →
+        let n = fetchRefusal (k .state .plan) (k .state .edges .ends) (k .state .noted) (length b) (logFor k tail) (k .cursor) in
+        pick (eqb n 0) x (fetched (answer.Refused n) b) ≡ fetched (answer.Refused 7) b
+    fetch-short b x = let n = fetch-seven (length b) in pick-no _ _ (seven _ n) ∙ ap (λ (m : ℕ). fetched (answer.Refused m) b) n
 
-    short-last : (b : List ℕ) → Replies k (calcLast b tail) (reply k (calcLast b tail)) (calls.call d (callOf k (calcLast b tail)) w)
-    unfolding reply callOf calls.call repliedFetched lastFetched tableOf listOf valuesFor listIn calls.onCalcLast calls.refuse replied refuse
-    short-last b =
-        let n = fetch-seven (length b) in
-        turned-away (calcLast b tail) refl _
-        (ap (repliedFetched k (logFor k tail)) (pick-no _ _ (seven _ n) ∙ ap (λ (m : ℕ). fetched (answer.Refused m) b) n)) _
-        (pick-yes _ _ (ap not (no-room (reasonShort (k .state .plan) (length b)))))
+    asked-short : (q : Query) (b : List ℕ) → asked (k .state) (k .cursor) (logFor k tail) q b ≡ fetched (answer.Refused 7) b
+    unfolding asked reasonFetched lastFetched
+    asked-short (reasonFor lit) b = fetch-short b _
+    asked-short lastLeft b = fetch-short b _
+
+    short-ask : (q : Query) (b : List ℕ) → Replies k (ask q b tail) (reply k (ask q b tail)) (calls.call d (callOf k (ask q b tail)) w)
+    unfolding reply callOf calls.call repliedFetched tableOf listOf valuesFor listIn calls.onAsk calls.tell calls.refuse replied refuse
+    short-ask q b =
+        turned-away (ask q b tail) refl _ (ap (repliedFetched k (logFor k tail)) (asked-short q b)) _
+        (ap (calls.tell w) (pick-yes _ _ (ap not (no-room (bufferShort q (k .state .plan) (length b))))))
 
   -- a call that is lent a log that is long enough is the definition's, by its own theorem
   module _ (tail : List ℕ) (long : logShort (k .state .plan) (length (logFor k tail)) ≡ false) where
@@ -231,18 +230,6 @@ module _ (k : Kept) (w : World) (r : RepresentsKept k w) where
       table = h .table;
       list = h .list ∙ ap₂ (λ (a b : List ℕ). sets a 0 b) (sym e) (sym f);
       whole = subst (λ (l : List ℕ). take (length l) (x .list) ≡ l) (sym f) (ap (take (length (o .handed))) (h .list) ∙ list-taken (o .handed) list (h .fits));
-    }
-
-    by-fetched : (b : List ℕ) (q : Request) (x : Fetched) (o : calls.Outcome) → listOf q ≡ b → valuesFor q o ≡ listIn (o .answer) → o .table ≡ [] → SimulatesFetched (k .state) (logFor k tail) (k .cursor) b x o → Replies k q (repliedFetched k (logFor k tail) x) o
-    unfolding repliedFetched keeping
-    by-fetched b q x o e f t h = record {
-      answer = h .answer;
-      keeps = keeps-represents (k .state) (logFor k tail) (k .cursor) (o .world) (h .represents);
-      plan = refl;
-      edges = refl;
-      table = sym t;
-      list = h .buffer ∙ ap₂ (λ (x y : List ℕ). sets x 0 y) (sym e) (sym f);
-      whole = subst (λ (l : List ℕ). take (length l) (x .buffer) ≡ l) (sym f) (h .whole);
     }
 
     long-initialize : (t list : List ℕ) → Replies k (initialize t list tail) (reply k (initialize t list tail)) (calls.call d (callOf k (initialize t list tail)) w)
@@ -276,29 +263,27 @@ module _ (k : Kept) (w : World) (r : RepresentsKept k w) where
           whole = refl;
         }
 
-    long-reason : (lit : ℤ) (b : List ℕ) → Replies k (calcReason lit b tail) (reply k (calcReason lit b tail)) (calls.call d (callOf k (calcReason lit b tail)) w)
-    unfolding reply callOf calls.call calls.tableOf listOf valuesFor
-    long-reason lit b =
-        by-fetched b (calcReason lit b tail) _ _ refl refl (no-table d w (calls.calcReason (roomFor (k .state .plan) (length (logFor k tail)) (reasonShort (k .state .plan) (length b))) (litGiven lit)) refl)
-        (subst (λ (x : Bool). SimulatesFetched (k .state) (logFor k tail) (k .cursor) b (reasonFetched (k .state) (k .cursor) (logFor k tail) lit b) (calls.onCalcReason d w x (litGiven lit)))
-        (fetch-room (k .state) (logFor k tail) (k .cursor) w rep (length b) ∙ sym (room-is (reasonShort (k .state .plan) (length b))))
-        (reason-simulated (k .state) (logFor k tail) (k .cursor) w rep b lit))
-
-    long-last : (b : List ℕ) → Replies k (calcLast b tail) (reply k (calcLast b tail)) (calls.call d (callOf k (calcLast b tail)) w)
-    unfolding reply callOf calls.call calls.tableOf listOf valuesFor
-    long-last b =
-        by-fetched b (calcLast b tail) _ _ refl refl (no-table d w (calls.calcLast (roomFor (k .state .plan) (length (logFor k tail)) (reasonShort (k .state .plan) (length b)))) refl)
-        (subst (λ (x : Bool). SimulatesFetched (k .state) (logFor k tail) (k .cursor) b (lastFetched (k .state) (k .cursor) (logFor k tail) b) (calls.onCalcLast w x))
-        (fetch-room (k .state) (logFor k tail) (k .cursor) w rep (length b) ∙ sym (room-is (reasonShort (k .state .plan) (length b))))
-        (last-simulated (k .state) (logFor k tail) (k .cursor) w rep b))
+    long-ask : (q : Query) (b : List ℕ) → Replies k (ask q b tail) (reply k (ask q b tail)) (calls.call d (callOf k (ask q b tail)) w)
+    unfolding reply callOf calls.call calls.onAsk calls.tell listOf valuesFor repliedFetched keeping
+    long-ask q b =
+        let h = subst (λ (x : Bool). SimulatesFetched (k .state) (logFor k tail) (k .cursor) b (asked (k .state) (k .cursor) (logFor k tail) q b) (calls.onAsk d w x (queryOf q (length b))))
+        (sym (room-is (bufferShort q (k .state .plan) (length b)))) (asked-simulated (k .state) (logFor k tail) (k .cursor) w rep b q) in
+        record {
+          answer = h .answer;
+          keeps = keeps-represents (k .state) (logFor k tail) (k .cursor) w rep;
+          plan = refl;
+          edges = refl;
+          table = refl;
+          list = h .buffer;
+          whole = h .whole;
+        }
 
   -- the reply to any request is that of the definition's call
   pub reply-is : (q : Request) → Replies k q (reply k q) (calls.call d (callOf k q) w)
   reply-is (initialize t list tail) = tested (logShort (k .state .plan) (length (logFor k tail))) (λ e. short-initialize tail e t list) (λ e. long-initialize tail e t list)
   reply-is (propagate lit pending t list tail) = tested (logShort (k .state .plan) (length (logFor k tail))) (λ e. short-propagate tail e lit pending t list) (λ e. long-propagate tail e lit pending t list)
   reply-is (undo lit tail) = tested (logShort (k .state .plan) (length (logFor k tail))) (λ e. short-undo tail e lit) (λ e. long-undo tail e lit)
-  reply-is (calcReason lit b tail) = tested (logShort (k .state .plan) (length (logFor k tail))) (λ e. short-reason tail e lit b) (λ e. long-reason tail e lit b)
-  reply-is (calcLast b tail) = tested (logShort (k .state .plan) (length (logFor k tail))) (λ e. short-last tail e b) (λ e. long-last tail e b)
+  reply-is (ask q b tail) = tested (logShort (k .state .plan) (length (logFor k tail))) (λ e. short-ask tail e q b) (λ e. long-ask tail e q b)
 
 -- from h to k, the world then; the plan stays
 pub record Leads (h k : Kept) (w : World) : Type 0 where
