@@ -16,7 +16,7 @@ use Rattle.plan.specs.Words.{edgesOf, variablesOf, slotsOf, litOf, placeOf, pos
 use Rattle.plan.specs.Check.{usedSlot}
 use Rattle.plan.specs.Proper.{Filed, Listed, ProperWords}
 use Rattle.noting.specs.declared.note.Span.{Span}
-use Rattle.noting.specs.Note.{Noting, noteSlot, levelPushed, halved, placeIn, known, noteAt, note, isOf, noteLit}
+use Rattle.noting.specs.Note.{Noting, noteSlot, levelPushed, halved, searchedIn, placeFromFirst, placeFromLast, isAt, placeIn, known, noteAt, note, isOf, noteLit}
 use Rattle.noting.proofs.Rising.{rises, rises-once, locate, loop-over}
 
 -- 2 to the power m
@@ -88,9 +88,19 @@ module _ (ws : List ℕ) (ends : List (List ℕ)) (p : ProperWords ws ends) wher
         (record { low = omega arith; high = omega arith; last = omega arith; small = omega (arith, p .few .0) })
     around (suc i) m e = halve-around i m _ (around i (suc m) (omega arith))
 
+    search-found : searchedIn ws (variableAt ws k) ≡ k
+    unfolding searchedIn pow
+    search-found = let a = around 12 0 refl in omega (arith, a .low, a .high, a .small)
+
+    -- a place that has the variable is its place
+    looked : (j : ℕ) → isAt ws j (variableAt ws k) ≡ true → j ≡ k
+    looked j e = one-place j k (ltb-true _ _ (and-left _ _ e)) h (eqb-true _ _ (and-right (ltb j (variablesOf ws)) _ e))
+
     pub place-found : placeIn ws (variableAt ws k) ≡ k
-    unfolding placeIn pow
-    place-found = let a = around 12 0 refl in omega (arith, a .low, a .high, a .small)
+    unfolding placeIn
+    place-found =
+        pick-ind (λ (j : ℕ). j ≡ k) (isAt ws (placeFromFirst ws (variableAt ws k)) (variableAt ws k)) _ _ (looked _)
+        (λ _. pick-ind (λ (j : ℕ). j ≡ k) (isAt ws (placeFromLast ws (variableAt ws k)) (variableAt ws k)) _ _ (looked _) (λ _. search-found))
 
     pub is-known : known ws (variableAt ws k) ≡ true
     unfolding known
@@ -157,3 +167,15 @@ module _ (ws : List ℕ) (ends : List (List ℕ)) (p : ProperWords ws ends) wher
       pick-ind (λ (y : Noting). y ≡ iter (λ s y. pick (isOf ws (l / 2) s) (noteSlot ws l s y) y) 2176 (levelPushed l x)) (known ws (l / 2)) _ _
       (λ t. noted-at (placeIn ws (l / 2)) (ltb-true _ _ (and-left _ _ t)) l (levelPushed l x) (eqb-true _ _ (and-right (ltb (placeIn ws (l / 2)) (variablesOf ws)) _ t)))
       (λ t. sym (idle-loop (λ s y. noteSlot ws l s y) (isOf ws (l / 2)) 2176 (levelPushed l x) (λ s. unknown-none (l / 2) s t)))
+
+  -- looking first finds no other place than searching alone
+  pub place-searched : (x : ℕ) → placeIn ws x ≡ searchedIn ws x
+  unfolding placeIn
+  place-searched x =
+      pick-ind (λ (j : ℕ). j ≡ searchedIn ws x) (isAt ws (placeFromFirst ws x) x) _ _ (found _)
+      (λ _. pick-ind (λ (j : ℕ). j ≡ searchedIn ws x) (isAt ws (placeFromLast ws x) x) _ _ (found _) (λ _. refl))
+    where
+      found : (j : ℕ) → isAt ws j x ≡ true → j ≡ searchedIn ws x
+      found j e =
+          let v : variableAt ws j ≡ x = eqb-true _ _ (and-right (ltb j (variablesOf ws)) _ e) in
+          sym (search-found j (ltb-true _ _ (and-left _ _ e))) ∙ ap (searchedIn ws) v

@@ -1,5 +1,5 @@
 -- The search in the distinct variables: its steps over plain variables.
-use mathlib.Core.Path.{_≡_, refl, sym, ap, _∙_}
+use mathlib.Core.Path.{_≡_, refl, sym, ap, ap₂, _∙_}
 use mathlib.Core.Bool.{Bool, true, false}
 use mathlib.Core.List.{List}
 use Prim.Native.Nat.{ℕ, zero, suc, _+_, _-_, _*_, _/_, _≤_, _<_}
@@ -10,7 +10,7 @@ use Rattle.base.specs.Iter.{iter, pick}
 use Rattle.base.proofs.Loop.{pick-ind, pick-yes, pick-no}
 use Rattle.plan.specs.Words.{variablesOf, variableAt}
 use Rattle.noting.specs.declared.note.Span.{Span}
-use Rattle.noting.specs.Note.{halved}
+use Rattle.noting.specs.Note.{halved, searchedIn, placeFromFirst, placeFromLast, isAt, placeIn}
 
 module _ (ws : List ℕ) (x i : ℕ) (p : Span) where
   abbrev mid : ℕ
@@ -39,3 +39,23 @@ module _ (ws : List ℕ) (x i : ℕ) (p : Span) where
       (λ e. let k = ltb-true (p .low) (p .high) e in
       pick-ind (λ (q : Span). (q .low ≤ m) × (q .high ≤ m)) (ltb (variableAt ws mid) x) _ _ (λ _. (omega arith, h .1)) (λ _. (h .0, omega arith)))
       (λ _. h)
+
+module _ (ws : List ℕ) (x a b : ℕ) (first : a ≡ placeFromFirst ws x) (last : b ≡ placeFromLast ws x) where
+  pub place-first : isAt ws a x ≡ true → a ≡ placeIn ws x
+  unfolding placeIn
+  place-first t = first ∙ sym (pick-yes _ _ (ap (λ (k : ℕ). isAt ws k x) (sym first) ∙ t))
+
+  pub place-last : isAt ws a x ≡ false → isAt ws b x ≡ true → b ≡ placeIn ws x
+  unfolding placeIn
+  place-last f t =
+      last ∙ sym (pick-no _ _ (ap (λ (k : ℕ). isAt ws k x) (sym first) ∙ f) ∙ pick-yes _ _ (ap (λ (k : ℕ). isAt ws k x) (sym last) ∙ t))
+
+  pub place-halved : isAt ws a x ≡ false → isAt ws b x ≡ false → searchedIn ws x ≡ placeIn ws x
+  unfolding placeIn
+  place-halved f g = sym (pick-no _ _ (ap (λ (k : ℕ). isAt ws k x) (sym first) ∙ f) ∙ pick-no _ _ (ap (λ (k : ℕ). isAt ws k x) (sym last) ∙ g))
+
+pub from-last : (ws : List ℕ) (x n last at back : ℕ) → n ≡ variablesOf ws → last ≡ n - 1 → at ≡ variableAt ws last → back ≡ at - x → last - back ≡ placeFromLast ws x
+from-last ws x n last at back hn hl ha hb =
+    let e : last ≡ variablesOf ws - 1 = hl ∙ ap (λ (i : ℕ). i - 1) hn in
+    let f : back ≡ variableAt ws (variablesOf ws - 1) - x = hb ∙ ap (λ (i : ℕ). i - x) (ha ∙ ap (variableAt ws) e) in
+    ap₂ (λ (i j : ℕ). i - j) e f

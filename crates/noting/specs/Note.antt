@@ -104,8 +104,28 @@ halved ws x _ p =
     p
 
 -- variable x's place among the distinct variables; there are at most 2176, so 12 halvings leave one
+unfoldable pub searchedIn : List ℕ → ℕ → ℕ
+searchedIn ws x = iter (halved ws x) 12 (record { low = 0; high = variablesOf ws }) .low
+
+-- Most plans' variables are one run of numbers or two: where x is if no number is missing from the first variable to x, and if none
+-- is missing from x to the last
+abbrev pub placeFromFirst : List ℕ → ℕ → ℕ
+placeFromFirst ws x = x - variableAt ws 0
+
+abbrev pub placeFromLast : List ℕ → ℕ → ℕ
+placeFromLast ws x = variablesOf ws - 1 - (variableAt ws (variablesOf ws - 1) - x)
+
+-- distinct variable k is x
+abbrev pub isAt : List ℕ → ℕ → ℕ → Bool
+isAt ws k x = ltb k (variablesOf ws) && eqb (variableAt ws k) x
+
+-- A place is looked up, and searched where neither look finds x. On a plan that passes its own test this is the place that the search
+-- finds: theorem `place-searched`.
 unfoldable pub placeIn : List ℕ → ℕ → ℕ
-placeIn ws x = iter (halved ws x) 12 (record { low = 0; high = variablesOf ws }) .low
+placeIn ws x =
+    pick (isAt ws (placeFromFirst ws x) x) (placeFromFirst ws x)
+    (pick (isAt ws (placeFromLast ws x) x) (placeFromLast ws x)
+    (searchedIn ws x))
 
 -- Refusal 9, "literal unknown to the plan": whether variable x is one of the plan's
 unfoldable pub known : List ℕ → ℕ → Bool

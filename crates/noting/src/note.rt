@@ -20,7 +20,7 @@ ghost use lib.Dec.{ltb, eqb};
 ghost use Rattle.base.specs.Iter.{iter};
 ghost use Rattle.undo_log.specs.Log.{pushWords};
 ghost use Rattle.plan.specs.Words.{variablesOf, variableAt, startAt, occurrenceAt};
-ghost use Rattle.noting.specs.Note.{effect, sizeEffect, edgeEffect, effectOf, undoRecord, boundSet, edgeSet, applied, noting, pushedTo, noteSlot, boundary, oneMore, levelPushed, halved, placeIn, known, noteAt, note};
+ghost use Rattle.noting.specs.Note.{effect, sizeEffect, edgeEffect, effectOf, undoRecord, boundSet, edgeSet, applied, noting, pushedTo, noteSlot, boundary, oneMore, levelPushed, halved, searchedIn, placeFromFirst, placeFromLast, isAt, placeIn, known, noteAt, note};
 
 // An effect's kind where a literal says nothing new.
 pub const NOTHING: u8 = 0;
@@ -279,8 +279,8 @@ fn halve(plan: &[u32; 15241], x: u32, p: Span) -> Span
     p
 }
 
-pub(crate) fn search(plan: &[u32; 15241], x: u32) -> usize
-    ensures { λ r. ⌜ (r ≡ placeIn (now (plan .entry)) x) × (r ≤ 4294967296) ⌝ }
+fn halve_all(plan: &[u32; 15241], x: u32) -> usize
+    ensures { λ r. ⌜ (r ≡ searchedIn (now (plan .entry)) x) × (r ≤ 4294967296) ⌝ }
 {
     let mut p = Span {
         low: 0,
@@ -294,21 +294,63 @@ pub(crate) fn search(plan: &[u32; 15241], x: u32) -> usize
     p.low
 }
 
-// Variable x's place among the distinct variables, if it is one of them.
-pub fn place_in(plan: &[u32; 15241], x: u32) -> usize
-    ensures { λ r. ⌜ r ≡ placeIn (now (plan .entry)) x ⌝ }
+// a - b, 0 where b is more.
+fn less(a: u32, b: u32) -> usize
+    ensures { λ r. ⌜ (r ≡ a - b) × (r ≤ 4294967296) ⌝ }
 {
-    search(plan, x)
+    if b < a {
+        return (a - b) as usize;
+    }
+    0
+}
+
+fn place_from_first(plan: &[u32; 15241], x: u32) -> usize
+    ensures { λ r. ⌜ (r ≡ placeFromFirst (now (plan .entry)) x) × (r ≤ 4294967296) ⌝ }
+{
+    less(x, plan::variable_at(plan, 0))
+}
+
+fn place_from_last(plan: &[u32; 15241], x: u32) -> usize
+    ensures { λ r. ⌜ (r ≡ placeFromLast (now (plan .entry)) x) × (r ≤ 4294967296) ⌝ }
+{
+    let last = less(plan::num_variables(plan), 1);
+    let back = less(plan::variable_at(plan, last), x);
+    if back < last {
+        return last - back;
+    }
+    0
 }
 
 // Whether distinct variable k is x.
 pub(crate) fn is_variable(plan: &[u32; 15241], k: usize, x: u32) -> bool
-    ensures { λ r. ⌜ r ≡ (ltb k (variablesOf (now (plan .entry))) && eqb (variableAt (now (plan .entry)) k) x) ⌝ }
+    ensures { λ r. ⌜ r ≡ isAt (now (plan .entry)) k x ⌝ }
 {
     if k < plan::num_variables(plan) as usize {
         return plan::variable_at(plan, k) == x;
     }
     false
+}
+
+// Variable x's place among the distinct variables, if it is one of them: looked up where the variables are a run of numbers or two,
+// else searched by halving.
+pub(crate) fn search(plan: &[u32; 15241], x: u32) -> usize
+    ensures { λ r. ⌜ (r ≡ placeIn (now (plan .entry)) x) × (r ≤ 4294967296) ⌝ }
+{
+    let a = place_from_first(plan, x);
+    if is_variable(plan, a, x) {
+        return a;
+    }
+    let b = place_from_last(plan, x);
+    if is_variable(plan, b, x) {
+        return b;
+    }
+    halve_all(plan, x)
+}
+
+pub fn place_in(plan: &[u32; 15241], x: u32) -> usize
+    ensures { λ r. ⌜ r ≡ placeIn (now (plan .entry)) x ⌝ }
+{
+    search(plan, x)
 }
 
 // Whether variable x is one of the plan's: refusal 9 where it is not.

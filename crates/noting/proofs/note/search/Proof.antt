@@ -1,60 +1,57 @@
+use mathlib.Core.Path.{_≡_, refl, sym, _∙_}
 use borrow.Author.Needs.{needs}
-use mathlib.Core.Path.{_≡_, refl, sym, ap, ap₂, _∙_}
-use Prim.Native.Nat.{ℕ, suc, pred, _+_, _-_, _*_, _/_, _%_, _≤_, _<_}
-use native.Mathlib.Omega.{arith}
-use Rattle.base.proofs.Loop.{iter-zero, iter-more, iter-done}
-use Rattle.noting.specs.declared.note.Span.{Span}
-use Rattle.base.specs.Iter.{iter}
-use Rattle.noting.proofs.Place.{halve-same, halve-within}
-use Rattle.plan.specs.Words.{variablesOf}
-use Rattle.noting.specs.Note.{halved, placeIn}
+use Rattle.noting.proofs.Place.{place-first, place-last, place-halved}
 use Rattle.noting.proofs.note.search.Statement.{statement}
 use Rattle.noting.proofs.note.search.Tie as tie
 
-abbrev Inv-loop : tie.InvT-loop
-Inv-loop plan x p₀ i₀ p i = (i ≤ 12) × (p .low ≤ 4294967296) × (p .high ≤ 4294967296) × (p ≡ iter (halved plan x) i p₀)
+place-from-first-requires : tie.Need-place-from-first-requires
+place-from-first-requires c κs = search needs
 
-abbrev μ-loop : tie.MeasureT-loop
-μ-loop plan x p₀ i₀ p i = 12 - i
+is-variable-requires : tie.Need-is-variable-requires
+is-variable-requires c κs = search needs
 
-num-variables-requires : tie.Need-num-variables-requires Inv-loop μ-loop
-num-variables-requires c κs = search needs
+returns : tie.Need-returns
+returns c =
+    let a = c .before .before .before .args in
+    let f = c .before .before .place-from-first in
+    (place-first (a .plan .now) (a .x) (f .result) _ (f .ensures .0) refl (sym (c .before .is-variable .ensures) ∙ c .if1 .taken), f .ensures .1)
 
-cast-t6 : tie.Need-cast-t6 Inv-loop μ-loop
-cast-t6 c = search needs
+place-from-last-requires : tie.Need-place-from-last-requires
+place-from-last-requires c κs = search needs
 
-loop-holds : tie.Need-loop-holds Inv-loop μ-loop
-unfolding placeIn
-loop-holds c = (omega arith, omega arith, omega arith, iter-zero _ _)
+is-variable-requires-2 : tie.Need-is-variable-requires-2
+is-variable-requires-2 c κs = search needs
 
-halve-requires : tie.Need-halve-requires Inv-loop μ-loop
-halve-requires c κs = ((c .before .loop) .inv .1, (c .before .loop) .inv .2)
+returns-2 : tie.Need-returns-2
+returns-2 c =
+    let a = c .before .before .before .before .before .before .args in
+    let f = c .before .before .before .before .before .place-from-first in
+    let g = c .before .before .place-from-last in (
+      place-last (a .plan .now) (a .x) (f .result) (g .result) (f .ensures .0) (g .ensures .0) (sym (c .before .before .before .before .is-variable .ensures) ∙ c .before .before .before .if1 .left) (sym (c .before .is-variable2 .ensures) ∙ c .if2 .taken),
+      g .ensures .1,
+    )
 
-add-i : tie.Need-add-i Inv-loop μ-loop
-add-i c = search needs
+halve-all-requires : tie.Need-halve-all-requires
+halve-all-requires c κs = search needs
 
-loop-less : tie.Need-loop-less Inv-loop μ-loop
-loop-less c = search needs
-
-loop-again : tie.Need-loop-again Inv-loop μ-loop
-unfolding placeIn
-loop-again c = let w = halve-within ((c .before .before .before .before .args) .plan .now) ((c .before .before .before .before .args) .x) 0 ((c .before .before .loop) .p) 4294967296 ((c .before .before .loop) .inv .1, (c .before .before .loop) .inv .2) in (omega arith, omega (arith, w .0, ap (λ (q : Span). q .low) ((c .halve) .ensures)), omega (arith, w .1, ap (λ (q : Span). q .high) ((c .halve) .ensures)), iter-more _ _ _ _ _ ((c .before .before .loop) .inv .3) ((c .halve) .ensures ∙ halve-same ((c .before .before .before .before .args) .plan .now) ((c .before .before .before .before .args) .x) ((c .before .before .loop) .i) ((c .before .before .loop) .p)))
-
-returns : tie.Need-returns Inv-loop μ-loop
-unfolding placeIn
-returns c = (ap (λ (q : Span). q .low) (iter-done _ _ _ 12 _ ((c .before .loop) .inv .3) (omega arith) (omega arith)) ∙ ap (λ (n : ℕ). iter (halved ((c .before .before .before .args) .plan .now) ((c .before .before .before .args) .x)) 12 (record { low = 0; high = n }) .low) ((c .before .before .num-variables) .ensures), (c .before .loop) .inv .1)
+returns-3 : tie.Need-returns-3
+returns-3 c =
+    let a = c .before .before .before .before .before .before .before .args in
+    let f = c .before .before .before .before .before .before .place-from-first in
+    let g = c .before .before .before .place-from-last in (
+      c .halve-all .ensures .0 ∙ place-halved (a .plan .now) (a .x) (f .result) (g .result) (f .ensures .0) (g .ensures .0) (sym (c .before .before .before .before .before .is-variable .ensures) ∙ c .before .before .before .before .if1 .left) (sym (c .before .before .is-variable2 .ensures) ∙ c .before .if2 .left),
+      c .halve-all .ensures .1,
+    )
 
 pub search-spec : {M : Type 1} → statement M
 search-spec =
     tie.close
     (tie.spec
-    Inv-loop
-    μ-loop
-    num-variables-requires
-    cast-t6
-    loop-holds
-    halve-requires
-    add-i
-    loop-less
-    loop-again
-    returns)
+    place-from-first-requires
+    is-variable-requires
+    returns
+    place-from-last-requires
+    is-variable-requires-2
+    returns-2
+    halve-all-requires
+    returns-3)
