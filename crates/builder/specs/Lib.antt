@@ -4,3 +4,4 @@ pub mod Index
 pub mod Filed
 pub mod Build
 pub mod Given
+pub mod Linked
