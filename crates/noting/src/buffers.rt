@@ -16,26 +16,19 @@ pub fn table_len(plan: &[u32; 15241]) -> usize
     0
 }
 
-fn code_bad(table: &[u8], i: usize) -> bool
-    ensures { λ r. ⌜ r ≡ codeBad (now (table .entry)) i ⌝ }
+// Every entry is looked at: with no way out of the loop many are compared at once.
+fn some_code_bad(table: &[u8]) -> bool
+    ensures { λ r. ⌜ r ≡ some (codeBad (now (table .entry))) (length (now (table .entry))) ⌝ }
 {
-    if i < table.len() {
-        return 4 < table[i];
-    }
-    false
-}
-
-fn some_code_bad(table: &[u8], n: usize) -> bool
-    ensures { λ r. ⌜ r ≡ some (codeBad (now (table .entry))) n ⌝ }
-{
+    let mut bad = false;
     let mut i = 0;
-    while i < n {
-        if code_bad(table, i) {
-            return true;
+    while i < table.len() {
+        if 4 < table[i] {
+            bad = true;
         }
         i += 1;
     }
-    false
+    bad
 }
 
 pub fn table_bad(plan: &[u32; 15241], table: &[u8]) -> bool
@@ -44,7 +37,7 @@ pub fn table_bad(plan: &[u32; 15241], table: &[u8]) -> bool
     if table.len() < table_len(plan) {
         return true;
     }
-    some_code_bad(table, table.len())
+    some_code_bad(table)
 }
 
 pub fn list_short(plan: &[u32; 15241], n: usize) -> bool
