@@ -36,7 +36,7 @@ use Rattle.builder.proofs.Least.{below, and-both}
 use Rattle.builder.proofs.Rounds as rounds
 use Rattle.builder.proofs.Rounds.{Good, Group, Kept, indexed-good, end-inner, end-last}
 use Rattle.builder.proofs.BuildCases.{indexed-few}
-use Rattle.builder.proofs.Count.{slots-counted}
+use Rattle.plan.proofs.Count.{slots-counted}
 use Rattle.builder.proofs.Given.{given-length, given-header, given-weight, given-len, given-size, given-lit, given-edge, kept-word, total-word, index-word, entry-in, entry-same, cell-in}
 
 flag-back : (t : Bool) → eqb (flag t) 1 ≡ t

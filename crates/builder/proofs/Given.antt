@@ -19,7 +19,7 @@ use Rattle.base.proofs.Filled.{filled-length, filled-in, filled-out}
 use Rattle.plan.specs.Words.{word, entry, cell}
 use Rattle.builder.specs.Input.{weightAt, lenAt, sizeAt, litAt, edgeLitAt}
 use Rattle.builder.specs.Index.{Indexing, indexed}
-use Rattle.builder.proofs.Count.{pred-few}
+use Rattle.plan.proofs.Count.{pred-few}
 use Rattle.builder.specs.Build.{flag, rows, header, given, closed, totals, withIndex}
 
 -- ---- rows

@@ -5,7 +5,6 @@ pub mod Pass
 pub mod Rounds
 pub mod IndexCases
 pub mod BuildCases
-pub mod Count
 pub mod Given
 pub mod Built
 pub mod Linked

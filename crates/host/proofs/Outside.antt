@@ -22,7 +22,7 @@ use Rattle.builder.specs.Input.{weightAt, lenAt, sizeAt, litAt, edgeLitAt}
 use Rattle.builder.specs.Index.{variableOf, isOf, Filing, stored, fileStep, file, Indexing, opened, round, unindexed, indexed}
 use Rattle.builder.specs.Build.{rows, header, given, closed, withIndex}
 use Rattle.builder.proofs.Refusal.{Counted, counted}
-use Rattle.builder.proofs.Count.{pred-few}
+use Rattle.plan.proofs.Count.{pred-few}
 use Rattle.builder.proofs.Given.{given-length, given-header, kept-word, index-word}
 
 -- i is none of the n places from `from` on

@@ -13,8 +13,9 @@ use Rattle.base.proofs.Loop.{pick-yes, pick-no}
 use Rattle.base.proofs.Tests.{or-both, and-either, and-next}
 use Rattle.base.proofs.Some.{some-all}
 use Rattle.plan.specs.Words.{word, verticesOf, edgesOf, variablesOf, slotsOf, weightOf, domainLenOf, domainOf, litOf, placeOf, positionOf, variableAt, startAt, occurrenceAt}
-use Rattle.plan.specs.Check.{countsBad, usedSlot, slotBad, entryBad, vertexBad, edgeBad, occurrenceBad, variableOrderBad, variableBad, slotCount, startsBad, planBad}
+use Rattle.plan.specs.Check.{countsBad, usedSlot, entryBad, vertexBad, edgeBad, occurrenceBad, variableOrderBad, variableBad, slotCount, startsBad, planBad}
 use Rattle.plan.specs.Proper.{Filed, Listed, ProperWords}
+use Rattle.plan.proofs.Once.{located, rises-from}
 
 -- a test for equality that passes, as the plan's own test asks it
 same : (a b : ℕ) → a ≡ b → not (eqb a b) ≡ false
@@ -34,13 +35,6 @@ unfolding usedSlot
 edge-slot ws g h = pick-no _ _ (le-ltb (2048 + g) 2048 (omega arith)) ∙ lt-ltb (2048 + g - 2048) (edgesOf ws) (omega arith)
 
 module _ (ws : List ℕ) (ends : List (List ℕ)) (p : ProperWords ws ends) where
-  slot : (s : ℕ) → usedSlot ws s ≡ true → slotBad ws s ≡ false
-  unfolding slotBad
-  slot s u =
-      let f = p .filed s u in
-      or-both (le-ltb _ _ (f .range)) (or-both (lt-leb _ _ (f .known)) (or-both (same _ _ (f .variable)) (or-both (same _ _ (f .sign))
-      (or-both (lt-leb _ _ (f .within)) (same _ _ (f .there))))))
-
   entry : (v j : ℕ) → v < verticesOf ws → j < domainLenOf ws v → entryBad ws v j ≡ false
   unfolding entryBad
   entry v j h l = or-both (le-ltb _ _ (p .entries v j h l)) (and-either {a = ltb 0 j} {b = leb (domainOf ws v j) (domainOf ws v (j - 1))} (λ t. lt-leb _ _ (go j l (ltb-true 0 j t))))
@@ -49,23 +43,22 @@ module _ (ws : List ℕ) (ends : List (List ℕ)) (p : ProperWords ws ends) wher
       go zero b z = absurd (omega arith)
       go (suc i) b z = let e : suc i - 1 ≡ i = omega arith in subst (λ (n : ℕ). domainOf ws v n < domainOf ws v (suc i)) (sym e) (p .rising v i h b)
 
-  above : (k j : ℕ) → j < pred k → suc j < k
-  above zero j h = absurd (omega arith)
-  above (suc k) j h = omega arith
-
   vertex : (v : ℕ) → v < verticesOf ws → vertexBad ws v ≡ false
   unfolding vertexBad
   vertex v h =
-      or-both (le-ltb _ _ (p .light v h)) (or-both (le-ltb _ _ (p .short v h))
-      (or-both (some-all (entryBad ws v) (domainLenOf ws v) (λ j l. entry v j h l))
-      (some-all (λ j. slotBad ws (32 * v + j)) (pred (domainLenOf ws v))
-      (λ j l. let k = above (domainLenOf ws v) j l in slot (32 * v + j) (size-slot ws v j (omega (arith, p .fine .vertices)) (omega (arith, p .short v h)) h k)))))
+      or-both (le-ltb _ _ (p .light v h)) (or-both (le-ltb _ _ (p .short v h)) (some-all (entryBad ws v) (domainLenOf ws v) (λ j l. entry v j h l)))
 
   edge : (g : ℕ) → g < edgesOf ws → edgeBad ws ends g ≡ false
   unfolding edgeBad
-  edge g h = or-both (lt-leb _ _ (p .fine .within g h .a)) (or-both (lt-leb _ _ (p .fine .within g h .b)) (slot (2048 + g) (edge-slot ws g h)))
+  edge g h = or-both (lt-leb _ _ (p .fine .within g h .a)) (lt-leb _ _ (p .fine .within g h .b))
+
+  one-place : (i j : ℕ) → i < variablesOf ws → j < variablesOf ws → variableAt ws i ≡ variableAt ws j → i ≡ j
+  one-place i j a b e = rises-from (variableAt ws) 0 (variablesOf ws) (λ i a b. p .distinct i b) i j (omega arith) a (omega arith) b e
 
   module _ (k : ℕ) (h : k < variablesOf ws) where
+    one-occurrence : (i j : ℕ) → startAt ws k ≤ i → i < startAt ws (suc k) → startAt ws k ≤ j → j < startAt ws (suc k) → occurrenceAt ws i ≡ occurrenceAt ws j → i ≡ j
+    one-occurrence i j a b c d e = rises-from (occurrenceAt ws) (startAt ws k) (startAt ws (suc k)) (p .listed k h .rising) i j a b c d e
+
     next : startAt ws (k + 1) ≡ startAt ws (suc k)
     next = ap (startAt ws) (add-one k)
 
@@ -77,10 +70,29 @@ module _ (ws : List ℕ) (ends : List (List ℕ)) (p : ProperWords ws ends) wher
         go zero b z = absurd (omega arith)
         go (suc i) b z = let e : suc i - 1 ≡ i = omega arith in subst (λ (n : ℕ). variableAt ws n < variableAt ws (suc i)) (sym e) (p .distinct i b)
 
+    -- the place of an occurrence's slot, and its position
+    place : (i : ℕ) → startAt ws k ≤ i → i < startAt ws (suc k) → placeOf ws (occurrenceAt ws i) ≡ 2 * k + litOf ws (occurrenceAt ws i) % 2
+    place i a b =
+        let f = p .filed (occurrenceAt ws i) (p .listed k h .used i a b) in
+        let e : placeOf ws (occurrenceAt ws i) / 2 ≡ k = one-place _ k (f .known) h (f .variable ∙ p .listed k h .own i a b) in
+        omega (arith, f .sign)
+
+    position : (i : ℕ) → startAt ws k ≤ i → i < startAt ws (suc k) → positionOf ws (occurrenceAt ws i) ≡ i
+    position i a b =
+        let o : ℕ = occurrenceAt ws i in
+        let f = p .filed o (p .listed k h .used i a b) in
+        let j : ℕ = positionOf ws o in
+        let (m, c, d, e) = located (startAt ws) (variablesOf ws) j (omega (arith, p .first)) (omega (arith, p .end, f .within)) in
+        let v : variableAt ws m ≡ variableAt ws k = sym (p .listed m c .own j d e) ∙ ap (λ (q : ℕ). litOf ws q / 2) (f .there) ∙ p .listed k h .own i a b in
+        let z : m ≡ k = one-place m k c h v in
+        let d′ : startAt ws k ≤ j = subst (λ (q : ℕ). startAt ws q ≤ j) z d in
+        let e′ : j < startAt ws (suc k) = subst (λ (q : ℕ). j < startAt ws (suc q)) z e in
+        one-occurrence j i d′ e′ a b (f .there)
+
     occurrence : (i : ℕ) → startAt ws k ≤ i → i < startAt ws (suc k) → occurrenceBad ws k i ≡ false
     unfolding occurrenceBad
     occurrence i a b =
-        or-both (ap not (p .listed k h .used i a b)) (or-both (same _ _ (p .listed k h .own i a b)) (and-either (λ t. lt-leb _ _ (go i b (ltb-true (startAt ws k) i t)))))
+        or-both (ap not (p .listed k h .used i a b)) (or-both (same _ _ (p .listed k h .own i a b)) (or-both (same _ _ (place i a b)) (or-both (same _ _ (position i a b)) (and-either (λ t. lt-leb _ _ (go i b (ltb-true (startAt ws k) i t)))))))
       where
         go : (i : ℕ) → i < startAt ws (suc k) → startAt ws k < i → occurrenceAt ws (i - 1) < occurrenceAt ws i
         go zero b z = absurd (omega arith)

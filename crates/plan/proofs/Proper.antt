@@ -16,40 +16,23 @@ use Rattle.base.proofs.Tests.{or-none, not-false, and-rest, and-left, and-right
 use Rattle.base.proofs.Some.{some-none}
 use Rattle.graph.specs.Bounds.{Fine, Within}
 use Rattle.plan.specs.Words.{verticesOf, edgesOf, variablesOf, slotsOf, weightOf, domainLenOf, domainOf, litOf, placeOf, positionOf, variableAt, startAt, occurrenceAt}
-use Rattle.plan.specs.Check.{countsBad, usedSlot, slotBad, entryBad, vertexBad, edgeBad, occurrenceBad, variableOrderBad, variableBad, slotCount, startsBad, planBad}
+use Rattle.plan.specs.Check.{countsBad, usedSlot, entryBad, vertexBad, edgeBad, occurrenceBad, variableOrderBad, variableBad, slotCount, startsBad, planBad}
 use Rattle.plan.specs.Proper.{Filed, Listed, ProperWords}
 use Rattle.plan.proofs.Passed.{Sized, sized}
+use Rattle.plan.proofs.Once.{all-filed}
 
 module _ (ws : List ℕ) where
-  pub filed : (s : ℕ) → slotBad ws s ≡ false → Filed ws s
-  unfolding slotBad
-  filed s e =
-      let (a, e₁) = or-none (ltb 8191 (litOf ws s)) _ e in
-      let (b, e₂) = or-none (leb (variablesOf ws) (placeOf ws s / 2)) _ e₁ in
-      let (c, e₃) = or-none (not (eqb (variableAt ws (placeOf ws s / 2)) (litOf ws s / 2))) _ e₂ in
-      let (d, e₄) = or-none (not (eqb (placeOf ws s % 2) (litOf ws s % 2))) _ e₃ in
-      let (f, g) = or-none (leb (slotsOf ws) (positionOf ws s)) _ e₄ in
-      record {
-        range = ltb-false 8191 (litOf ws s) a;
-        known = leb-false (variablesOf ws) (placeOf ws s / 2) b;
-        variable = eqb-true _ _ (not-false _ c);
-        sign = eqb-true _ _ (not-false _ d);
-        within = leb-false (slotsOf ws) (positionOf ws s) f;
-        there = eqb-true _ _ (not-false _ g);
-      }
-
   -- the entry before one that is not the first
   less-one : (j : ℕ) → suc j - 1 ≡ j
   less-one j = omega arith
 
   module _ (v : ℕ) (e : vertexBad ws v ≡ false) where
-    parts : (ltb 1000000 (weightOf ws v) ≡ false) × (ltb 32 (domainLenOf ws v) ≡ false) × (some (entryBad ws v) (domainLenOf ws v) ≡ false) × (some (λ j. slotBad ws (32 * v + j)) (pred (domainLenOf ws v)) ≡ false)
+    parts : (ltb 1000000 (weightOf ws v) ≡ false) × (ltb 32 (domainLenOf ws v) ≡ false) × (some (entryBad ws v) (domainLenOf ws v) ≡ false)
     unfolding vertexBad
     parts =
         let (a, e₁) = or-none (ltb 1000000 (weightOf ws v)) _ e in
-        let (b, e₂) = or-none (ltb 32 (domainLenOf ws v)) _ e₁ in
-        let (c, d) = or-none (some (entryBad ws v) (domainLenOf ws v)) _ e₂ in
-        (a, b, c, d)
+        let (b, c) = or-none (ltb 32 (domainLenOf ws v)) _ e₁ in
+        (a, b, c)
 
     pub vertex-light : weightOf ws v ≤ 1000000
     vertex-light = ltb-false 1000000 (weightOf ws v) (parts .0)
@@ -67,13 +50,6 @@ module _ (ws : List ℕ) where
         let bad = or-none (ltb 1000000 (domainOf ws v (suc j))) _ (some-none (entryBad ws v) (domainLenOf ws v) (parts .2) (suc j) h) .1 in
         let z = leb-false (domainOf ws v (suc j)) (domainOf ws v (suc j - 1)) (and-rest _ _ (lt-ltb 0 (suc j) (omega arith)) bad) in
         subst (λ (i : ℕ). domainOf ws v i < domainOf ws v (suc j)) (less-one j) z
-
-    pub vertex-filed : (j : ℕ) → suc j < domainLenOf ws v → Filed ws (32 * v + j)
-    vertex-filed j h = filed (32 * v + j) (some-none (λ j. slotBad ws (32 * v + j)) (pred (domainLenOf ws v)) (parts .3) j (below (domainLenOf ws v) h))
-      where
-        below : (k : ℕ) → suc j < k → j < pred k
-        below zero h = absurd (omega arith)
-        below (suc k) h = omega arith
 
   module _ (k : ℕ) (e : variableBad ws k ≡ false) where
     variable-parts : (variableOrderBad ws k ≡ false) × (leb (startAt ws (k + 1)) (startAt ws k) ≡ false) × (ltb (slotsOf ws) (startAt ws (k + 1)) ≡ false) × (some (λ i. occurrenceBad ws k (startAt ws k + i)) (startAt ws (k + 1) - startAt ws k) ≡ false)
@@ -94,19 +70,45 @@ module _ (ws : List ℕ) where
         subst (λ (n : ℕ). occurrenceBad ws k n ≡ false) r
         (some-none (λ i. occurrenceBad ws k (startAt ws k + i)) (startAt ws (k + 1) - startAt ws k) (variable-parts .3) (i - startAt ws k) (omega (arith, next)))
 
+    -- and what its test leaves
+    record Met (i : ℕ) : Type 0 where
+      used : usedSlot ws (occurrenceAt ws i) ≡ true
+      own : litOf ws (occurrenceAt ws i) / 2 ≡ variableAt ws k
+      place : placeOf ws (occurrenceAt ws i) ≡ 2 * k + litOf ws (occurrenceAt ws i) % 2
+      position : positionOf ws (occurrenceAt ws i) ≡ i
+      rest : (ltb (startAt ws k) i && leb (occurrenceAt ws i) (occurrenceAt ws (i - 1))) ≡ false
+
+    met : (i : ℕ) → startAt ws k ≤ i → i < startAt ws (suc k) → Met i
+    unfolding occurrenceBad
+    met i h l =
+        let o : ℕ = occurrenceAt ws i in
+        let (a, e₁) = or-none (not (usedSlot ws o)) _ (at i h l) in
+        let (b, e₂) = or-none (not (eqb (litOf ws o / 2) (variableAt ws k))) _ e₁ in
+        let (c, e₃) = or-none (not (eqb (placeOf ws o) (2 * k + litOf ws o % 2))) _ e₂ in
+        let (d, e₄) = or-none (not (eqb (positionOf ws o) i)) _ e₃ in
+        record {
+          used = not-false _ a;
+          own = eqb-true _ _ (not-false _ b);
+          place = eqb-true _ _ (not-false _ c);
+          position = eqb-true _ _ (not-false _ d);
+          rest = e₄;
+        }
+
     pub listed : Listed ws k
-    unfolding variableOrderBad occurrenceBad
+    unfolding variableOrderBad
     listed = record {
       range = ltb-false 4095 (variableAt ws k) (or-none (ltb 4095 (variableAt ws k)) _ (variable-parts .0) .0);
       some = omega (arith, next, leb-false (startAt ws (k + 1)) (startAt ws k) (variable-parts .1));
       last = omega (arith, next, ltb-false (slotsOf ws) (startAt ws (k + 1)) (variable-parts .2));
-      used = λ i h l. not-false _ (or-none (not (usedSlot ws (occurrenceAt ws i))) _ (at i h l) .0);
-      own = λ i h l. eqb-true _ _ (not-false _ (or-none (not (eqb (litOf ws (occurrenceAt ws i) / 2) (variableAt ws k))) _ (or-none (not (usedSlot ws (occurrenceAt ws i))) _ (at i h l) .1) .0));
+      used = λ i h l. met i h l .used;
+      own = λ i h l. met i h l .own;
       rising = λ i h l.
-          let bad = or-none (not (eqb (litOf ws (occurrenceAt ws (suc i)) / 2) (variableAt ws k))) _ (or-none (not (usedSlot ws (occurrenceAt ws (suc i)))) _ (at (suc i) (omega arith) l) .1) .1 in
-          let z = leb-false (occurrenceAt ws (suc i)) (occurrenceAt ws (suc i - 1)) (and-rest _ _ (lt-ltb (startAt ws k) (suc i) (omega arith)) bad) in
+          let z = leb-false (occurrenceAt ws (suc i)) (occurrenceAt ws (suc i - 1)) (and-rest _ _ (lt-ltb (startAt ws k) (suc i) (omega arith)) (met (suc i) (omega arith) l .rest)) in
           subst (λ (n : ℕ). occurrenceAt ws n < occurrenceAt ws (suc i)) (less-one i) z;
     }
+
+    pub backward : (i : ℕ) → startAt ws k ≤ i → i < startAt ws (suc k) → (placeOf ws (occurrenceAt ws i) ≡ 2 * k + litOf ws (occurrenceAt ws i) % 2) × (positionOf ws (occurrenceAt ws i) ≡ i)
+    backward i h l = (met i h l .place, met i h l .position)
 
   pub distinct : (k : ℕ) → variableBad ws (suc k) ≡ false → variableAt ws k < variableAt ws (suc k)
   unfolding variableOrderBad
@@ -147,12 +149,11 @@ module _ (ws : List ℕ) (ends : List (List ℕ)) (ok : planBad ws ends ≡ fals
   variable : (k : ℕ) → k < variablesOf ws → variableBad ws k ≡ false
   variable = some-none (variableBad ws) (variablesOf ws) (tests .3)
 
-  edge : (g : ℕ) → g < edgesOf ws → Within (verticesOf ws) ends g × Filed ws (2048 + g)
+  edge : (g : ℕ) → g < edgesOf ws → Within (verticesOf ws) ends g
   unfolding edgeBad
   edge g h =
-      let (a, e) = or-none (leb (verticesOf ws) (getD (getD ends g []) 0 0)) _ (some-none (edgeBad ws ends) (edgesOf ws) (tests .2) g h) in
-      let (b, s) = or-none (leb (verticesOf ws) (getD (getD ends g []) 1 0)) _ e in
-      (record { a = leb-false _ _ a; b = leb-false _ _ b }, filed ws (2048 + g) s)
+      let (a, b) = or-none (leb (verticesOf ws) (getD (getD ends g []) 0 0)) _ (some-none (edgeBad ws ends) (edgesOf ws) (tests .2) g h) in
+      record { a = leb-false _ _ a; b = leb-false _ _ b }
 
   starts : (startAt ws 0 ≡ 0) × (startAt ws (variablesOf ws) ≡ slotsOf ws) × (slotCount ws ≡ slotsOf ws)
   unfolding startsBad
@@ -165,15 +166,13 @@ module _ (ws : List ℕ) (ends : List (List ℕ)) (ok : planBad ws ends ≡ fals
   proper =
       let s = sized ws (tests .0) in
       record {
-        fine = record { vertices = s .vertices; fits = s .edges; within = λ g h. edge g h .0 };
+        fine = record { vertices = s .vertices; fits = s .edges; within = edge };
         options = (s .sameSize, s .extraWalls);
         light = λ v h. vertex-light ws v (vertex v h);
         short = λ v h. vertex-short ws v (vertex v h);
         entries = λ v j h l. vertex-entries ws v (vertex v h) j l;
         rising = λ v j h l. vertex-rising ws v (vertex v h) j l;
-        filed = λ t u. slot-cases ws t u
-            (λ v j h l e. subst (Filed ws) (sym e) (vertex-filed ws v (vertex v h) j l))
-            (λ g h e. subst (Filed ws) (sym e) (edge g h .1));
+        filed = all-filed ws (s .vertices) (s .edges) (λ v h. vertex-short ws v (vertex v h)) (starts .0) (starts .1) (starts .2) (λ k h. listed ws k (variable k h)) (λ k i h. backward ws k (variable k h) i);
         few = (s .variables, s .slots);
         distinct = λ k h. distinct ws k (variable (suc k) h);
         listed = λ k h. listed ws k (variable k h);

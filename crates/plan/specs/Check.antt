@@ -17,16 +17,6 @@ countsBad ws =
 unfoldable pub usedSlot : List ℕ → ℕ → Bool
 usedSlot ws s = pick (ltb s 2048) (ltb (s / 32) (verticesOf ws) && ltb (s % 32 + 1) (domainLenOf ws (s / 32))) (ltb (s - 2048) (edgesOf ws))
 
--- a slot's literal is out of range, its place names another literal, or its position another slot
-unfoldable pub slotBad : List ℕ → ℕ → Bool
-slotBad ws s =
-    ltb 8191 (litOf ws s)
-    || (leb (variablesOf ws) (placeOf ws s / 2)
-    || (not (eqb (variableAt ws (placeOf ws s / 2)) (litOf ws s / 2))
-    || (not (eqb (placeOf ws s % 2) (litOf ws s % 2))
-    || (leb (slotsOf ws) (positionOf ws s)
-    || not (eqb (occurrenceAt ws (positionOf ws s)) s)))))
-
 -- a size is out of range, or not over the one before it
 unfoldable pub entryBad : List ℕ → ℕ → ℕ → Bool
 entryBad ws v j = ltb 1000000 (domainOf ws v j) || (ltb 0 j && leb (domainOf ws v j) (domainOf ws v (j - 1)))
@@ -35,19 +25,22 @@ unfoldable pub vertexBad : List ℕ → ℕ → Bool
 vertexBad ws v =
     ltb 1000000 (weightOf ws v)
     || (ltb 32 (domainLenOf ws v)
-    || (some (entryBad ws v) (domainLenOf ws v)
-    || some (λ j. slotBad ws (32 * v + j)) (pred (domainLenOf ws v))))
+    || some (entryBad ws v) (domainLenOf ws v))
 
 unfoldable pub edgeBad : List ℕ → List (List ℕ) → ℕ → Bool
 edgeBad ws ends g =
-    leb (verticesOf ws) (getD (getD ends g []) 0 0) || (leb (verticesOf ws) (getD (getD ends g []) 1 0) || slotBad ws (2048 + g))
+    leb (verticesOf ws) (getD (getD ends g []) 0 0) || leb (verticesOf ws) (getD (getD ends g []) 1 0)
 
--- an occurrence of variable k is no slot in use, is another variable's, or is not over the one before it
+-- an occurrence of variable k is no slot in use, is another variable's, its slot's place names another literal or its slot's position
+-- another occurrence, or it is not over the one before it. There are as many occurrences as slots in use (startsBad), so that each slot
+-- in use is met.
 unfoldable pub occurrenceBad : List ℕ → ℕ → ℕ → Bool
 occurrenceBad ws k i =
     not (usedSlot ws (occurrenceAt ws i))
     || (not (eqb (litOf ws (occurrenceAt ws i) / 2) (variableAt ws k))
-    || (ltb (startAt ws k) i && leb (occurrenceAt ws i) (occurrenceAt ws (i - 1))))
+    || (not (eqb (placeOf ws (occurrenceAt ws i)) (2 * k + litOf ws (occurrenceAt ws i) % 2))
+    || (not (eqb (positionOf ws (occurrenceAt ws i)) i)
+    || (ltb (startAt ws k) i && leb (occurrenceAt ws i) (occurrenceAt ws (i - 1))))))
 
 -- a variable is out of range or not over the one before it
 unfoldable pub variableOrderBad : List ℕ → ℕ → Bool

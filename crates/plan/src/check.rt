@@ -20,7 +20,7 @@ ghost use lib.Dec.{eqb, ltb, leb};
 ghost use Rattle.base.specs.Iter.{iter};
 ghost use Rattle.base.specs.Lists.{some};
 ghost use Rattle.plan.specs.Words.{word, verticesOf, edgesOf, variablesOf, slotsOf, domainLenOf, startAt};
-ghost use Rattle.plan.specs.Check.{countsBad, usedSlot, slotBad, entryBad, vertexBad, edgeBad, occurrenceBad, variableOrderBad, variableBad, slotCount, startsBad, planBad, Counts};
+ghost use Rattle.plan.specs.Check.{countsBad, usedSlot, entryBad, vertexBad, edgeBad, occurrenceBad, variableOrderBad, variableBad, slotCount, startsBad, planBad, Counts};
 
 fn counts_bad(plan: &[u32; 15241]) -> bool
     ensures { λ r. ⌜ r ≡ countsBad (now (plan .entry)) ⌝ }
@@ -57,30 +57,6 @@ pub fn used_slot(plan: &[u32; 15241], s: usize) -> bool
     s - 2048 < num_edges(plan) as usize
 }
 
-fn slot_bad(plan: &[u32; 15241], s: usize) -> bool
-    ensures { λ r. ⌜ r ≡ slotBad (now (plan .entry)) s ⌝ }
-{
-    let l = lit(plan, s);
-    if 8191 < l {
-        return true;
-    }
-    let p = place(plan, s);
-    if num_variables(plan) <= p / 2 {
-        return true;
-    }
-    if variable_at(plan, (p / 2) as usize) != l / 2 {
-        return true;
-    }
-    if p % 2 != l % 2 {
-        return true;
-    }
-    let at = position(plan, s);
-    if num_slots(plan) <= at {
-        return true;
-    }
-    occurrence_at(plan, at as usize) as usize != s
-}
-
 fn entry_bad(plan: &[u32; 15241], v: usize, j: usize) -> bool
     ensures { λ r. ⌜ r ≡ entryBad (now (plan .entry)) v j ⌝ }
 {
@@ -99,27 +75,6 @@ fn some_entry_bad(plan: &[u32; 15241], v: usize, len: usize) -> bool
     let mut j = 0;
     while j < len {
         if entry_bad(plan, v, j) {
-            return true;
-        }
-        j += 1;
-    }
-    false
-}
-
-fn dom_slot_bad(plan: &[u32; 15241], v: usize, j: usize) -> bool
-    requires { ⌜ (v < 64) × (j < 32) ⌝ }
-    ensures { λ r. ⌜ r ≡ slotBad (now (plan .entry)) (32 * v + j) ⌝ }
-{
-    slot_bad(plan, 32 * v + j)
-}
-
-fn some_dom_slot_bad(plan: &[u32; 15241], v: usize, count: usize) -> bool
-    requires { ⌜ (v < 64) × (count ≤ 32) ⌝ }
-    ensures { λ r. ⌜ r ≡ some (λ j. slotBad (now (plan .entry)) (32 * v + j)) count ⌝ }
-{
-    let mut j = 0;
-    while j < count {
-        if dom_slot_bad(plan, v, j) {
             return true;
         }
         j += 1;
@@ -148,10 +103,7 @@ fn vertex_bad(plan: &[u32; 15241], v: usize) -> bool
     if 32 < len {
         return true;
     }
-    if some_entry_bad(plan, v, len) {
-        return true;
-    }
-    some_dom_slot_bad(plan, v, less_one(len))
+    some_entry_bad(plan, v, len)
 }
 
 fn some_vertex_bad(plan: &[u32; 15241], n: usize) -> bool
@@ -182,10 +134,7 @@ fn edge_bad<'a>(plan: &'a [u32; 15241], edges: &'a [[u8; 2]; 128], g: usize) -> 
     if n <= wide(edges[g][0]) {
         return true;
     }
-    if n <= wide(edges[g][1]) {
-        return true;
-    }
-    slot_bad(plan, 2048 + g)
+    n <= wide(edges[g][1])
 }
 
 fn some_edge_bad<'a>(plan: &'a [u32; 15241], edges: &'a [[u8; 2]; 128], m: usize) -> bool
@@ -203,11 +152,19 @@ fn some_edge_bad<'a>(plan: &'a [u32; 15241], edges: &'a [[u8; 2]; 128], m: usize
 }
 
 fn occurrence_bad(plan: &[u32; 15241], k: usize, i: usize) -> bool
+    requires { ⌜ k < 2176 ⌝ }
     ensures { λ r. ⌜ r ≡ occurrenceBad (now (plan .entry)) k i ⌝ }
 {
     let s = occurrence_at(plan, i);
     if used_slot(plan, s as usize) {
-        if lit(plan, s as usize) / 2 != variable_at(plan, k) {
+        let l = lit(plan, s as usize);
+        if l / 2 != variable_at(plan, k) {
+            return true;
+        }
+        if place(plan, s as usize) != 2 * (k as u32) + l % 2 {
+            return true;
+        }
+        if position(plan, s as usize) as usize != i {
             return true;
         }
         if i <= start_at(plan, k) as usize {
@@ -219,14 +176,14 @@ fn occurrence_bad(plan: &[u32; 15241], k: usize, i: usize) -> bool
 }
 
 fn occurrence_bad_from(plan: &[u32; 15241], k: usize, from: usize, i: usize) -> bool
-    requires { ⌜ from + i ≤ 2176 ⌝ }
+    requires { ⌜ (k < 2176) × (from + i ≤ 2176) ⌝ }
     ensures { λ r. ⌜ r ≡ occurrenceBad (now (plan .entry)) k (from + i) ⌝ }
 {
     occurrence_bad(plan, k, from + i)
 }
 
 fn some_occurrence_bad(plan: &[u32; 15241], k: usize, from: usize, n: usize) -> bool
-    requires { ⌜ from + n ≤ 2176 ⌝ }
+    requires { ⌜ (k < 2176) × (from + n ≤ 2176) ⌝ }
     ensures { λ r. ⌜ r ≡ some (λ i. occurrenceBad (now (plan .entry)) k (from + i)) n ⌝ }
 {
     let mut i = 0;

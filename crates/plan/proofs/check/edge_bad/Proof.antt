@@ -8,7 +8,7 @@ use Rattle.base.proofs.Tests.{or-yes, or-next, and-no, and-next}
 use mathlib.Core.List.{[]}
 use lib.ListN.{getD}
 use Rattle.plan.specs.Words.{verticesOf}
-use Rattle.plan.specs.Check.{edgeBad, slotBad}
+use Rattle.plan.specs.Check.{edgeBad}
 use borrow.Author.Needs.{needs}
 use Rattle.plan.proofs.check.edge_bad.Statement.{statement}
 use Rattle.plan.proofs.check.edge_bad.Tie as tie
@@ -46,17 +46,10 @@ wide-requires-2 c κs = search needs
 
 returns-2 : tie.Need-returns-2
 unfolding edgeBad
-returns-2 c = or-next _ _ (lt-leb (verticesOf ((c .before .before .before .before .before .before .before .args) .plan .now)) (getD (getD ((c .before .before .before .before .before .before .before .args) .edges .now) ((c .before .before .before .before .before .before .before .args) .g) []) 0 0) (omega arith)) (or-yes _ (le-leb (verticesOf ((c .before .before .before .before .before .before .before .args) .plan .now)) (getD (getD ((c .before .before .before .before .before .before .before .args) .edges .now) ((c .before .before .before .before .before .before .before .args) .g) []) 1 0) (omega arith)))
-
-add-slot-bad : tie.Need-add-slot-bad
-add-slot-bad c = search needs
-
-slot-bad-requires : tie.Need-slot-bad-requires
-slot-bad-requires c κs = search needs
-
-returns-3 : tie.Need-returns-3
-unfolding edgeBad
-returns-3 c = or-next _ _ (lt-leb (verticesOf ((c .before .before .before .before .before .before .before .before .args) .plan .now)) (getD (getD ((c .before .before .before .before .before .before .before .before .args) .edges .now) ((c .before .before .before .before .before .before .before .before .args) .g) []) 0 0) (omega arith)) (or-next _ _ (lt-leb (verticesOf ((c .before .before .before .before .before .before .before .before .args) .plan .now)) (getD (getD ((c .before .before .before .before .before .before .before .before .args) .edges .now) ((c .before .before .before .before .before .before .before .before .args) .g) []) 1 0) (omega arith)) ((c .slot-bad) .ensures))
+returns-2 c =
+    let a = c .before .before .before .before .before .before .args in
+    or-next _ _ (lt-leb (verticesOf (a .plan .now)) (getD (getD (a .edges .now) (a .g) []) 0 0) (omega arith))
+    (ap₂ leb (c .before .before .before .before .before .num-vertices .ensures) (c .wide2 .ensures))
 
 pub edge-bad-spec : {M : Type 1} → statement M
 edge-bad-spec =
@@ -72,7 +65,4 @@ edge-bad-spec =
     index-1-wide-2
     index-2-wide-2
     wide-requires-2
-    returns-2
-    add-slot-bad
-    slot-bad-requires
-    returns-3)
+    returns-2)

@@ -9,7 +9,7 @@ use Rattle.base.specs.Lists.{some}
 use Rattle.base.specs.Range.{inRange, toNat}
 use Rattle.base.proofs.Some.{some-zero, some-found, some-more, some-done}
 use Prim.Native.Nat.{_*_}
-use Rattle.plan.specs.Check.{entryBad, slotBad, vertexBad, edgeBad, occurrenceBad, variableBad}
+use Rattle.plan.specs.Check.{entryBad, vertexBad, edgeBad, occurrenceBad, variableBad}
 use Rattle.plan.proofs.check.some_entry_bad.Statement.{statement}
 use Rattle.plan.proofs.check.some_entry_bad.Tie as tie
 

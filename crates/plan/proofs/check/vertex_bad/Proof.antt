@@ -8,7 +8,7 @@ use Rattle.base.proofs.Tests.{or-yes, or-next, and-no, and-next}
 use Rattle.base.specs.Lists.{some}
 use Prim.Native.Nat.{_*_}
 use Rattle.plan.specs.Words.{weightOf, domainLenOf}
-use Rattle.plan.specs.Check.{vertexBad, entryBad, slotBad}
+use Rattle.plan.specs.Check.{vertexBad, entryBad}
 use borrow.Author.Needs.{needs}
 use Rattle.plan.proofs.check.vertex_bad.Statement.{statement}
 use Rattle.plan.proofs.check.vertex_bad.Tie as tie
@@ -35,19 +35,10 @@ some-entry-bad-requires c κs = search needs
 
 returns-3 : tie.Need-returns-3
 unfolding vertexBad
-returns-3 c = or-next _ _ (le-ltb 1000000 (weightOf ((c .before .before .before .before .before .before .args) .plan .now) ((c .before .before .before .before .before .before .args) .v)) (omega arith)) (or-next _ _ (le-ltb 32 (domainLenOf ((c .before .before .before .before .before .before .args) .plan .now) ((c .before .before .before .before .before .before .args) .v)) (omega arith)) (or-yes _ (ap (some (entryBad ((c .before .before .before .before .before .before .args) .plan .now) ((c .before .before .before .before .before .before .args) .v))) (sym ((c .before .before .before .domain-len) .ensures)) ∙ sym ((c .before .some-entry-bad) .ensures) ∙ (c .if3) .taken)))
-
-less-one-requires : tie.Need-less-one-requires
-less-one-requires c κs = search needs
-
-some-dom-slot-bad-requires : tie.Need-some-dom-slot-bad-requires
-some-dom-slot-bad-requires c κs = search needs
-
-returns-4 : tie.Need-returns-4
-unfolding vertexBad
-returns-4 c =
-    or-next _ _ (le-ltb 1000000 (weightOf ((c .before .before .before .before .before .before .before .before .args) .plan .now) ((c .before .before .before .before .before .before .before .before .args) .v)) (omega arith)) (or-next _ _ (le-ltb 32 (domainLenOf ((c .before .before .before .before .before .before .before .before .args) .plan .now) ((c .before .before .before .before .before .before .before .before .args) .v)) (omega arith)) (or-next _ _ (ap (some (entryBad ((c .before .before .before .before .before .before .before .before .args) .plan .now) ((c .before .before .before .before .before .before .before .before .args) .v))) (sym ((c .before .before .before .before .before .domain-len) .ensures)) ∙ sym ((c .before .before .before .some-entry-bad) .ensures) ∙ (c .before .before .if3) .left)
-    ((c .some-dom-slot-bad) .ensures ∙ ap (some (λ j. slotBad ((c .before .before .before .before .before .before .before .before .args) .plan .now) (32 * ((c .before .before .before .before .before .before .before .before .args) .v) + j))) ((c .before .less-one) .ensures ∙ ap pred ((c .before .before .before .before .before .domain-len) .ensures)))))
+returns-3 c =
+    let a = c .before .before .before .before .before .args in
+    or-next _ _ (le-ltb 1000000 (weightOf (a .plan .now) (a .v)) (omega arith)) (or-next _ _ (le-ltb 32 (domainLenOf (a .plan .now) (a .v)) (omega arith))
+    (c .some-entry-bad .ensures ∙ ap (some (entryBad (a .plan .now) (a .v))) (c .before .before .domain-len .ensures)))
 
 pub vertex-bad-spec : {M : Type 1} → statement M
 vertex-bad-spec =
@@ -59,7 +50,4 @@ vertex-bad-spec =
     cast-len
     returns-2
     some-entry-bad-requires
-    returns-3
-    less-one-requires
-    some-dom-slot-bad-requires
-    returns-4)
+    returns-3)
