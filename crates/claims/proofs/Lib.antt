@@ -2,3 +2,4 @@ pub mod Replying
 pub mod Refusing
 pub mod Lists
 pub mod Built
+pub mod Past

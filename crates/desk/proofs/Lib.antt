@@ -1,3 +1,4 @@
 pub mod Room
 pub mod Printing
 pub mod Answering
+pub mod Speaking

@@ -1,3 +1,4 @@
 pub mod Print
 pub mod Obey
 pub mod Start
+pub mod Session

@@ -1,0 +1,4 @@
+pub mod DeskLines
+pub mod DeskSession
+pub mod Plans
+pub mod Stars
