@@ -11,8 +11,12 @@ use crate::step4::check_meets;
 use crate::step4::disconnect_parted;
 use crate::step4::spread_bounds;
 use crate::step5::disconnect_same_size;
+use edge_table::Edges;
+use noting::NotedWords;
+use plan::PlanWords;
 use reasons::Verdict;
 use reasons::goes_on;
+use views::ViewWords;
 ghost use mathlib.Core.Path.{_≡_};
 ghost use mathlib.Core.List.{[]};
 ghost use Prim.Native.Nat.{_≤_};
@@ -24,10 +28,10 @@ ghost use Rattle.analysis.specs.First.{step4First, analyzedFirst};
 ghost use Rattle.analysis.specs.Analyze.{Fit, analyzeWords};
 
 fn step1(
-    plan: &[u32; 15241],
-    edges: [[u8; 2]; 128],
-    noted: &[u32; 384],
-    view: &[u32; 512],
+    plan: &PlanWords,
+    edges: Edges,
+    noted: &NotedWords,
+    view: &ViewWords,
     proposals: &mut [u64],
 ) -> Verdict
     requires { ⌜ Fit (now plan) edges (now noted) ⌝ }
@@ -45,10 +49,10 @@ fn step1(
 }
 
 fn step2(
-    plan: &[u32; 15241],
-    edges: [[u8; 2]; 128],
-    noted: &[u32; 384],
-    view: &[u32; 512],
+    plan: &PlanWords,
+    edges: Edges,
+    noted: &NotedWords,
+    view: &ViewWords,
     proposals: &mut [u64],
 ) -> Verdict
     requires { ⌜ Fit (now plan) edges (now noted) ⌝ }
@@ -68,12 +72,7 @@ fn step2(
     crossed
 }
 
-fn step3(
-    plan: &[u32; 15241],
-    noted: &[u32; 384],
-    view: &[u32; 512],
-    proposals: &mut [u64],
-) -> Verdict
+fn step3(plan: &PlanWords, noted: &NotedWords, view: &ViewWords, proposals: &mut [u64]) -> Verdict
     requires { ⌜ verticesOf (now plan) ≤ 64 ⌝ }
     ensures { λ r. ⌜ ran r (now (proposals .exit)) ≡ ranOf (on step3 (words (now (plan .entry)) [] (now (noted .entry)) (now (view .entry))) begun) (now (proposals .entry)) ⌝ }
 {
@@ -85,10 +84,10 @@ fn step3(
 }
 
 fn step4(
-    plan: &[u32; 15241],
-    edges: [[u8; 2]; 128],
-    noted: &[u32; 384],
-    view: &[u32; 512],
+    plan: &PlanWords,
+    edges: Edges,
+    noted: &NotedWords,
+    view: &ViewWords,
     proposals: &mut [u64],
 ) -> Verdict
     requires { ⌜ Fit (now plan) edges (now noted) ⌝ }
@@ -104,10 +103,10 @@ fn step4(
 }
 
 fn step5(
-    plan: &[u32; 15241],
-    edges: [[u8; 2]; 128],
-    noted: &[u32; 384],
-    view: &[u32; 512],
+    plan: &PlanWords,
+    edges: Edges,
+    noted: &NotedWords,
+    view: &ViewWords,
     proposals: &mut [u64],
 ) -> Verdict
     requires { ⌜ Fit (now plan) edges (now noted) ⌝ }
@@ -120,10 +119,10 @@ fn step5(
 }
 
 fn steps(
-    plan: &[u32; 15241],
-    edges: [[u8; 2]; 128],
-    noted: &[u32; 384],
-    view: &[u32; 512],
+    plan: &PlanWords,
+    edges: Edges,
+    noted: &NotedWords,
+    view: &ViewWords,
     proposals: &mut [u64],
 ) -> Verdict
     requires { ⌜ Fit (now plan) edges (now noted) ⌝ }
@@ -150,12 +149,7 @@ fn steps(
 
 // Analyzes what is noted: the verdict, and the proposals' words, newest reasons over what was there. Where the words are no
 // plan's, Unfit, and nothing is stored.
-pub fn analyze(
-    plan: &[u32; 15241],
-    edges: [[u8; 2]; 128],
-    noted: &[u32; 384],
-    proposals: &mut [u64],
-) -> Verdict
+pub fn analyze(plan: &PlanWords, edges: Edges, noted: &NotedWords, proposals: &mut [u64]) -> Verdict
     ensures { λ r. ⌜ ran r (now (proposals .exit)) ≡ analyzeWords (now (plan .entry)) edges (now (noted .entry)) (now (proposals .entry)) ⌝ }
 {
     let mut view = [0u32; 512];

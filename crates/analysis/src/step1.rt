@@ -5,10 +5,14 @@ use crate::edge_state;
 use crate::left_region;
 use crate::negation;
 use crate::right_region;
+use edge_table::Edges;
+use noting::NotedWords;
+use plan::PlanWords;
 use reasons::Verdict;
 use reasons::goes_on;
 use reasons::packed;
 use reasons::put;
+use views::ViewWords;
 ghost use mathlib.Core.Path.{_≡_};
 ghost use mathlib.Core.List.{[]};
 ghost use mathlib.Core.Bool.{_&&_, _||_};
@@ -27,10 +31,10 @@ ghost use Rattle.analysis.specs.First.{disconnectedEnd, pairPlace, Walle
 
 // Edge g inside a region.
 fn inside(
-    plan: &[u32; 15241],
-    edges: &[[u8; 2]; 128],
-    noted: &[u32; 384],
-    view: &[u32; 512],
+    plan: &PlanWords,
+    edges: &Edges,
+    noted: &NotedWords,
+    view: &ViewWords,
     g: usize,
     proposals: &mut [u64],
 ) -> Verdict
@@ -57,10 +61,10 @@ fn inside(
 
 // Every edge in order, up to a conflict.
 pub(crate) fn connect_inside(
-    plan: &[u32; 15241],
-    edges: &[[u8; 2]; 128],
-    noted: &[u32; 384],
-    view: &[u32; 512],
+    plan: &PlanWords,
+    edges: &Edges,
+    noted: &NotedWords,
+    view: &ViewWords,
     proposals: &mut [u64],
 ) -> Verdict
     requires { ⌜ edgesOf (now plan) ≤ 128 ⌝ }
@@ -97,13 +101,7 @@ fn same_pair(a: usize, b: usize, c: usize, d: usize) -> bool
 }
 
 // Whether edge h is disconnected and joins the two regions that edge g joins.
-fn matches(
-    edges: &[[u8; 2]; 128],
-    noted: &[u32; 384],
-    view: &[u32; 512],
-    g: usize,
-    h: usize,
-) -> bool
+fn matches(edges: &Edges, noted: &NotedWords, view: &ViewWords, g: usize, h: usize) -> bool
     requires { ⌜ (g < 128) × (h < 128) ⌝ }
     ensures { λ r. ⌜ r ≡ on matches (words [] (now (edges .entry)) (now (noted .entry)) (now (view .entry))) g h ⌝ }
 {
@@ -120,13 +118,7 @@ fn matches(
 
 // The lowest of the first n edges that matches edge g, or n. Document 01: "Where several shut gates match, the lowest gate
 // number is the reason."
-fn lowest_match(
-    edges: &[[u8; 2]; 128],
-    noted: &[u32; 384],
-    view: &[u32; 512],
-    g: usize,
-    n: usize,
-) -> usize
+fn lowest_match(edges: &Edges, noted: &NotedWords, view: &ViewWords, g: usize, n: usize) -> usize
     requires { ⌜ (g < 128) × (n ≤ 128) ⌝ }
     ensures { λ r. ⌜ r ≡ lowest (on matches (words [] (now (edges .entry)) (now (noted .entry)) (now (view .entry))) g) n ⌝ }
 {
@@ -139,7 +131,7 @@ fn lowest_match(
 }
 
 // Whether edge g is undecided and joins two regions.
-pub(crate) fn loose(edges: &[[u8; 2]; 128], noted: &[u32; 384], view: &[u32; 512], g: usize) -> bool
+pub(crate) fn loose(edges: &Edges, noted: &NotedWords, view: &ViewWords, g: usize) -> bool
     requires { ⌜ g < 128 ⌝ }
     ensures { λ r. ⌜ r ≡ on loose (words [] (now (edges .entry)) (now (noted .entry)) (now (view .entry))) g ⌝ }
 {
@@ -158,7 +150,7 @@ fn bit(b: bool) -> usize
     0
 }
 
-fn is_disconnected(noted: &[u32; 384], g: usize) -> bool
+fn is_disconnected(noted: &NotedWords, g: usize) -> bool
     requires { ⌜ g < 128 ⌝ }
     ensures { λ r. ⌜ r ≡ eqb (getD (now (noted .entry)) g 0) 1 ⌝ }
 {
@@ -166,7 +158,7 @@ fn is_disconnected(noted: &[u32; 384], g: usize) -> bool
 }
 
 // How many of the first n edges there are up to the last disconnected one: no other edge can match.
-fn disconnected_end(noted: &[u32; 384], n: usize) -> usize
+fn disconnected_end(noted: &NotedWords, n: usize) -> usize
     requires { ⌜ n ≤ 128 ⌝ }
     ensures { λ r. ⌜ r ≡ disconnectedEnd (now (noted .entry)) n ⌝ }
 {
@@ -180,7 +172,7 @@ fn disconnected_end(noted: &[u32; 384], n: usize) -> usize
     0
 }
 
-fn is_undecided(noted: &[u32; 384], g: usize) -> bool
+fn is_undecided(noted: &NotedWords, g: usize) -> bool
     requires { ⌜ g < 128 ⌝ }
     ensures { λ r. ⌜ r ≡ eqb (getD (now (noted .entry)) g 0) 0 ⌝ }
 {
@@ -188,7 +180,7 @@ fn is_undecided(noted: &[u32; 384], g: usize) -> bool
 }
 
 // The lowest undecided one of the first n edges, or n.
-fn first_undecided(noted: &[u32; 384], n: usize) -> usize
+fn first_undecided(noted: &NotedWords, n: usize) -> usize
     requires { ⌜ n ≤ 128 ⌝ }
     ensures { λ r. ⌜ r ≡ lowest (λ h. eqb (getD (now (noted .entry)) h 0) 0) n ⌝ }
 {
@@ -214,12 +206,7 @@ fn no_walls() -> [u8; 4096]
 }
 
 // The pairs of regions, in both orders, that the disconnected ones of the first n edges join.
-fn walls_between(
-    edges: &[[u8; 2]; 128],
-    noted: &[u32; 384],
-    view: &[u32; 512],
-    n: usize,
-) -> [u8; 4096]
+fn walls_between(edges: &Edges, noted: &NotedWords, view: &ViewWords, n: usize) -> [u8; 4096]
     requires { ⌜ n ≤ 128 ⌝ }
     ensures { λ r. ⌜ Walled (words [] (now (edges .entry)) (now (noted .entry)) (now (view .entry))) n r ⌝ }
 {
@@ -238,9 +225,9 @@ fn walls_between(
 // `lowest_match`, which searches only where the regions of edge g are marked: most loose edges have no match, and for each of them
 // it would look at all n edges.
 fn marked_match(
-    edges: &[[u8; 2]; 128],
-    noted: &[u32; 384],
-    view: &[u32; 512],
+    edges: &Edges,
+    noted: &NotedWords,
+    view: &ViewWords,
     walls: &[u8; 4096],
     g: usize,
     n: usize,
@@ -257,10 +244,10 @@ fn marked_match(
 
 // Edge g between two regions that a disconnected edge, one of the first `end`, also joins.
 fn matched(
-    plan: &[u32; 15241],
-    edges: &[[u8; 2]; 128],
-    noted: &[u32; 384],
-    view: &[u32; 512],
+    plan: &PlanWords,
+    edges: &Edges,
+    noted: &NotedWords,
+    view: &ViewWords,
     walls: &[u8; 4096],
     g: usize,
     end: usize,
@@ -285,10 +272,10 @@ fn matched(
 
 // Every edge in order. Where none is disconnected or none is undecided, none matches, and nothing is marked.
 pub(crate) fn disconnect_matched(
-    plan: &[u32; 15241],
-    edges: &[[u8; 2]; 128],
-    noted: &[u32; 384],
-    view: &[u32; 512],
+    plan: &PlanWords,
+    edges: &Edges,
+    noted: &NotedWords,
+    view: &ViewWords,
     proposals: &mut [u64],
 )
     requires { ⌜ edgesOf (now plan) ≤ 128 ⌝ }

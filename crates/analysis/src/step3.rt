@@ -4,12 +4,15 @@
 use crate::lit_at_least;
 use crate::negation;
 use crate::potential_weight;
+use noting::NotedWords;
 use noting::lower_bound;
 use noting::upper_bound;
+use plan::PlanWords;
 use reasons::Verdict;
 use reasons::goes_on;
 use reasons::packed;
 use reasons::put;
+use views::ViewWords;
 use views::cells::required_weight;
 use views::cells::separate_ranges;
 ghost use mathlib.Core.Path.{_≡_};
@@ -25,9 +28,9 @@ ghost use Rattle.analysis.specs.Placed.{words, on, Finds};
 
 // Vertex v: no more than what can be joined to it.
 fn cuts(
-    plan: &[u32; 15241],
-    noted: &[u32; 384],
-    view: &[u32; 512],
+    plan: &PlanWords,
+    noted: &NotedWords,
+    view: &ViewWords,
     v: usize,
     proposals: &mut [u64],
 ) -> Verdict
@@ -49,9 +52,9 @@ fn cuts(
 
 // Every vertex in order, up to a conflict.
 pub(crate) fn cut_upper_bounds(
-    plan: &[u32; 15241],
-    noted: &[u32; 384],
-    view: &[u32; 512],
+    plan: &PlanWords,
+    noted: &NotedWords,
+    view: &ViewWords,
     proposals: &mut [u64],
 ) -> Verdict
     ensures { λ r. ⌜ ran r (now (proposals .exit)) ≡ ranOf (iter (guarded (on cuts (words (now (plan .entry)) [] (now (noted .entry)) (now (view .entry))))) (verticesOf (now (plan .entry))) begun) (now (proposals .entry)) ⌝ }
@@ -68,7 +71,7 @@ pub(crate) fn cut_upper_bounds(
 }
 
 // The potential region with label r: its separate ranges need more than it weighs.
-fn crowds(plan: &[u32; 15241], noted: &[u32; 384], view: &[u32; 512], r: usize) -> Verdict
+fn crowds(plan: &PlanWords, noted: &NotedWords, view: &ViewWords, r: usize) -> Verdict
     requires { ⌜ verticesOf (now plan) ≤ 64 ⌝ }
     ensures { λ x. ⌜ Finds x (on crowds (words (now (plan .entry)) [] (now (noted .entry)) (now (view .entry))) r begun) ⌝ }
 {
@@ -84,7 +87,7 @@ fn crowds(plan: &[u32; 15241], noted: &[u32; 384], view: &[u32; 512], r: usize) 
 }
 
 // Every potential region in order, up to a conflict.
-pub(crate) fn check_crowded(plan: &[u32; 15241], noted: &[u32; 384], view: &[u32; 512]) -> Verdict
+pub(crate) fn check_crowded(plan: &PlanWords, noted: &NotedWords, view: &ViewWords) -> Verdict
     requires { ⌜ verticesOf (now plan) ≤ 64 ⌝ }
     ensures { λ r. ⌜ Finds r (iter (guarded (on crowds (words (now (plan .entry)) [] (now (noted .entry)) (now (view .entry))))) (verticesOf (now (plan .entry))) begun) ⌝ }
 {

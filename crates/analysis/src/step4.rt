@@ -5,12 +5,16 @@ use crate::lit_at_least;
 use crate::negation;
 use crate::right_region;
 use crate::step1::loose;
+use edge_table::Edges;
+use noting::NotedWords;
 use noting::lower_bound;
 use noting::upper_bound;
+use plan::PlanWords;
 use reasons::Verdict;
 use reasons::goes_on;
 use reasons::packed;
 use reasons::put;
+use views::ViewWords;
 use views::decided_region;
 use views::members::extreme_vertices;
 use views::region_lower_bound;
@@ -35,13 +39,7 @@ ghost use Rattle.analysis.specs.First.{meetsFirst};
 ghost use Rattle.analysis.specs.Placed.{edgePlaceOf};
 
 // The region with label r, whose bounds do not meet: the two vertices that a conflict names.
-fn meets(
-    plan: &[u32; 15241],
-    edges: [[u8; 2]; 128],
-    noted: &[u32; 384],
-    view: &[u32; 512],
-    r: usize,
-) -> Verdict
+fn meets(plan: &PlanWords, edges: Edges, noted: &NotedWords, view: &ViewWords, r: usize) -> Verdict
     requires { ⌜ (r < verticesOf (now plan)) × (walkable edges (now noted) (edgesOf (now plan)) (verticesOf (now plan)) ≡ true) ⌝ }
     ensures { λ x. ⌜ Finds x (on meets (words (now (plan .entry)) edges (now (noted .entry)) (now (view .entry))) r begun) ⌝ }
 {
@@ -59,10 +57,10 @@ fn meets(
 
 // The same of any region: its own two bounds are compared first.
 fn meets_first(
-    plan: &[u32; 15241],
-    edges: [[u8; 2]; 128],
-    noted: &[u32; 384],
-    view: &[u32; 512],
+    plan: &PlanWords,
+    edges: Edges,
+    noted: &NotedWords,
+    view: &ViewWords,
     r: usize,
 ) -> Verdict
     requires { ⌜ (r < verticesOf (now plan)) × (walkable edges (now noted) (edgesOf (now plan)) (verticesOf (now plan)) ≡ true) ⌝ }
@@ -76,10 +74,10 @@ fn meets_first(
 
 // Every region in order, up to a conflict.
 pub(crate) fn check_meets(
-    plan: &[u32; 15241],
-    edges: [[u8; 2]; 128],
-    noted: &[u32; 384],
-    view: &[u32; 512],
+    plan: &PlanWords,
+    edges: Edges,
+    noted: &NotedWords,
+    view: &ViewWords,
 ) -> Verdict
     requires { ⌜ walkable edges (now noted) (edgesOf (now plan)) (verticesOf (now plan)) ≡ true ⌝ }
     ensures { λ r. ⌜ Finds r (iter (guarded (on meetsFirst (words (now (plan .entry)) edges (now (noted .entry)) (now (view .entry))))) (verticesOf (now (plan .entry))) begun) ⌝ }
@@ -97,8 +95,8 @@ pub(crate) fn check_meets(
 
 // Edge g, where the greatest lower bound of region `low` is over the least upper bound of region `up`.
 fn part(
-    plan: &[u32; 15241],
-    view: &[u32; 512],
+    plan: &PlanWords,
+    view: &ViewWords,
     g: usize,
     low: usize,
     up: usize,
@@ -116,10 +114,10 @@ fn part(
 
 // Edge g between two regions whose bounds would not meet, either way.
 fn parts(
-    plan: &[u32; 15241],
-    edges: &[[u8; 2]; 128],
-    noted: &[u32; 384],
-    view: &[u32; 512],
+    plan: &PlanWords,
+    edges: &Edges,
+    noted: &NotedWords,
+    view: &ViewWords,
     g: usize,
     proposals: &mut [u64],
 )
@@ -136,10 +134,10 @@ fn parts(
 
 // Every edge in order.
 pub(crate) fn disconnect_parted(
-    plan: &[u32; 15241],
-    edges: &[[u8; 2]; 128],
-    noted: &[u32; 384],
-    view: &[u32; 512],
+    plan: &PlanWords,
+    edges: &Edges,
+    noted: &NotedWords,
+    view: &ViewWords,
     proposals: &mut [u64],
 )
     requires { ⌜ edgesOf (now plan) ≤ 128 ⌝ }
@@ -153,9 +151,9 @@ pub(crate) fn disconnect_parted(
 
 // Vertex v: a lower bound of its region that is over its own.
 fn spreads_low(
-    plan: &[u32; 15241],
-    noted: &[u32; 384],
-    view: &[u32; 512],
+    plan: &PlanWords,
+    noted: &NotedWords,
+    view: &ViewWords,
     v: usize,
     proposals: &mut [u64],
 )
@@ -179,9 +177,9 @@ fn spreads_low(
 
 // Vertex v: an upper bound of its region that is below its own.
 fn spreads_high(
-    plan: &[u32; 15241],
-    noted: &[u32; 384],
-    view: &[u32; 512],
+    plan: &PlanWords,
+    noted: &NotedWords,
+    view: &ViewWords,
     v: usize,
     proposals: &mut [u64],
 )
@@ -203,13 +201,7 @@ fn spreads_high(
     }
 }
 
-fn spreads(
-    plan: &[u32; 15241],
-    noted: &[u32; 384],
-    view: &[u32; 512],
-    v: usize,
-    proposals: &mut [u64],
-)
+fn spreads(plan: &PlanWords, noted: &NotedWords, view: &ViewWords, v: usize, proposals: &mut [u64])
     ensures { λ _. ⌜ ran Going (now (proposals .exit)) ≡ ranOf (on spreads (words (now (plan .entry)) [] (now (noted .entry)) (now (view .entry))) v begun) (now (proposals .entry)) ⌝ }
 {
     spreads_low(plan, noted, view, v, proposals);
@@ -218,9 +210,9 @@ fn spreads(
 
 // Every vertex in order.
 pub(crate) fn spread_bounds(
-    plan: &[u32; 15241],
-    noted: &[u32; 384],
-    view: &[u32; 512],
+    plan: &PlanWords,
+    noted: &NotedWords,
+    view: &ViewWords,
     proposals: &mut [u64],
 )
     ensures { λ _. ⌜ ran Going (now (proposals .exit)) ≡ ranOf (iter (guarded (on spreads (words (now (plan .entry)) [] (now (noted .entry)) (now (view .entry))))) (verticesOf (now (plan .entry))) begun) (now (proposals .entry)) ⌝ }

@@ -7,6 +7,12 @@
 // answers and not this program's: `tests/analysis/oracle FOLDER <crates/analysis_cases/stdin`, where FOLDER has the Rust source.
 use builder::build::GraphDivisionOptions;
 use builder::build::PlanWords;
+use builder::input::EdgeNumbers;
+use builder::input::VertexNumbers;
+use edge_table::Edges;
+use noting::NotedWords;
+use plan::PlanWords;
+use reasons::ProposalWords;
 use reasons::Verdict;
 use text::Line;
 use text_writer::Written;
@@ -82,7 +88,7 @@ fn as_number(n: usize) -> i32 {
 }
 
 // A vertex's numbers from `from` on, 32 of them.
-fn put_row(values: &[i32; 32], from: usize, vertices: &mut [i32; 4288])
+fn put_row(values: &[i32; 32], from: usize, vertices: &mut VertexNumbers)
     requires { ⌜ from + 32 ≤ 4288 ⌝ }
 {
     let mut j = 0;
@@ -100,7 +106,7 @@ fn put_vertex(
     sizes: usize,
     count: usize,
     v: usize,
-    vertices: &mut [i32; 4288],
+    vertices: &mut VertexNumbers,
 )
     requires { ⌜ v < 64 ⌝ }
 {
@@ -119,7 +125,7 @@ fn put_vertex(
     }
 }
 
-fn put_edge(u: i32, v: i32, lit: i32, g: usize, edges: &mut [i32; 384])
+fn put_edge(u: i32, v: i32, lit: i32, g: usize, edges: &mut EdgeNumbers)
     requires { ⌜ g < 128 ⌝ }
 {
     edges[3 * g] = u;
@@ -161,8 +167,8 @@ fn noted_added(c: Counts) -> Counts {
 fn take_line(
     line: &[u8],
     c: Counts,
-    vertices: &mut [i32; 4288],
-    edges: &mut [i32; 384],
+    vertices: &mut VertexNumbers,
+    edges: &mut EdgeNumbers,
     lits: &mut [i32; 2176],
 ) -> Counts {
     let read = text::read_line(line);
@@ -215,7 +221,7 @@ fn end_byte(n: i32) -> u8 {
     64
 }
 
-fn edge_table(edges: &[i32; 384]) -> [[u8; 2]; 128] {
+fn edge_table(edges: &EdgeNumbers) -> Edges {
     let mut table = [[0u8; 2]; 128];
     let mut g = 0;
     while g < 128 {
@@ -235,10 +241,10 @@ fn lit_number(n: i32) -> u16 {
 
 // Notes the first `count` literals.
 fn note_all(
-    plan: &[u32; 15241],
+    plan: &PlanWords,
     lits: &[i32; 2176],
     count: usize,
-    noted: &mut [u32; 384],
+    noted: &mut NotedWords,
     log: &mut [u64; 4352],
 ) {
     noting::fresh(plan, noted);
@@ -256,7 +262,7 @@ fn note_all(
 }
 
 // The list of a conflict.
-fn put_conflict(plan: &[u32; 15241], edges: [[u8; 2]; 128], noted: &[u32; 384], verdict: Verdict) {
+fn put_conflict(plan: &PlanWords, edges: Edges, noted: &NotedWords, verdict: Verdict) {
     let mut view = [0u32; 512];
     views::compute::compute_view(plan, edges, noted, &mut view);
     let mut chosen = [0u8; 64];
@@ -278,7 +284,7 @@ fn put_conflict(plan: &[u32; 15241], edges: [[u8; 2]; 128], noted: &[u32; 384], 
     put_listed(b'X', &out, end);
 }
 
-fn put_verdict(plan: &[u32; 15241], edges: [[u8; 2]; 128], noted: &[u32; 384], verdict: Verdict) {
+fn put_verdict(plan: &PlanWords, edges: Edges, noted: &NotedWords, verdict: Verdict) {
     match verdict {
         Verdict::Going => put(b"C\n"),
         Verdict::Crossed => put_refusal(12),
@@ -290,9 +296,9 @@ fn put_verdict(plan: &[u32; 15241], edges: [[u8; 2]; 128], noted: &[u32; 384], v
 
 // The line of the proposal of the literal at place p, if there is one.
 fn put_proposal(
-    plan: &[u32; 15241],
-    edges: [[u8; 2]; 128],
-    noted: &[u32; 384],
+    plan: &PlanWords,
+    edges: Edges,
+    noted: &NotedWords,
     first: u64,
     second: u64,
     p: usize,
@@ -307,12 +313,7 @@ fn put_proposal(
     put_listed(b'P', &out, end);
 }
 
-fn put_proposals(
-    plan: &[u32; 15241],
-    edges: [[u8; 2]; 128],
-    noted: &[u32; 384],
-    proposals: &[u64; 8704],
-) {
+fn put_proposals(plan: &PlanWords, edges: Edges, noted: &NotedWords, proposals: &ProposalWords) {
     let mut p = 0;
     while p < 4352 {
         put_proposal(
@@ -327,7 +328,7 @@ fn put_proposals(
     }
 }
 
-fn show_analysis(plan: &[u32; 15241], edges: [[u8; 2]; 128], lits: &[i32; 2176], count: usize) {
+fn show_analysis(plan: &PlanWords, edges: Edges, lits: &[i32; 2176], count: usize) {
     let mut noted = [0u32; 384];
     let mut log = [0u64; 4352];
     note_all(plan, lits, count, &mut noted, &mut log);
@@ -337,7 +338,7 @@ fn show_analysis(plan: &[u32; 15241], edges: [[u8; 2]; 128], lits: &[i32; 2176],
     put_proposals(plan, edges, &noted, &proposals);
 }
 
-fn build<'a>(vertices: &'a [i32; 4288], edges: &'a [i32; 384], c: Counts) -> PlanWords {
+fn build<'a>(vertices: &'a VertexNumbers, edges: &'a EdgeNumbers, c: Counts) -> PlanWords {
     let options = GraphDivisionOptions {
         disallow_adjacent_same_size_regions: c.same_size,
         allow_extra_walls: c.extra_walls,
@@ -346,8 +347,8 @@ fn build<'a>(vertices: &'a [i32; 4288], edges: &'a [i32; 384], c: Counts) -> Pla
 }
 
 fn show_answer<'a>(
-    vertices: &'a [i32; 4288],
-    edges: &'a [i32; 384],
+    vertices: &'a VertexNumbers,
+    edges: &'a EdgeNumbers,
     lits: &'a [i32; 2176],
     c: Counts,
 ) {
@@ -361,11 +362,11 @@ fn show_answer<'a>(
     put_refusal(refused as u32);
 }
 
-fn no_vertices() -> [i32; 4288] {
+fn no_vertices() -> VertexNumbers {
     [0i32; 4288]
 }
 
-fn no_edges() -> [i32; 384] {
+fn no_edges() -> EdgeNumbers {
     [0i32; 384]
 }
 

@@ -1,5 +1,7 @@
 // Filling a plan's words from numbers that no refusal applies to.
 use crate::index::index_variables;
+use crate::input::EdgeNumbers;
+use crate::input::VertexNumbers;
 use crate::input::domain_len;
 use crate::input::edge_lit;
 use crate::input::left;
@@ -9,6 +11,8 @@ use crate::input::right;
 use crate::input::size;
 use crate::input::size_lit;
 use crate::input::weight;
+use edge_table::Edges;
+use plan::PlanWords;
 ghost use mathlib.Core.Path.{_≡_};
 ghost use Prim.Native.Nat.{ℕ, pred, _+_, _*_, _%_, _<_, _≤_, min};
 ghost use lib.ListN.{getD, set, replicate};
@@ -34,45 +38,45 @@ impl GraphDivisionOptions {
 
 // A plan's words, by value.
 pub struct PlanWords {
-    pub words: [u32; 15241],
+    pub words: PlanWords,
 }
 
-fn weight_number(vertices: &[i32; 4288], v: usize) -> u32
+fn weight_number(vertices: &VertexNumbers, v: usize) -> u32
     requires { ⌜ v < 64 ⌝ }
     ensures { λ r. ⌜ r ≡ toNat (weightAt (now (vertices .entry)) v) ⌝ }
 {
     base::to_nat(weight(vertices, v))
 }
 
-fn len_number(vertices: &[i32; 4288], v: usize) -> u32
+fn len_number(vertices: &VertexNumbers, v: usize) -> u32
     requires { ⌜ (v < 64) × (lenAt (now vertices) v ≤ 32) ⌝ }
     ensures { λ r. ⌜ r ≡ lenAt (now (vertices .entry)) v ⌝ }
 {
     domain_len(vertices, v) as u32
 }
 
-fn size_number(vertices: &[i32; 4288], v: usize, j: usize) -> u32
+fn size_number(vertices: &VertexNumbers, v: usize, j: usize) -> u32
     requires { ⌜ (v < 64) × (j < 32) ⌝ }
     ensures { λ r. ⌜ r ≡ toNat (sizeAt (now (vertices .entry)) v j) ⌝ }
 {
     base::to_nat(size(vertices, v, j))
 }
 
-fn lit_number(vertices: &[i32; 4288], v: usize, j: usize) -> u32
+fn lit_number(vertices: &VertexNumbers, v: usize, j: usize) -> u32
     requires { ⌜ (v < 64) × (j < 32) ⌝ }
     ensures { λ r. ⌜ r ≡ toNat (litAt (now (vertices .entry)) v j) ⌝ }
 {
     base::to_nat(size_lit(vertices, v, j))
 }
 
-fn edge_lit_number(edges: &[i32; 384], g: usize) -> u32
+fn edge_lit_number(edges: &EdgeNumbers, g: usize) -> u32
     requires { ⌜ g < 128 ⌝ }
     ensures { λ r. ⌜ r ≡ toNat (edgeLitAt (now (edges .entry)) g) ⌝ }
 {
     base::to_nat(edge_lit(edges, g))
 }
 
-fn fill_weights(vertices: &[i32; 4288], n: usize, plan: &mut [u32; 15241])
+fn fill_weights(vertices: &VertexNumbers, n: usize, plan: &mut PlanWords)
     requires { ⌜ n ≤ 64 ⌝ }
     ensures { λ _. ⌜ now (plan .exit) ≡ filled 8 n (λ v. toNat (weightAt (now (vertices .entry)) v)) (now (plan .entry)) ⌝ }
 {
@@ -83,7 +87,7 @@ fn fill_weights(vertices: &[i32; 4288], n: usize, plan: &mut [u32; 15241])
     }
 }
 
-fn fill_lens(vertices: &[i32; 4288], n: usize, plan: &mut [u32; 15241])
+fn fill_lens(vertices: &VertexNumbers, n: usize, plan: &mut PlanWords)
     requires { ⌜ (n ≤ 64) × ((v : ℕ) → v < n → lenAt (now vertices) v ≤ 32) ⌝ }
     ensures { λ _. ⌜ now (plan .exit) ≡ filled 72 n (lenAt (now (vertices .entry))) (now (plan .entry)) ⌝ }
 {
@@ -94,7 +98,7 @@ fn fill_lens(vertices: &[i32; 4288], n: usize, plan: &mut [u32; 15241])
     }
 }
 
-fn fill_domain(vertices: &[i32; 4288], v: usize, len: usize, plan: &mut [u32; 15241])
+fn fill_domain(vertices: &VertexNumbers, v: usize, len: usize, plan: &mut PlanWords)
     requires { ⌜ (v < 64) × (len ≤ 32) ⌝ }
     ensures { λ _. ⌜ now (plan .exit) ≡ filled (136 + 32 * v) len (λ j. toNat (sizeAt (now (vertices .entry)) v j)) (now (plan .entry)) ⌝ }
 {
@@ -105,7 +109,7 @@ fn fill_domain(vertices: &[i32; 4288], v: usize, len: usize, plan: &mut [u32; 15
     }
 }
 
-fn fill_domains(vertices: &[i32; 4288], n: usize, plan: &mut [u32; 15241])
+fn fill_domains(vertices: &VertexNumbers, n: usize, plan: &mut PlanWords)
     requires { ⌜ (n ≤ 64) × ((v : ℕ) → v < n → lenAt (now vertices) v ≤ 32) ⌝ }
     ensures { λ _. ⌜ now (plan .exit) ≡ rows 136 (lenAt (now (vertices .entry))) (λ v j. toNat (sizeAt (now (vertices .entry)) v j)) n (now (plan .entry)) ⌝ }
 {
@@ -116,7 +120,7 @@ fn fill_domains(vertices: &[i32; 4288], n: usize, plan: &mut [u32; 15241])
     }
 }
 
-fn fill_dom_lits_of(vertices: &[i32; 4288], v: usize, count: usize, plan: &mut [u32; 15241])
+fn fill_dom_lits_of(vertices: &VertexNumbers, v: usize, count: usize, plan: &mut PlanWords)
     requires { ⌜ (v < 64) × (count ≤ 32) ⌝ }
     ensures { λ _. ⌜ now (plan .exit) ≡ filled (2184 + 32 * v) count (λ j. toNat (litAt (now (vertices .entry)) v j)) (now (plan .entry)) ⌝ }
 {
@@ -127,14 +131,14 @@ fn fill_dom_lits_of(vertices: &[i32; 4288], v: usize, count: usize, plan: &mut [
     }
 }
 
-fn lit_count(vertices: &[i32; 4288], v: usize) -> usize
+fn lit_count(vertices: &VertexNumbers, v: usize) -> usize
     requires { ⌜ v < 64 ⌝ }
     ensures { λ r. ⌜ r ≡ pred (lenAt (now (vertices .entry)) v) ⌝ }
 {
     less_one(domain_len(vertices, v))
 }
 
-fn fill_dom_lits(vertices: &[i32; 4288], n: usize, plan: &mut [u32; 15241])
+fn fill_dom_lits(vertices: &VertexNumbers, n: usize, plan: &mut PlanWords)
     requires { ⌜ (n ≤ 64) × ((v : ℕ) → v < n → lenAt (now vertices) v ≤ 32) ⌝ }
     ensures { λ _. ⌜ now (plan .exit) ≡ rows 2184 (λ v. pred (lenAt (now (vertices .entry)) v)) (λ v j. toNat (litAt (now (vertices .entry)) v j)) n (now (plan .entry)) ⌝ }
 {
@@ -145,7 +149,7 @@ fn fill_dom_lits(vertices: &[i32; 4288], n: usize, plan: &mut [u32; 15241])
     }
 }
 
-fn fill_edge_lits(edges: &[i32; 384], m: usize, plan: &mut [u32; 15241])
+fn fill_edge_lits(edges: &EdgeNumbers, m: usize, plan: &mut PlanWords)
     requires { ⌜ m ≤ 128 ⌝ }
     ensures { λ _. ⌜ now (plan .exit) ≡ filled 4232 m (λ g. toNat (edgeLitAt (now (edges .entry)) g)) (now (plan .entry)) ⌝ }
 {
@@ -156,7 +160,7 @@ fn fill_edge_lits(edges: &[i32; 384], m: usize, plan: &mut [u32; 15241])
     }
 }
 
-fn copy_index(index: &[u32; 10881], plan: &mut [u32; 15241])
+fn copy_index(index: &[u32; 10881], plan: &mut PlanWords)
     ensures { λ _. ⌜ now (plan .exit) ≡ filled 4360 10881 (λ i. getD (now (index .entry)) i 0) (now (plan .entry)) ⌝ }
 {
     let mut i = 0;
@@ -176,7 +180,7 @@ fn flag(on: bool) -> u32
 }
 
 // Arrays of zeros, made by functions of their own: a proof then has their name and not their 15241 entries.
-fn no_words() -> [u32; 15241]
+fn no_words() -> PlanWords
     ensures { λ r. ⌜ r ≡ replicate 15241 0 ⌝ }
 {
     [0u32; 15241]
@@ -189,7 +193,7 @@ fn no_index() -> [u32; 10881]
 }
 
 // Counts and options.
-fn fill_header(n: usize, m: usize, options: GraphDivisionOptions, plan: &mut [u32; 15241])
+fn fill_header(n: usize, m: usize, options: GraphDivisionOptions, plan: &mut PlanWords)
     requires { ⌜ (n ≤ 64) × (m ≤ 128) ⌝ }
     ensures { λ _. ⌜ now (plan .exit) ≡ filled 0 4 (header n m (options .«disallow_adjacent_same_size_regions») (options .«allow_extra_walls»)) (now (plan .entry)) ⌝ }
 {
@@ -203,12 +207,12 @@ fn fill_header(n: usize, m: usize, options: GraphDivisionOptions, plan: &mut [u3
 
 // The words as they were given, before the index.
 fn fill_given<'a>(
-    vertices: &'a [i32; 4288],
+    vertices: &'a VertexNumbers,
     n: usize,
-    edges: &'a [i32; 384],
+    edges: &'a EdgeNumbers,
     m: usize,
     options: GraphDivisionOptions,
-    plan: &mut [u32; 15241],
+    plan: &mut PlanWords,
 )
     requires { ⌜ (n ≤ 64) × (m ≤ 128) × ((v : ℕ) → v < n → lenAt (now vertices) v ≤ 32) × (now plan ≡ replicate 15241 0) ⌝ }
     ensures { λ _. ⌜ now (plan .exit) ≡ given (now (vertices .entry)) n (now (edges .entry)) m (options .«disallow_adjacent_same_size_regions») (options .«allow_extra_walls») ⌝ }
@@ -222,7 +226,7 @@ fn fill_given<'a>(
 }
 
 // How many variables and slots the index has.
-fn fill_totals(variables: usize, slots: usize, plan: &mut [u32; 15241])
+fn fill_totals(variables: usize, slots: usize, plan: &mut PlanWords)
     requires { ⌜ (variables ≤ 2176) × (slots ≤ 2176) ⌝ }
     ensures { λ _. ⌜ now (plan .exit) ≡ set (set (now (plan .entry)) 4 variables) 5 slots ⌝ }
 {
@@ -231,7 +235,7 @@ fn fill_totals(variables: usize, slots: usize, plan: &mut [u32; 15241])
 }
 
 // Adds the index to a plan's words.
-fn fill_index(plan: &mut [u32; 15241])
+fn fill_index(plan: &mut PlanWords)
     ensures { λ _. ⌜ now (plan .exit) ≡ withIndex (now (plan .entry)) ⌝ }
 {
     let mut index = no_index();
@@ -245,9 +249,9 @@ fn fill_index(plan: &mut [u32; 15241])
 
 // The plan's words, all 0 where the building is refused.
 pub fn plan_words<'a>(
-    vertices: &'a [i32; 4288],
+    vertices: &'a VertexNumbers,
     n: usize,
-    edges: &'a [i32; 384],
+    edges: &'a EdgeNumbers,
     m: usize,
     options: GraphDivisionOptions,
 ) -> PlanWords
@@ -268,14 +272,14 @@ fn end_number(end: i32) -> u8
     (base::to_nat(end) % 256) as u8
 }
 
-fn left_number(edges: &[i32; 384], g: usize) -> u8
+fn left_number(edges: &EdgeNumbers, g: usize) -> u8
     requires { ⌜ g < 128 ⌝ }
     ensures { λ r. ⌜ r ≡ toNat (leftAt (now (edges .entry)) g) % 256 ⌝ }
 {
     end_number(left(edges, g))
 }
 
-fn right_number(edges: &[i32; 384], g: usize) -> u8
+fn right_number(edges: &EdgeNumbers, g: usize) -> u8
     requires { ⌜ g < 128 ⌝ }
     ensures { λ r. ⌜ r ≡ toNat (rightAt (now (edges .entry)) g) % 256 ⌝ }
 {
@@ -293,7 +297,7 @@ fn at_most_128(m: usize) -> usize
 
 // The edge table: for each edge the pair of its ends, and 0, 0 past the last edge. An end is the number given modulo 256,
 // which is that number wherever it is a vertex.
-pub fn edge_table(edges: &[i32; 384], m: usize) -> [[u8; 2]; 128]
+pub fn edge_table(edges: &EdgeNumbers, m: usize) -> Edges
     ensures { λ r. ⌜ r ≡ edgeTable (now (edges .entry)) m ⌝ }
 {
     let count = at_most_128(m);

@@ -19,63 +19,67 @@ ghost use Rattle.base.specs.Lists.{some};
 ghost use Rattle.base.specs.Range.{inRange, toNat};
 ghost use Rattle.builder.specs.Input.{weightAt, sizesAt, litsAt, sizeAt, litAt, leftAt, rightAt, edgeLitAt, lenAt, sizesOutside, tooMany, weightOutside, sizeWrong, domainWrong, sizesWrong, litCountWrongAt, litCountWrong, sizeLitOutside, edgeLitOutside, litOutside, isVertex, endWrong, refusal};
 
-pub(crate) fn weight(vertices: &[i32; 4288], v: usize) -> i32
+pub type VertexNumbers = [i32; 4288];
+
+pub type EdgeNumbers = [i32; 384];
+
+pub(crate) fn weight(vertices: &VertexNumbers, v: usize) -> i32
     requires { ⌜ v < 64 ⌝ }
     ensures { λ r. ⌜ r ≡ weightAt (now (vertices .entry)) v ⌝ }
 {
     vertices[67 * v]
 }
 
-fn sizes(vertices: &[i32; 4288], v: usize) -> i32
+fn sizes(vertices: &VertexNumbers, v: usize) -> i32
     requires { ⌜ v < 64 ⌝ }
     ensures { λ r. ⌜ r ≡ sizesAt (now (vertices .entry)) v ⌝ }
 {
     vertices[67 * v + 1]
 }
 
-fn lits(vertices: &[i32; 4288], v: usize) -> i32
+fn lits(vertices: &VertexNumbers, v: usize) -> i32
     requires { ⌜ v < 64 ⌝ }
     ensures { λ r. ⌜ r ≡ litsAt (now (vertices .entry)) v ⌝ }
 {
     vertices[67 * v + 2]
 }
 
-pub(crate) fn size(vertices: &[i32; 4288], v: usize, j: usize) -> i32
+pub(crate) fn size(vertices: &VertexNumbers, v: usize, j: usize) -> i32
     requires { ⌜ (v < 64) × (j < 32) ⌝ }
     ensures { λ r. ⌜ r ≡ sizeAt (now (vertices .entry)) v j ⌝ }
 {
     vertices[67 * v + 3 + j]
 }
 
-pub(crate) fn size_lit(vertices: &[i32; 4288], v: usize, j: usize) -> i32
+pub(crate) fn size_lit(vertices: &VertexNumbers, v: usize, j: usize) -> i32
     requires { ⌜ (v < 64) × (j < 32) ⌝ }
     ensures { λ r. ⌜ r ≡ litAt (now (vertices .entry)) v j ⌝ }
 {
     vertices[67 * v + 35 + j]
 }
 
-pub(crate) fn left(edges: &[i32; 384], g: usize) -> i32
+pub(crate) fn left(edges: &EdgeNumbers, g: usize) -> i32
     requires { ⌜ g < 128 ⌝ }
     ensures { λ r. ⌜ r ≡ leftAt (now (edges .entry)) g ⌝ }
 {
     edges[3 * g]
 }
 
-pub(crate) fn right(edges: &[i32; 384], g: usize) -> i32
+pub(crate) fn right(edges: &EdgeNumbers, g: usize) -> i32
     requires { ⌜ g < 128 ⌝ }
     ensures { λ r. ⌜ r ≡ rightAt (now (edges .entry)) g ⌝ }
 {
     edges[3 * g + 1]
 }
 
-pub(crate) fn edge_lit(edges: &[i32; 384], g: usize) -> i32
+pub(crate) fn edge_lit(edges: &EdgeNumbers, g: usize) -> i32
     requires { ⌜ g < 128 ⌝ }
     ensures { λ r. ⌜ r ≡ edgeLitAt (now (edges .entry)) g ⌝ }
 {
     edges[3 * g + 2]
 }
 
-pub(crate) fn domain_len(vertices: &[i32; 4288], v: usize) -> usize
+pub(crate) fn domain_len(vertices: &VertexNumbers, v: usize) -> usize
     requires { ⌜ v < 64 ⌝ }
     ensures { λ r. ⌜ r ≡ lenAt (now (vertices .entry)) v ⌝ }
 {
@@ -88,14 +92,14 @@ fn less(a: i32, b: i32) -> bool
     a < b
 }
 
-fn bad_sizes(vertices: &[i32; 4288], v: usize) -> bool
+fn bad_sizes(vertices: &VertexNumbers, v: usize) -> bool
     requires { ⌜ v < 64 ⌝ }
     ensures { λ r. ⌜ r ≡ not (inRange (pos 32) (sizesAt (now (vertices .entry)) v)) ⌝ }
 {
     !base::in_range(sizes(vertices, v), 32)
 }
 
-fn sizes_outside(vertices: &[i32; 4288], n: usize) -> bool
+fn sizes_outside(vertices: &VertexNumbers, n: usize) -> bool
     requires { ⌜ n ≤ 64 ⌝ }
     ensures { λ r. ⌜ r ≡ sizesOutside (now (vertices .entry)) n ⌝ }
 {
@@ -109,14 +113,14 @@ fn sizes_outside(vertices: &[i32; 4288], n: usize) -> bool
     false
 }
 
-fn bad_weight(vertices: &[i32; 4288], v: usize) -> bool
+fn bad_weight(vertices: &VertexNumbers, v: usize) -> bool
     requires { ⌜ v < 64 ⌝ }
     ensures { λ r. ⌜ r ≡ not (inRange (pos 1000000) (weightAt (now (vertices .entry)) v)) ⌝ }
 {
     !base::in_range(weight(vertices, v), 1000000)
 }
 
-fn weight_outside(vertices: &[i32; 4288], n: usize) -> bool
+fn weight_outside(vertices: &VertexNumbers, n: usize) -> bool
     requires { ⌜ n ≤ 64 ⌝ }
     ensures { λ r. ⌜ r ≡ weightOutside (now (vertices .entry)) n ⌝ }
 {
@@ -130,7 +134,7 @@ fn weight_outside(vertices: &[i32; 4288], n: usize) -> bool
     false
 }
 
-fn bad_size(vertices: &[i32; 4288], v: usize, j: usize) -> bool
+fn bad_size(vertices: &VertexNumbers, v: usize, j: usize) -> bool
     requires { ⌜ (v < 64) × (j < 32) ⌝ }
     ensures { λ r. ⌜ r ≡ sizeWrong (now (vertices .entry)) v j ⌝ }
 {
@@ -143,7 +147,7 @@ fn bad_size(vertices: &[i32; 4288], v: usize, j: usize) -> bool
     true
 }
 
-fn size_wrong_below(vertices: &[i32; 4288], v: usize, len: usize) -> bool
+fn size_wrong_below(vertices: &VertexNumbers, v: usize, len: usize) -> bool
     requires { ⌜ (v < 64) × (len ≤ 32) ⌝ }
     ensures { λ r. ⌜ r ≡ some (sizeWrong (now (vertices .entry)) v) len ⌝ }
 {
@@ -157,14 +161,14 @@ fn size_wrong_below(vertices: &[i32; 4288], v: usize, len: usize) -> bool
     false
 }
 
-fn domain_wrong(vertices: &[i32; 4288], v: usize) -> bool
+fn domain_wrong(vertices: &VertexNumbers, v: usize) -> bool
     requires { ⌜ (v < 64) × (lenAt (now vertices) v ≤ 32) ⌝ }
     ensures { λ r. ⌜ r ≡ domainWrong (now (vertices .entry)) v ⌝ }
 {
     size_wrong_below(vertices, v, domain_len(vertices, v))
 }
 
-fn sizes_wrong(vertices: &[i32; 4288], n: usize) -> bool
+fn sizes_wrong(vertices: &VertexNumbers, n: usize) -> bool
     requires { ⌜ (n ≤ 64) × ((v : ℕ) → v < n → lenAt (now vertices) v ≤ 32) ⌝ }
     ensures { λ r. ⌜ r ≡ sizesWrong (now (vertices .entry)) n ⌝ }
 {
@@ -178,7 +182,7 @@ fn sizes_wrong(vertices: &[i32; 4288], n: usize) -> bool
     false
 }
 
-fn bad_lit_count(vertices: &[i32; 4288], v: usize) -> bool
+fn bad_lit_count(vertices: &VertexNumbers, v: usize) -> bool
     requires { ⌜ v < 64 ⌝ }
     ensures { λ r. ⌜ r ≡ litCountWrongAt (now (vertices .entry)) v ⌝ }
 {
@@ -193,7 +197,7 @@ fn bad_lit_count(vertices: &[i32; 4288], v: usize) -> bool
     true
 }
 
-fn lit_count_wrong(vertices: &[i32; 4288], n: usize) -> bool
+fn lit_count_wrong(vertices: &VertexNumbers, n: usize) -> bool
     requires { ⌜ n ≤ 64 ⌝ }
     ensures { λ r. ⌜ r ≡ litCountWrong (now (vertices .entry)) n ⌝ }
 {
@@ -207,14 +211,14 @@ fn lit_count_wrong(vertices: &[i32; 4288], n: usize) -> bool
     false
 }
 
-fn bad_size_lit(vertices: &[i32; 4288], v: usize, j: usize) -> bool
+fn bad_size_lit(vertices: &VertexNumbers, v: usize, j: usize) -> bool
     requires { ⌜ (v < 64) × (j < 32) ⌝ }
     ensures { λ r. ⌜ r ≡ not (inRange (pos 8191) (litAt (now (vertices .entry)) v j)) ⌝ }
 {
     !base::in_range(size_lit(vertices, v, j), 8191)
 }
 
-fn size_lit_outside_below(vertices: &[i32; 4288], v: usize, count: usize) -> bool
+fn size_lit_outside_below(vertices: &VertexNumbers, v: usize, count: usize) -> bool
     requires { ⌜ (v < 64) × (count ≤ 32) ⌝ }
     ensures { λ r. ⌜ r ≡ some (λ j. not (inRange (pos 8191) (litAt (now (vertices .entry)) v j))) count ⌝ }
 {
@@ -238,14 +242,14 @@ pub(crate) fn less_one(k: usize) -> usize
     k - 1
 }
 
-fn size_lit_outside(vertices: &[i32; 4288], v: usize) -> bool
+fn size_lit_outside(vertices: &VertexNumbers, v: usize) -> bool
     requires { ⌜ (v < 64) × (lenAt (now vertices) v ≤ 32) ⌝ }
     ensures { λ r. ⌜ r ≡ sizeLitOutside (now (vertices .entry)) v ⌝ }
 {
     size_lit_outside_below(vertices, v, less_one(domain_len(vertices, v)))
 }
 
-fn size_lits_outside(vertices: &[i32; 4288], n: usize) -> bool
+fn size_lits_outside(vertices: &VertexNumbers, n: usize) -> bool
     requires { ⌜ (n ≤ 64) × ((v : ℕ) → v < n → lenAt (now vertices) v ≤ 32) ⌝ }
     ensures { λ r. ⌜ r ≡ some (sizeLitOutside (now (vertices .entry))) n ⌝ }
 {
@@ -259,14 +263,14 @@ fn size_lits_outside(vertices: &[i32; 4288], n: usize) -> bool
     false
 }
 
-fn bad_edge_lit(edges: &[i32; 384], g: usize) -> bool
+fn bad_edge_lit(edges: &EdgeNumbers, g: usize) -> bool
     requires { ⌜ g < 128 ⌝ }
     ensures { λ r. ⌜ r ≡ not (inRange (pos 8191) (edgeLitAt (now (edges .entry)) g)) ⌝ }
 {
     !base::in_range(edge_lit(edges, g), 8191)
 }
 
-fn edge_lit_outside(edges: &[i32; 384], m: usize) -> bool
+fn edge_lit_outside(edges: &EdgeNumbers, m: usize) -> bool
     requires { ⌜ m ≤ 128 ⌝ }
     ensures { λ r. ⌜ r ≡ edgeLitOutside (now (edges .entry)) m ⌝ }
 {
@@ -290,7 +294,7 @@ fn is_vertex(n: usize, end: i32) -> bool
     false
 }
 
-fn bad_end(edges: &[i32; 384], n: usize, g: usize) -> bool
+fn bad_end(edges: &EdgeNumbers, n: usize, g: usize) -> bool
     requires { ⌜ g < 128 ⌝ }
     ensures { λ r. ⌜ r ≡ not (isVertex n (leftAt (now (edges .entry)) g) && isVertex n (rightAt (now (edges .entry)) g)) ⌝ }
 {
@@ -300,7 +304,7 @@ fn bad_end(edges: &[i32; 384], n: usize, g: usize) -> bool
     true
 }
 
-fn end_wrong(edges: &[i32; 384], n: usize, m: usize) -> bool
+fn end_wrong(edges: &EdgeNumbers, n: usize, m: usize) -> bool
     requires { ⌜ m ≤ 128 ⌝ }
     ensures { λ r. ⌜ r ≡ endWrong n (now (edges .entry)) m ⌝ }
 {
@@ -315,7 +319,7 @@ fn end_wrong(edges: &[i32; 384], n: usize, m: usize) -> bool
 }
 
 // Refusal 1.
-fn too_many(vertices: &[i32; 4288], n: usize, m: usize) -> bool
+fn too_many(vertices: &VertexNumbers, n: usize, m: usize) -> bool
     ensures { λ r. ⌜ r ≡ tooMany (now (vertices .entry)) n m ⌝ }
 {
     if 64 < n {
@@ -328,7 +332,7 @@ fn too_many(vertices: &[i32; 4288], n: usize, m: usize) -> bool
 }
 
 // Refusals 5 and 6, which ask about both arrays: the first that applies, or 0.
-fn refused_lits<'a>(vertices: &'a [i32; 4288], n: usize, edges: &'a [i32; 384], m: usize) -> u8
+fn refused_lits<'a>(vertices: &'a VertexNumbers, n: usize, edges: &'a EdgeNumbers, m: usize) -> u8
     requires { ⌜ (n ≤ 64) × (m ≤ 128) × ((v : ℕ) → v < n → lenAt (now vertices) v ≤ 32) ⌝ }
     ensures { λ r. ⌜ r ≡ pick (litOutside (now (vertices .entry)) n (now (edges .entry)) m) 5 (pick (endWrong n (now (edges .entry)) m) 6 0) ⌝ }
 {
@@ -345,7 +349,7 @@ fn refused_lits<'a>(vertices: &'a [i32; 4288], n: usize, edges: &'a [i32; 384], 
 }
 
 // The lowest number of document 01's table that applies, or 0.
-pub fn refusal_of<'a>(vertices: &'a [i32; 4288], n: usize, edges: &'a [i32; 384], m: usize) -> u8
+pub fn refusal_of<'a>(vertices: &'a VertexNumbers, n: usize, edges: &'a EdgeNumbers, m: usize) -> u8
     ensures { λ r. ⌜ r ≡ refusal (now (vertices .entry)) n (now (edges .entry)) m ⌝ }
 {
     if too_many(vertices, n, m) {

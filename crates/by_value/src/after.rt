@@ -1,15 +1,17 @@
 // The state put together again.
 use graph_division::GraphDivision;
 use lent::Done;
+use lists::ReasonList;
+use noting::NotedWords;
 ghost use mathlib.Core.Path.{_≡_};
 ghost use Rattle.lent.specs.Lent.{stateAfter};
 
 // The state after a call on its parts.
 pub(crate) fn state_after(
     s: GraphDivision,
-    noted: [u32; 384],
+    noted: NotedWords,
     proposals: &[u64],
-    left: [u32; 260],
+    left: ReasonList,
     done: Done,
 ) -> GraphDivision
     ensures { λ r. ⌜ r ≡ stateAfter s noted (now (proposals .entry)) left done ⌝ }

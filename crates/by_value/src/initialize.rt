@@ -4,6 +4,8 @@ use graph_division::GraphDivision;
 use graph_division::Outcome;
 use lent::Done;
 use lent::initialize::is_consistent;
+use lists::ReasonList;
+use noting::NotedWords;
 use undo_log::Cursor;
 ghost use mathlib.Core.Path.{_≡_};
 ghost use Rattle.graph_division.specs.Calls.{called};
@@ -13,9 +15,9 @@ ghost use Rattle.lent.specs.Lent.{begunAfter};
 // The state after an initialise: a consistent one is marked in it.
 fn begun_after(
     s: GraphDivision,
-    noted: [u32; 384],
+    noted: NotedWords,
     words: &[u64],
-    left: [u32; 260],
+    left: ReasonList,
     done: Done,
 ) -> GraphDivision
     ensures { λ r. ⌜ r ≡ begunAfter s noted (now (words .entry)) left done ⌝ }

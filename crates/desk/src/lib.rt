@@ -11,6 +11,7 @@ use by_value::propagate::propagate;
 use by_value::undo::undo;
 use graph_division::Answer;
 use graph_division::GraphDivision;
+use lists::ReasonList;
 use text::Line;
 use undo_log::Cursor;
 ghost use mathlib.Core.Path.{_≡_};
@@ -33,7 +34,7 @@ fn no_list() -> [u32; 4352]
     [0u32; 4352]
 }
 
-fn no_reason() -> [u32; 260]
+fn no_reason() -> ReasonList
     ensures { λ r. ⌜ r ≡ replicate 260 0 ⌝ }
 {
     [0u32; 260]

@@ -1,5 +1,7 @@
 // The program's start: the input's shape, and the plan that its first lines give.
 use builder::build::GraphDivisionOptions;
+use builder::input::EdgeNumbers;
+use builder::input::VertexNumbers;
 use graph_division::GraphDivision;
 ghost use mathlib.Core.Path.{_≡_};
 ghost use lib.IntN.{pos};
@@ -13,13 +15,13 @@ pub struct Started {
     pub calls_at: usize,
 }
 
-fn no_vertices() -> [i32; 4288]
+fn no_vertices() -> VertexNumbers
     ensures { λ r. ⌜ r ≡ replicate 4288 (pos 0) ⌝ }
 {
     [0i32; 4288]
 }
 
-fn no_edges() -> [i32; 384]
+fn no_edges() -> EdgeNumbers
     ensures { λ r. ⌜ r ≡ replicate 384 (pos 0) ⌝ }
 {
     [0i32; 384]

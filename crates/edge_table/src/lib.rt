@@ -2,17 +2,22 @@
 // by hand, because the prover's own walk does not cover a field that is an array of arrays.
 ghost use mathlib.Core.Path.{_≡_};
 
+pub const MOST_EDGES: usize = 128;
+
+// Each edge's two ends, "an array of pairs of pen numbers".
+pub type Edges = [[u8; 2]; MOST_EDGES];
+
 pub struct EdgeTable {
-    pub ends: [[u8; 2]; 128],
+    pub ends: Edges,
 }
 
-pub fn hold(table: [[u8; 2]; 128]) -> EdgeTable
+pub fn hold(table: Edges) -> EdgeTable
     ensures { λ r. ⌜ r .ends ≡ table ⌝ }
 {
     EdgeTable { ends: table }
 }
 
-pub fn table_of(t: EdgeTable) -> [[u8; 2]; 128]
+pub fn table_of(t: EdgeTable) -> Edges
     ensures { λ r. ⌜ r ≡ t .ends ⌝ }
 {
     t.ends

@@ -1,4 +1,5 @@
 // Whether a graph can be walked, and an edge passed.
+use edge_table::Edges;
 ghost use mathlib.Core.Path.{_≡_};
 ghost use Prim.Native.Nat.{ℕ, _<_, _≤_};
 ghost use Rattle.graph.specs.Search.{passes};
@@ -21,7 +22,7 @@ pub fn passable(state: u32, potential: bool) -> bool
 }
 
 // Whether the ends of edge g are vertices.
-fn ends_below(edges: &[[u8; 2]; 128], num_vertices: usize, g: usize) -> bool
+fn ends_below(edges: &Edges, num_vertices: usize, g: usize) -> bool
     requires { ⌜ g < 128 ⌝ }
     ensures { λ r. ⌜ r ≡ endsBelow «num_vertices» (now (edges .entry)) g ⌝ }
 {
@@ -34,12 +35,7 @@ fn ends_below(edges: &[[u8; 2]; 128], num_vertices: usize, g: usize) -> bool
 }
 
 // Whether vertices and edges fit, each edge has a state, and each edge's ends are vertices.
-pub fn walkable(
-    edges: &[[u8; 2]; 128],
-    state: &[u32],
-    num_edges: usize,
-    num_vertices: usize,
-) -> bool
+pub fn walkable(edges: &Edges, state: &[u32], num_edges: usize, num_vertices: usize) -> bool
     ensures { λ r. ⌜ r ≡ walkable (now (edges .entry)) (now (state .entry)) «num_edges» «num_vertices» ⌝ }
 {
     if 64 < num_vertices {

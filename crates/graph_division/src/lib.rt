@@ -1,6 +1,11 @@
 // The propagator's state, how it is built, and what its calls answer. The calls are in crates lent and by_value; specs/ says what they do.
 use builder::build::GraphDivisionOptions;
+use builder::input::EdgeNumbers;
+use builder::input::VertexNumbers;
 use edge_table::EdgeTable;
+use lists::ReasonList;
+use noting::NotedWords;
+use plan::PlanWords;
 use recorded::Reasons;
 use undo_log::Cursor;
 ghost use mathlib.Core.Path.{_≡_};
@@ -9,15 +14,15 @@ ghost use Rattle.graph_division.specs.New.{built};
 
 pub struct GraphDivision {
     // The plan's words, read through the functions of crate `plan`.
-    pub plan: [u32; 15241],
+    pub plan: PlanWords,
     // The edges' ends.
     pub edges: EdgeTable,
     // Edge states and bounds, read through the functions of crate `noting`.
-    pub noted: [u32; 384],
+    pub noted: NotedWords,
     // The reason recorded for each of the distinct literals.
     pub reasons: Reasons,
     // The list last left: the first `last_len` entries.
-    pub last: [u32; 260],
+    pub last: ReasonList,
     pub last_len: usize,
     // Whether an initialize was consistent.
     pub initialized: bool,
@@ -49,13 +54,13 @@ pub struct Built {
     pub state: GraphDivision,
 }
 
-fn no_notes() -> [u32; 384]
+fn no_notes() -> NotedWords
     ensures { λ r. ⌜ r ≡ replicate 384 0 ⌝ }
 {
     [0u32; 384]
 }
 
-fn no_list() -> [u32; 260]
+fn no_list() -> ReasonList
     ensures { λ r. ⌜ r ≡ replicate 260 0 ⌝ }
 {
     [0u32; 260]
@@ -64,9 +69,9 @@ fn no_list() -> [u32; 260]
 impl GraphDivision {
     // The two arrays hold n vertices and m edges as builder::input says.
     pub fn new<'a>(
-        vertices: &'a [i32; 4288],
+        vertices: &'a VertexNumbers,
         n: usize,
-        edges: &'a [i32; 384],
+        edges: &'a EdgeNumbers,
         m: usize,
         options: GraphDivisionOptions,
     ) -> Built

@@ -1,6 +1,7 @@
 // Case G of document 01 through crate held_log: a caller in ordinary forms, none of its functions proved by a walk of its own.
 // The answers are printed as `yard` prints them, and the file stdout has the document's.
 use builder::build::GraphDivisionOptions;
+use builder::input::VertexNumbers;
 use graph_division::Answer;
 use graph_division::Built;
 use graph_division::GraphDivision;
@@ -58,7 +59,7 @@ fn put_answer(a: Answer, list: &[u32]) {
 }
 
 // A vertex with two sizes and so one literal.
-fn put_vertex(vertices: &mut [i32; 4288], v: usize, weight: i32, size: i32, larger: i32, lit: i32)
+fn put_vertex(vertices: &mut VertexNumbers, v: usize, weight: i32, size: i32, larger: i32, lit: i32)
     requires { ⌜ v < 64 ⌝ }
 {
     vertices[67 * v] = weight;

@@ -4,6 +4,11 @@ use crate::codes::refusal_code;
 use crate::decode::no_notes;
 use crate::store::store_noted;
 use builder::build::GraphDivisionOptions;
+use builder::input::EdgeNumbers;
+use builder::input::VertexNumbers;
+use edge_table::Edges;
+use noting::NotedWords;
+use plan::PlanWords;
 ghost use mathlib.Core.Path.{_≡_};
 ghost use mathlib.Core.Bool.{not, false};
 ghost use Prim.Native.Nat.{ℕ, _+_, _*_, _≤_, _<_};
@@ -29,7 +34,7 @@ pub(crate) fn option(n: i32) -> bool
     true
 }
 
-fn store_ends(state: &mut [u8], table: &[[u8; 2]; 128], g: usize)
+fn store_ends(state: &mut [u8], table: &Edges, g: usize)
     requires { ⌜ (133440 ≤ length (now state)) × (g < 128) ⌝ }
     ensures { λ _. ⌜ now (state .exit) ≡ putEnds (now (table .entry)) g (now (state .entry)) ⌝ }
 {
@@ -37,7 +42,7 @@ fn store_ends(state: &mut [u8], table: &[[u8; 2]; 128], g: usize)
     state[60965 + 2 * g] = table[g][1];
 }
 
-fn store_edges(state: &mut [u8], table: &[[u8; 2]; 128])
+fn store_edges(state: &mut [u8], table: &Edges)
     requires { ⌜ 133440 ≤ length (now state) ⌝ }
     ensures { λ _. ⌜ now (state .exit) ≡ putEdges (now (table .entry)) (now (state .entry)) ⌝ }
 {
@@ -69,7 +74,7 @@ fn store_plan(state: &mut [u8], plan: &[u32])
 }
 
 // And the noted ones.
-fn store_words<'a>(state: &mut [u8], plan: &'a [u32; 15241], noted: &'a [u32; 384])
+fn store_words<'a>(state: &mut [u8], plan: &'a PlanWords, noted: &'a NotedWords)
     requires { ⌜ 133440 ≤ length (now state) ⌝ }
     ensures { λ _. ⌜ (now (state .exit) ≡ putNoted (now (noted .entry)) (putWords 0 (now (plan .entry)) 15241 (now (state .entry))))
         × ((i : ℕ) → i < 15241 → wordAt (now (state .exit)) (4 * i) ≡ getD (now (plan .entry)) i 0) × (wordsIn (now (state .exit)) 61220 384 ≡ now (noted .entry)) ⌝ }
@@ -79,9 +84,9 @@ fn store_words<'a>(state: &mut [u8], plan: &'a [u32; 15241], noted: &'a [u32; 38
 }
 
 pub(crate) fn build<'a>(
-    vertices: &'a [i32; 4288],
+    vertices: &'a VertexNumbers,
     n: usize,
-    edges: &'a [i32; 384],
+    edges: &'a EdgeNumbers,
     m: usize,
     options: GraphDivisionOptions,
     state: &mut [u8],
@@ -101,9 +106,9 @@ pub(crate) fn build<'a>(
 
 // Where no refusal applies. An option other than 0 counts as 1.
 pub(crate) fn build_from<'a>(
-    vertices: &'a [i32; 4288],
+    vertices: &'a VertexNumbers,
     n: usize,
-    edges: &'a [i32; 384],
+    edges: &'a EdgeNumbers,
     m: usize,
     same_size: i32,
     extra_walls: i32,

@@ -3,6 +3,11 @@ use crate::bytes::long_at;
 use crate::bytes::read_longs;
 use crate::bytes::read_words;
 use crate::bytes::word_at;
+use edge_table::Edges;
+use lists::ReasonList;
+use noting::NotedWords;
+use plan::PlanWords;
+use reasons::ProposalWords;
 use undo_log::Cursor;
 ghost use mathlib.Core.Path.{_≡_};
 ghost use mathlib.Core.List.{_∷_, []};
@@ -84,7 +89,7 @@ pub(crate) fn read_plan(state: &[u8], plan: &mut [u32])
     read_index(state, k, s, plan);
 }
 
-pub(crate) fn read_edges(state: &[u8]) -> [[u8; 2]; 128]
+pub(crate) fn read_edges(state: &[u8]) -> Edges
     requires { ⌜ 133440 ≤ length (now state) ⌝ }
     ensures { λ r. ⌜ r ≡ endsIn (now (state .entry)) ⌝ }
 {
@@ -119,19 +124,19 @@ pub(crate) fn read_log(log: &[u8], cursor: Cursor, records: &mut [u64])
     read_longs(log, n, records);
 }
 
-pub(crate) fn no_plan() -> [u32; 15241]
+pub(crate) fn no_plan() -> PlanWords
     ensures { λ r. ⌜ r ≡ replicate 15241 0 ⌝ }
 {
     [0u32; 15241]
 }
 
-pub(crate) fn no_notes() -> [u32; 384]
+pub(crate) fn no_notes() -> NotedWords
     ensures { λ r. ⌜ r ≡ replicate 384 0 ⌝ }
 {
     [0u32; 384]
 }
 
-pub(crate) fn no_list() -> [u32; 260]
+pub(crate) fn no_list() -> ReasonList
     ensures { λ r. ⌜ r ≡ replicate 260 0 ⌝ }
 {
     [0u32; 260]
@@ -149,7 +154,7 @@ pub(crate) fn no_records() -> [u64; 4352]
     [0u64; 4352]
 }
 
-pub(crate) fn no_words() -> [u64; 8704]
+pub(crate) fn no_words() -> ProposalWords
     ensures { λ r. ⌜ r ≡ replicate 8704 0 ⌝ }
 {
     [0u64; 8704]

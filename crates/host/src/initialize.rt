@@ -14,8 +14,11 @@ use crate::decode::read_edges;
 use crate::decode::read_log;
 use crate::decode::read_plan;
 use crate::decode::room_of;
+use edge_table::Edges;
 use graph_division::Answer;
 use lent::initialize::is_consistent;
+use noting::NotedWords;
+use plan::PlanWords;
 use undo_log::Cursor;
 ghost use mathlib.Core.Path.{_≡_};
 ghost use mathlib.Core.Bool.{true, false, not};
@@ -54,9 +57,9 @@ fn store_initialized(state: &mut [u8], answer: Answer)
 // The initialise over the decoded words, where lits and records have as many entries as the list and the log, and last is the list last left.
 fn begin(
     state: &mut [u8],
-    plan: &[u32; 15241],
-    edges: [[u8; 2]; 128],
-    noted: &mut [u32; 384],
+    plan: &PlanWords,
+    edges: Edges,
+    noted: &mut NotedWords,
     last: &mut [u32],
     lits: &mut [u32],
     records: &mut [u64],

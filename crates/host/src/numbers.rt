@@ -1,5 +1,7 @@
 // Numbers with a sign in byte slices, the lowest byte first. A byte that is missing counts as 0.
 use crate::bytes::wide;
+use builder::input::EdgeNumbers;
+use builder::input::VertexNumbers;
 ghost use mathlib.Core.Path.{_≡_};
 ghost use Prim.Native.Nat.{ℕ, _+_, _*_, _<_, _≤_};
 ghost use lib.IntN.{pos, negsuc};
@@ -64,13 +66,13 @@ pub(crate) fn read_numbers(bytes: &[u8], n: usize, numbers: &mut [i32])
     }
 }
 
-pub(crate) fn no_vertices() -> [i32; 4288]
+pub(crate) fn no_vertices() -> VertexNumbers
     ensures { λ r. ⌜ r ≡ replicate 4288 (pos 0) ⌝ }
 {
     [0i32; 4288]
 }
 
-pub(crate) fn no_edges() -> [i32; 384]
+pub(crate) fn no_edges() -> EdgeNumbers
     ensures { λ r. ⌜ r ≡ replicate 384 (pos 0) ⌝ }
 {
     [0i32; 384]

@@ -1,6 +1,9 @@
 // A conflict of the analysis: its list, written from place 0 on.
 use crate::Judgement;
+use edge_table::Edges;
 use lists::conflict::conflict_lits;
+use noting::NotedWords;
+use plan::PlanWords;
 use reasons::Verdict;
 use views::cells::separate_ranges;
 use views::compute::compute_view;
@@ -21,9 +24,9 @@ fn judge_list(r: Listed) -> Judgement
 
 // A conflict whose separate ranges are those of the first `count` of `chosen`.
 fn judge_chosen(
-    plan: &[u32; 15241],
-    edges: [[u8; 2]; 128],
-    noted: &[u32; 384],
+    plan: &PlanWords,
+    edges: Edges,
+    noted: &NotedWords,
     found: Verdict,
     chosen: &[u8; 64],
     count: usize,
@@ -37,9 +40,9 @@ fn judge_chosen(
 
 // A conflict without separate ranges.
 pub(crate) fn judge_conflict(
-    plan: &[u32; 15241],
-    edges: [[u8; 2]; 128],
-    noted: &[u32; 384],
+    plan: &PlanWords,
+    edges: Edges,
+    noted: &NotedWords,
     found: Verdict,
     left: &mut [u32],
 ) -> Judgement
@@ -51,9 +54,9 @@ pub(crate) fn judge_conflict(
 
 // Separate ranges of a potential region that need more than it weighs.
 pub(crate) fn judge_crowded(
-    plan: &[u32; 15241],
-    edges: [[u8; 2]; 128],
-    noted: &[u32; 384],
+    plan: &PlanWords,
+    edges: Edges,
+    noted: &NotedWords,
     region: usize,
     left: &mut [u32],
 ) -> Judgement

@@ -1,8 +1,11 @@
 // The proposals of an analysis without a conflict: the lowest false one makes one, "its reason as this analysis recorded it, plus
 // its negation".
 use crate::Judgement;
+use edge_table::Edges;
 use lists::and_word;
 use lists::reason_lits;
+use noting::NotedWords;
+use plan::PlanWords;
 use reasons::reason::Reason;
 use reasons::reason::reason_of;
 use sweep::first_false;
@@ -43,7 +46,7 @@ fn negation(lit: u32) -> u32
 }
 
 // The negation of the literal at place p; a word of the list has 32 bits.
-fn negation_at(plan: &[u32; 15241], p: usize) -> u32
+fn negation_at(plan: &PlanWords, p: usize) -> u32
     ensures { λ r. ⌜ r ≡ negationAt (now (plan .entry)) p ⌝ }
 {
     negation((plan::unique_lit(plan, p) % 4294967296) as u32)
@@ -51,9 +54,9 @@ fn negation_at(plan: &[u32; 15241], p: usize) -> u32
 
 // The reason's list, then the negation.
 fn false_lits(
-    plan: &[u32; 15241],
-    edges: [[u8; 2]; 128],
-    noted: &[u32; 384],
+    plan: &PlanWords,
+    edges: Edges,
+    noted: &NotedWords,
     proposals: &[u64],
     p: usize,
     left: &mut [u32],
@@ -83,9 +86,9 @@ fn judge_current(table: &[u8], r: Listed, left: &[u32]) -> Judgement
 
 // The false proposal at place p.
 fn judge_false(
-    plan: &[u32; 15241],
-    edges: [[u8; 2]; 128],
-    noted: &[u32; 384],
+    plan: &PlanWords,
+    edges: Edges,
+    noted: &NotedWords,
     table: &[u8],
     proposals: &[u64],
     p: usize,
@@ -99,9 +102,9 @@ fn judge_false(
 }
 
 pub(crate) fn judge_proposals(
-    plan: &[u32; 15241],
-    edges: [[u8; 2]; 128],
-    noted: &[u32; 384],
+    plan: &PlanWords,
+    edges: Edges,
+    noted: &NotedWords,
     table: &[u8],
     proposals: &[u64],
     left: &mut [u32],

@@ -1,5 +1,8 @@
 // The Rust's `calc_reason`, with a literal and without one. A fetch changes nothing but the buffer that it is lent.
+use edge_table::Edges;
 use graph_division::Answer;
+use noting::NotedWords;
+use plan::PlanWords;
 use reasons::reason::Reason;
 use undo_log::Cursor;
 use walks::Listed;
@@ -100,7 +103,7 @@ fn give(list: &[u32], listed: Listed, buffer: &mut [u32]) -> Answer
 }
 
 // The place of the literal among the distinct literals.
-pub fn place_of(plan: &[u32; 15241], lit: u16) -> usize
+pub fn place_of(plan: &PlanWords, lit: u16) -> usize
     ensures { λ r. ⌜ r ≡ placeOfLit (now (plan .entry)) lit ⌝ }
 {
     let k = noting::note::place_in(plan, (lit / 2) as u32) % 2147483648;
@@ -109,9 +112,9 @@ pub fn place_of(plan: &[u32; 15241], lit: u16) -> usize
 
 // A reason's list, made of the edges connected and disconnected now.
 fn calc(
-    plan: &[u32; 15241],
-    edges: [[u8; 2]; 128],
-    noted: &[u32; 384],
+    plan: &PlanWords,
+    edges: Edges,
+    noted: &NotedWords,
     reason: Reason,
     buffer: &mut [u32],
 ) -> Answer
@@ -128,9 +131,9 @@ fn calc(
 
 // A literal's reason: the list of what an analysis recorded for it, which the caller reads at the literal's place.
 pub fn calc_reason<'a>(
-    plan: &'a [u32; 15241],
-    edges: [[u8; 2]; 128],
-    noted: &'a [u32; 384],
+    plan: &'a PlanWords,
+    edges: Edges,
+    noted: &'a NotedWords,
     log: &'a [u64],
     cursor: Cursor,
     lit: i32,
@@ -154,9 +157,9 @@ pub fn calc_reason<'a>(
 
 // The list last left, which stands in `last`, up to `len`: empty before any analysis and after a consistent notification.
 pub fn calc_last<'a>(
-    plan: &'a [u32; 15241],
-    edges: [[u8; 2]; 128],
-    noted: &'a [u32; 384],
+    plan: &'a PlanWords,
+    edges: Edges,
+    noted: &'a NotedWords,
     log: &'a [u64],
     cursor: Cursor,
     last: &'a [u32],

@@ -4,11 +4,14 @@ use crate::fetch::copy;
 use crate::no_words;
 use crate::table::restore;
 use crate::table::save;
+use edge_table::Edges;
 use graph_division::Answer;
 use judge::Judgement;
 use notifications::Progress;
 use notifications::go_through;
 use notifications::lit_at;
+use noting::NotedWords;
+use plan::PlanWords;
 use undo_log::Cursor;
 ghost use mathlib.Core.Path.{_≡_};
 ghost use mathlib.Core.Bool.{Bool};
@@ -24,9 +27,9 @@ ghost use Rattle.lent.specs.Lent.{stateOf, Parts, isConsistent, begunOf,
 
 // The literal at place p is noted in the words and in the log, where it is true in the table on entry.
 fn note_at(
-    plan: &[u32; 15241],
+    plan: &PlanWords,
     entry: &[u8],
-    noted: &mut [u32; 384],
+    noted: &mut NotedWords,
     log: &mut [u64],
     cursor: Cursor,
     p: usize,
@@ -41,9 +44,9 @@ fn note_at(
 
 // Those of the places below `past`.
 fn note_up_to(
-    plan: &[u32; 15241],
+    plan: &PlanWords,
     entry: &[u8],
-    noted: &mut [u32; 384],
+    noted: &mut NotedWords,
     log: &mut [u64],
     cursor: Cursor,
     past: usize,
@@ -67,9 +70,9 @@ fn no_handed() -> [u32; 8704]
 
 // What was tried out is taken over into the noted words and the log, or taken back.
 fn finish(
-    plan: &[u32; 15241],
+    plan: &PlanWords,
     entry: &[u8],
-    noted: &mut [u32; 384],
+    noted: &mut NotedWords,
     table: &mut [u8],
     list: &mut [u32],
     log: &mut [u64],
@@ -118,9 +121,9 @@ fn finish(
 
 // All is tried out, on a copy of the noted words and on the table in place.
 fn begin(
-    plan: &[u32; 15241],
-    edges: [[u8; 2]; 128],
-    noted: &mut [u32; 384],
+    plan: &PlanWords,
+    edges: Edges,
+    noted: &mut NotedWords,
     words: &mut [u64],
     left: &mut [u32],
     table: &mut [u8],
@@ -159,9 +162,9 @@ fn begin(
 // in `left`, up to `last_len`, and `done` says whether an initialise was consistent before. The words are those of all its analyses, the
 // newest of each place, over what they held before: a caller lends zeros.
 pub fn initialize(
-    plan: &[u32; 15241],
-    edges: [[u8; 2]; 128],
-    noted: &mut [u32; 384],
+    plan: &PlanWords,
+    edges: Edges,
+    noted: &mut NotedWords,
     words: &mut [u64],
     left: &mut [u32],
     table: &mut [u8],

@@ -1,6 +1,9 @@
 // The Rust's `undo`.
 use crate::Done;
+use edge_table::Edges;
 use graph_division::Answer;
+use noting::NotedWords;
+use plan::PlanWords;
 use undo_log::Cursor;
 ghost use mathlib.Core.Path.{_≡_};
 ghost use mathlib.Core.Bool.{false};
@@ -10,9 +13,9 @@ ghost use Rattle.lent.specs.Lent.{Parts};
 
 // Takes back the newest notification, which must be the literal's: 11 where it is not. There is no analysis, so nothing is to be recorded.
 pub fn undo<'a>(
-    plan: &'a [u32; 15241],
-    edges: [[u8; 2]; 128],
-    noted: &mut [u32; 384],
+    plan: &'a PlanWords,
+    edges: Edges,
+    noted: &mut NotedWords,
     log: &'a [u64],
     cursor: Cursor,
     lit: i32,

@@ -2,6 +2,9 @@
 // edges as noted.
 pub mod conflict;
 
+use edge_table::Edges;
+use noting::NotedWords;
+use plan::PlanWords;
 use reasons::reason::Reason;
 use sat::OptLit;
 use walks::Listed;
@@ -12,13 +15,18 @@ ghost use Rattle.walks.specs.Answers.{answerOf};
 ghost use Rattle.lists.specs.Parts.{shapeOf, endsOf, path, decided, potential, andWord, andLit, andOpt, inside, twoPaths, twoRegions, threeRegions};
 ghost use Rattle.lists.specs.Lists.{between, tooLarge, mismatch, spread, sameSize, reasonLits};
 
+// The reason buffer of the largest plan: its gates + 2 x its pens + 4.
+pub const LONGEST_LIST: usize = 260;
+
+pub type ReasonList = [u32; LONGEST_LIST];
+
 // The ends of an edge, or of a path.
 struct Ends {
     u: usize,
     v: usize,
 }
 
-fn shape_of(plan: &[u32; 15241]) -> Shape
+fn shape_of(plan: &PlanWords) -> Shape
     ensures { λ r. ⌜ r ≡ shapeOf (now (plan .entry)) ⌝ }
 {
     Shape {
@@ -35,7 +43,7 @@ fn wide(x: u8) -> usize
 }
 
 // The ends of edge g, the right one first with flip.
-fn ends_of(edges: [[u8; 2]; 128], g: usize, flip: bool) -> Ends
+fn ends_of(edges: Edges, g: usize, flip: bool) -> Ends
     ensures { λ r. ⌜ r ≡ endsOf edges g flip ⌝ }
 {
     if g < 128 {
@@ -50,9 +58,9 @@ fn ends_of(edges: [[u8; 2]; 128], g: usize, flip: bool) -> Ends
 }
 
 fn path(
-    plan: &[u32; 15241],
-    edges: [[u8; 2]; 128],
-    noted: &[u32; 384],
+    plan: &PlanWords,
+    edges: Edges,
+    noted: &NotedWords,
     p: Ends,
     out: &mut [u32],
     at: usize,
@@ -63,9 +71,9 @@ fn path(
 }
 
 fn decided(
-    plan: &[u32; 15241],
-    edges: [[u8; 2]; 128],
-    noted: &[u32; 384],
+    plan: &PlanWords,
+    edges: Edges,
+    noted: &NotedWords,
     u: usize,
     out: &mut [u32],
     at: usize,
@@ -76,9 +84,9 @@ fn decided(
 }
 
 fn potential(
-    plan: &[u32; 15241],
-    edges: [[u8; 2]; 128],
-    noted: &[u32; 384],
+    plan: &PlanWords,
+    edges: Edges,
+    noted: &NotedWords,
     u: usize,
     out: &mut [u32],
     at: usize,
@@ -130,9 +138,9 @@ fn and_lit(r: Listed, x: u32, out: &mut [u32]) -> Listed
 }
 
 fn two_paths(
-    plan: &[u32; 15241],
-    edges: [[u8; 2]; 128],
-    noted: &[u32; 384],
+    plan: &PlanWords,
+    edges: Edges,
+    noted: &NotedWords,
     p: Ends,
     q: Ends,
     out: &mut [u32],
@@ -148,9 +156,9 @@ fn two_paths(
 }
 
 fn two_regions(
-    plan: &[u32; 15241],
-    edges: [[u8; 2]; 128],
-    noted: &[u32; 384],
+    plan: &PlanWords,
+    edges: Edges,
+    noted: &NotedWords,
     u: usize,
     v: usize,
     out: &mut [u32],
@@ -167,9 +175,9 @@ fn two_regions(
 
 // The path from one end of edge g to the other.
 fn inside(
-    plan: &[u32; 15241],
-    edges: [[u8; 2]; 128],
-    noted: &[u32; 384],
+    plan: &PlanWords,
+    edges: Edges,
+    noted: &NotedWords,
     g: usize,
     out: &mut [u32],
     at: usize,
@@ -181,9 +189,9 @@ fn inside(
 
 // EdgeBetweenDifferentGroups.
 fn between(
-    plan: &[u32; 15241],
-    edges: [[u8; 2]; 128],
-    noted: &[u32; 384],
+    plan: &PlanWords,
+    edges: Edges,
+    noted: &NotedWords,
     h: u8,
     g: u8,
     flip: bool,
@@ -202,9 +210,9 @@ fn between(
 
 // TooLargeIfRegionsAreMerged.
 fn too_large(
-    plan: &[u32; 15241],
-    edges: [[u8; 2]; 128],
-    noted: &[u32; 384],
+    plan: &PlanWords,
+    edges: Edges,
+    noted: &NotedWords,
     g: u8,
     l: OptLit,
     out: &mut [u32],
@@ -219,9 +227,9 @@ fn too_large(
 
 // InconsistentBoundsIfRegionsAreMerged; no list for any other reason.
 fn mismatch(
-    plan: &[u32; 15241],
-    edges: [[u8; 2]; 128],
-    noted: &[u32; 384],
+    plan: &PlanWords,
+    edges: Edges,
+    noted: &NotedWords,
     reason: Reason,
     out: &mut [u32],
     at: usize,
@@ -252,9 +260,9 @@ fn mismatch(
 
 // BoundPropagationWithinRegion.
 fn spread(
-    plan: &[u32; 15241],
-    edges: [[u8; 2]; 128],
-    noted: &[u32; 384],
+    plan: &PlanWords,
+    edges: Edges,
+    noted: &NotedWords,
     k: u8,
     u: u8,
     l: OptLit,
@@ -273,9 +281,9 @@ fn spread(
 
 // Two regions and a third one.
 fn three_regions(
-    plan: &[u32; 15241],
-    edges: [[u8; 2]; 128],
-    noted: &[u32; 384],
+    plan: &PlanWords,
+    edges: Edges,
+    noted: &NotedWords,
     a: usize,
     b: usize,
     u: usize,
@@ -293,9 +301,9 @@ fn three_regions(
 
 // AdjacentSameSizeRegions; no list for any other reason.
 fn same_size(
-    plan: &[u32; 15241],
-    edges: [[u8; 2]; 128],
-    noted: &[u32; 384],
+    plan: &PlanWords,
+    edges: Edges,
+    noted: &NotedWords,
     reason: Reason,
     out: &mut [u32],
     at: usize,
@@ -332,9 +340,9 @@ fn same_size(
 // The Rust's `get_reason_lits`, where the edges and bounds are as noted. There is no list where a path is gone; if it is the second
 // of two, the literals of the first are written.
 pub fn reason_lits(
-    plan: &[u32; 15241],
-    edges: [[u8; 2]; 128],
-    noted: &[u32; 384],
+    plan: &PlanWords,
+    edges: Edges,
+    noted: &NotedWords,
     reason: Reason,
     out: &mut [u32],
     at: usize,

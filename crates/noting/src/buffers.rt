@@ -1,4 +1,5 @@
 // Refusal 7's tests of the lent buffers.
+use plan::PlanWords;
 ghost use mathlib.Core.Path.{_≡_};
 ghost use Prim.Native.Nat.{ℕ, _≤_};
 ghost use lib.ListN.{length};
@@ -6,7 +7,7 @@ ghost use Rattle.base.specs.Lists.{some};
 ghost use Rattle.noting.specs.Buffers.{tableLen, codeBad, tableBad, listShort, reasonShort, logShort};
 
 // The largest variable and one, 0 with none.
-pub fn table_len(plan: &[u32; 15241]) -> usize
+pub fn table_len(plan: &PlanWords) -> usize
     ensures { λ r. ⌜ r ≡ tableLen (now (plan .entry)) ⌝ }
 {
     let n = plan::num_variables(plan) as usize;
@@ -31,7 +32,7 @@ fn some_code_bad(table: &[u8]) -> bool
     bad
 }
 
-pub fn table_bad(plan: &[u32; 15241], table: &[u8]) -> bool
+pub fn table_bad(plan: &PlanWords, table: &[u8]) -> bool
     ensures { λ r. ⌜ r ≡ tableBad (now (plan .entry)) (now (table .entry)) ⌝ }
 {
     if table.len() < table_len(plan) {
@@ -40,19 +41,19 @@ pub fn table_bad(plan: &[u32; 15241], table: &[u8]) -> bool
     some_code_bad(table)
 }
 
-pub fn list_short(plan: &[u32; 15241], n: usize) -> bool
+pub fn list_short(plan: &PlanWords, n: usize) -> bool
     ensures { λ r. ⌜ r ≡ listShort (now (plan .entry)) n ⌝ }
 {
     n < 2 * (plan::num_variables(plan) as usize)
 }
 
-pub fn reason_short(plan: &[u32; 15241], n: usize) -> bool
+pub fn reason_short(plan: &PlanWords, n: usize) -> bool
     ensures { λ r. ⌜ r ≡ reasonShort (now (plan .entry)) n ⌝ }
 {
     n < plan::num_edges(plan) as usize + 2 * (plan::num_vertices(plan) as usize) + 4
 }
 
-pub fn log_short(plan: &[u32; 15241], n: usize) -> bool
+pub fn log_short(plan: &PlanWords, n: usize) -> bool
     ensures { λ r. ⌜ r ≡ logShort (now (plan .entry)) n ⌝ }
 {
     n < 2 * (plan::num_slots(plan) as usize)

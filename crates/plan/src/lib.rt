@@ -6,7 +6,12 @@ ghost use mathlib.Core.Path.{_≡_};
 ghost use Prim.Native.Nat.{_+_, _*_, _/_, _%_, _<_, _≤_};
 ghost use Rattle.plan.specs.Words.{entry, cell, word, verticesOf, edgesOf, sameSizeOf, extraWallsOf, variablesOf, slotsOf, weightOf, domainLenOf, domainOf, litOf, domLitOf, edgeLitOf, placeOf, positionOf, variableAt, startAt, occurrenceAt, uniqueLitAt};
 
-fn entry(plan: &[u32; 15241], from: usize, n: usize, i: usize) -> u32
+// Its length is said again where a proof needs the number.
+pub const PLAN_WORDS: usize = 15241;
+
+pub type PlanWords = [u32; PLAN_WORDS];
+
+fn entry(plan: &PlanWords, from: usize, n: usize, i: usize) -> u32
     requires { ⌜ from + n ≤ 15241 ⌝ }
     ensures { λ r. ⌜ r ≡ entry from n (now (plan .entry)) i ⌝ }
 {
@@ -16,7 +21,7 @@ fn entry(plan: &[u32; 15241], from: usize, n: usize, i: usize) -> u32
     0
 }
 
-fn cell(plan: &[u32; 15241], from: usize, v: usize, j: usize) -> u32
+fn cell(plan: &PlanWords, from: usize, v: usize, j: usize) -> u32
     requires { ⌜ from + 2048 ≤ 15241 ⌝ }
     ensures { λ r. ⌜ r ≡ cell from (now (plan .entry)) v j ⌝ }
 {
@@ -29,112 +34,112 @@ fn cell(plan: &[u32; 15241], from: usize, v: usize, j: usize) -> u32
     0
 }
 
-pub fn num_vertices(plan: &[u32; 15241]) -> u32
+pub fn num_vertices(plan: &PlanWords) -> u32
     ensures { λ r. ⌜ r ≡ verticesOf (now (plan .entry)) ⌝ }
 {
     plan[0]
 }
 
-pub fn num_edges(plan: &[u32; 15241]) -> u32
+pub fn num_edges(plan: &PlanWords) -> u32
     ensures { λ r. ⌜ r ≡ edgesOf (now (plan .entry)) ⌝ }
 {
     plan[1]
 }
 
-pub fn disallow_adjacent_same_size_regions(plan: &[u32; 15241]) -> bool
+pub fn disallow_adjacent_same_size_regions(plan: &PlanWords) -> bool
     ensures { λ r. ⌜ r ≡ sameSizeOf (now (plan .entry)) ⌝ }
 {
     plan[2] == 1
 }
 
-pub fn allow_extra_walls(plan: &[u32; 15241]) -> bool
+pub fn allow_extra_walls(plan: &PlanWords) -> bool
     ensures { λ r. ⌜ r ≡ extraWallsOf (now (plan .entry)) ⌝ }
 {
     plan[3] == 1
 }
 
 // How many distinct variables the literals have.
-pub fn num_variables(plan: &[u32; 15241]) -> u32
+pub fn num_variables(plan: &PlanWords) -> u32
     ensures { λ r. ⌜ r ≡ variablesOf (now (plan .entry)) ⌝ }
 {
     plan[4]
 }
 
 // How many size and edge literals there are.
-pub fn num_slots(plan: &[u32; 15241]) -> u32
+pub fn num_slots(plan: &PlanWords) -> u32
     ensures { λ r. ⌜ r ≡ slotsOf (now (plan .entry)) ⌝ }
 {
     plan[5]
 }
 
-pub fn weight(plan: &[u32; 15241], v: usize) -> u32
+pub fn weight(plan: &PlanWords, v: usize) -> u32
     ensures { λ r. ⌜ r ≡ weightOf (now (plan .entry)) v ⌝ }
 {
     entry(plan, 8, 64, v)
 }
 
-pub fn domain_len(plan: &[u32; 15241], v: usize) -> u32
+pub fn domain_len(plan: &PlanWords, v: usize) -> u32
     ensures { λ r. ⌜ r ≡ domainLenOf (now (plan .entry)) v ⌝ }
 {
     entry(plan, 72, 64, v)
 }
 
-pub fn lit(plan: &[u32; 15241], s: usize) -> u32
+pub fn lit(plan: &PlanWords, s: usize) -> u32
     ensures { λ r. ⌜ r ≡ litOf (now (plan .entry)) s ⌝ }
 {
     entry(plan, 2184, 2176, s)
 }
 
-pub fn edge_lit(plan: &[u32; 15241], g: usize) -> u32
+pub fn edge_lit(plan: &PlanWords, g: usize) -> u32
     ensures { λ r. ⌜ r ≡ edgeLitOf (now (plan .entry)) g ⌝ }
 {
     entry(plan, 4232, 128, g)
 }
 
-pub fn place(plan: &[u32; 15241], s: usize) -> u32
+pub fn place(plan: &PlanWords, s: usize) -> u32
     ensures { λ r. ⌜ r ≡ placeOf (now (plan .entry)) s ⌝ }
 {
     entry(plan, 4360, 2176, s)
 }
 
-pub fn position(plan: &[u32; 15241], s: usize) -> u32
+pub fn position(plan: &PlanWords, s: usize) -> u32
     ensures { λ r. ⌜ r ≡ positionOf (now (plan .entry)) s ⌝ }
 {
     entry(plan, 6536, 2176, s)
 }
 
-pub fn variable_at(plan: &[u32; 15241], k: usize) -> u32
+pub fn variable_at(plan: &PlanWords, k: usize) -> u32
     ensures { λ r. ⌜ r ≡ variableAt (now (plan .entry)) k ⌝ }
 {
     entry(plan, 8712, 2176, k)
 }
 
-pub fn start_at(plan: &[u32; 15241], k: usize) -> u32
+pub fn start_at(plan: &PlanWords, k: usize) -> u32
     ensures { λ r. ⌜ r ≡ startAt (now (plan .entry)) k ⌝ }
 {
     entry(plan, 10888, 2177, k)
 }
 
-pub fn occurrence_at(plan: &[u32; 15241], i: usize) -> u32
+pub fn occurrence_at(plan: &PlanWords, i: usize) -> u32
     ensures { λ r. ⌜ r ≡ occurrenceAt (now (plan .entry)) i ⌝ }
 {
     entry(plan, 13065, 2176, i)
 }
 
-pub fn domain(plan: &[u32; 15241], v: usize, j: usize) -> u32
+pub fn domain(plan: &PlanWords, v: usize, j: usize) -> u32
     ensures { λ r. ⌜ r ≡ domainOf (now (plan .entry)) v j ⌝ }
 {
     cell(plan, 136, v, j)
 }
 
-pub fn dom_lit(plan: &[u32; 15241], v: usize, j: usize) -> u32
+pub fn dom_lit(plan: &PlanWords, v: usize, j: usize) -> u32
     ensures { λ r. ⌜ r ≡ domLitOf (now (plan .entry)) v j ⌝ }
 {
     cell(plan, 2184, v, j)
 }
 
 // Literal p of the distinct literals, both signs, rising.
-pub fn unique_lit(plan: &[u32; 15241], p: usize) -> u64
+pub fn unique_lit(plan: &PlanWords, p: usize) -> u64
     ensures { λ r. ⌜ r ≡ uniqueLitAt (now (plan .entry)) p ⌝ }
 {
     2 * (variable_at(plan, p / 2) as u64) + (p % 2) as u64

@@ -1,4 +1,6 @@
 // The plan's lines, O, P and G, into the two arrays that a plan is built from (builder::input says how they are laid out).
+use builder::input::EdgeNumbers;
+use builder::input::VertexNumbers;
 use text::Line;
 ghost use mathlib.Core.Path.{_≡_};
 ghost use Prim.Native.Nat.{_+_, _*_, _-_, _≤_, _<_};
@@ -57,7 +59,7 @@ fn number_at(values: &[i32; 32], j: usize) -> i32
 }
 
 // 32 numbers from `at` on.
-fn put_row(values: &[i32; 32], at: usize, vertices: &mut [i32; 4288])
+fn put_row(values: &[i32; 32], at: usize, vertices: &mut VertexNumbers)
     requires { ⌜ at + 32 ≤ 4288 ⌝ }
     ensures { λ _. ⌜ now (vertices .exit) ≡ rowPut at (now (values .entry)) (now (vertices .entry)) ⌝ }
 {
@@ -69,7 +71,7 @@ fn put_row(values: &[i32; 32], at: usize, vertices: &mut [i32; 4288])
 }
 
 // The line's numbers from number `from` on, 32 of them: those past that are refused by their count, or ignored.
-fn put_numbers(line: &[u8], from: usize, at: usize, vertices: &mut [i32; 4288])
+fn put_numbers(line: &[u8], from: usize, at: usize, vertices: &mut VertexNumbers)
     requires { ⌜ at + 32 ≤ 4288 ⌝ }
     ensures { λ _. ⌜ now (vertices .exit) ≡ numbersPut (now (line .entry)) from at (now (vertices .entry)) ⌝ }
 {
@@ -78,7 +80,7 @@ fn put_numbers(line: &[u8], from: usize, at: usize, vertices: &mut [i32; 4288])
     put_row(&row, at, vertices);
 }
 
-fn put_head(weight: i32, sizes: usize, count: usize, v: usize, vertices: &mut [i32; 4288])
+fn put_head(weight: i32, sizes: usize, count: usize, v: usize, vertices: &mut VertexNumbers)
     requires { ⌜ v < 64 ⌝ }
     ensures { λ _. ⌜ now (vertices .exit) ≡ headPut weight sizes count v (now (vertices .entry)) ⌝ }
 {
@@ -88,7 +90,7 @@ fn put_head(weight: i32, sizes: usize, count: usize, v: usize, vertices: &mut [i
 }
 
 // The literals follow the sizes. With more than 32 sizes the plan is refused, whatever they are.
-fn put_lits(line: &[u8], sizes: usize, v: usize, vertices: &mut [i32; 4288])
+fn put_lits(line: &[u8], sizes: usize, v: usize, vertices: &mut VertexNumbers)
     requires { ⌜ v < 64 ⌝ }
     ensures { λ _. ⌜ now (vertices .exit) ≡ litsPut (now (line .entry)) sizes v (now (vertices .entry)) ⌝ }
 {
@@ -106,7 +108,7 @@ fn put_vertex(
     sizes: usize,
     count: usize,
     v: usize,
-    vertices: &mut [i32; 4288],
+    vertices: &mut VertexNumbers,
 )
     ensures { λ _. ⌜ now (vertices .exit) ≡ vertexPut (now (line .entry)) weight sizes count v (now (vertices .entry)) ⌝ }
 {
@@ -118,7 +120,7 @@ fn put_vertex(
     put_lits(line, sizes, v, vertices);
 }
 
-fn put_edge(u: i32, v: i32, lit: i32, g: usize, edges: &mut [i32; 384])
+fn put_edge(u: i32, v: i32, lit: i32, g: usize, edges: &mut EdgeNumbers)
     ensures { λ _. ⌜ now (edges .exit) ≡ edgePut u v lit g (now (edges .entry)) ⌝ }
 {
     if 128 <= g {
@@ -161,8 +163,8 @@ fn take(
     line: &[u8],
     read: Line,
     c: Counts,
-    vertices: &mut [i32; 4288],
-    edges: &mut [i32; 384],
+    vertices: &mut VertexNumbers,
+    edges: &mut EdgeNumbers,
 ) -> Counts
     ensures { λ r. ⌜ drafted r (now (vertices .exit)) (now (edges .exit)) ≡ taken (now (line .entry)) read (drafted c (now (vertices .entry)) (now (edges .entry))) ⌝ }
 {
@@ -200,8 +202,8 @@ fn take(
 pub fn take_line(
     line: &[u8],
     c: Counts,
-    vertices: &mut [i32; 4288],
-    edges: &mut [i32; 384],
+    vertices: &mut VertexNumbers,
+    edges: &mut EdgeNumbers,
 ) -> Counts
     ensures { λ r. ⌜ drafted r (now (vertices .exit)) (now (edges .exit)) ≡ taken (now (line .entry)) (readLine (now (line .entry))) (drafted c (now (vertices .entry)) (now (edges .entry))) ⌝ }
 {
@@ -247,7 +249,7 @@ fn after_line(e: usize, len: usize) -> usize
 }
 
 // The lines up to the first that is none of O, P and G, or to the end.
-pub fn take_lines(input: &[u8], vertices: &mut [i32; 4288], edges: &mut [i32; 384]) -> PlanLines
+pub fn take_lines(input: &[u8], vertices: &mut VertexNumbers, edges: &mut EdgeNumbers) -> PlanLines
     ensures { λ r. ⌜ readingOf (r .counts) (now (vertices .exit)) (now (edges .exit)) (r .«calls_at») ≡ takenLines (now (input .entry)) (now (vertices .entry)) (now (edges .entry)) ⌝ }
 {
     let mut c = Counts {

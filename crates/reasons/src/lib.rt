@@ -5,6 +5,11 @@ ghost use mathlib.Core.Path.{_≡_};
 ghost use Rattle.reasons.specs.Words.{packed, packedLits, put};
 ghost use Rattle.reasons.specs.Verdicts.{goesOn};
 
+// Two words for each place of a literal.
+pub const PROPOSAL_WORDS: usize = 8704;
+
+pub type ProposalWords = [u64; PROPOSAL_WORDS];
+
 // Where an analysis stands. Everything but Going ends it.
 pub enum Verdict {
     Going,

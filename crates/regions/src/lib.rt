@@ -2,6 +2,7 @@
 pub mod limits;
 pub mod weights;
 
+use edge_table::Edges;
 use graph::bounds::passable;
 use graph::bounds::walkable;
 ghost use mathlib.Core.Path.{_≡_};
@@ -34,7 +35,7 @@ fn merge(labels: &mut [u8; 64], num_vertices: usize, lo: u8, hi: u8)
 
 // Edge g joins the regions of its ends, if it can be passed: the lower label stays.
 fn bridge(
-    edges: &[[u8; 2]; 128],
+    edges: &Edges,
     state: &[u32],
     potential: bool,
     num_vertices: usize,
@@ -72,7 +73,7 @@ fn start(labels: &mut [u8; 64], num_vertices: usize)
 
 // Every edge in order.
 fn label(
-    edges: &[[u8; 2]; 128],
+    edges: &Edges,
     state: &[u32],
     potential: bool,
     num_edges: usize,
@@ -90,7 +91,7 @@ fn label(
 
 // The label of each vertex: the lowest vertex of its region. The answer is false, and the labels stay, where the graph cannot be walked.
 pub fn compute_regions(
-    edges: [[u8; 2]; 128],
+    edges: Edges,
     state: &[u32],
     potential: bool,
     num_edges: usize,

@@ -1,4 +1,8 @@
 // The view's words from the noted ones. Document 01's analysis begins with it: the regions, their weights and their bounds.
+use crate::ViewWords;
+use edge_table::Edges;
+use noting::NotedWords;
+use plan::PlanWords;
 use regions::compute_regions;
 use regions::limits::region_bounds;
 use regions::weights::region_weights;
@@ -23,7 +27,7 @@ struct Bounds {
 }
 
 // The weight of each vertex.
-fn weight_words(plan: &[u32; 15241]) -> [u32; 64]
+fn weight_words(plan: &PlanWords) -> [u32; 64]
     ensures { λ r. ⌜ r ≡ weightWords (now (plan .entry)) ⌝ }
 {
     let mut words = [0u32; 64];
@@ -36,12 +40,7 @@ fn weight_words(plan: &[u32; 15241]) -> [u32; 64]
     words
 }
 
-fn compute(
-    plan: &[u32; 15241],
-    edges: [[u8; 2]; 128],
-    noted: &[u32; 384],
-    potential: bool,
-) -> Regions
+fn compute(plan: &PlanWords, edges: Edges, noted: &NotedWords, potential: bool) -> Regions
     ensures { λ r. ⌜ r ≡ regionsFrom (now (plan .entry)) edges (now (noted .entry)) potential ⌝ }
 {
     let vertices = plan::num_vertices(plan) as usize;
@@ -68,7 +67,7 @@ fn compute(
 // The bounds stand from word `first` on.
 fn bound(
     labels: &[u8; 64],
-    noted: &[u32; 384],
+    noted: &NotedWords,
     first: usize,
     vertices: usize,
     upper: bool,
@@ -99,7 +98,7 @@ fn word_of(x: u8) -> u32
     x as u32
 }
 
-fn copy_bytes(bytes: &[u8; 64], view: &mut [u32; 512], from: usize)
+fn copy_bytes(bytes: &[u8; 64], view: &mut ViewWords, from: usize)
     requires { ⌜ from + 64 ≤ 512 ⌝ }
     ensures { λ r. ⌜ now (view .exit) ≡ filled from 64 (word (now (bytes .entry))) (now (view .entry)) ⌝ }
 {
@@ -110,7 +109,7 @@ fn copy_bytes(bytes: &[u8; 64], view: &mut [u32; 512], from: usize)
     }
 }
 
-fn copy_words(words: &[u32; 64], view: &mut [u32; 512], from: usize)
+fn copy_words(words: &[u32; 64], view: &mut ViewWords, from: usize)
     requires { ⌜ from + 64 ≤ 512 ⌝ }
     ensures { λ r. ⌜ now (view .exit) ≡ filled from 64 (word (now (words .entry))) (now (view .entry)) ⌝ }
 {
@@ -122,7 +121,7 @@ fn copy_words(words: &[u32; 64], view: &mut [u32; 512], from: usize)
 }
 
 // Labels from word `from` on, weights from word `from + 128` on.
-fn store_regions(r: Regions, view: &mut [u32; 512], from: usize)
+fn store_regions(r: Regions, view: &mut ViewWords, from: usize)
     requires { ⌜ from + 192 ≤ 512 ⌝ }
     ensures { λ z. ⌜ now (view .exit) ≡ withRegions from r (now (view .entry)) ⌝ }
 {
@@ -131,7 +130,7 @@ fn store_regions(r: Regions, view: &mut [u32; 512], from: usize)
 }
 
 // Bounds from word `from` on, the vertices that have them from word `from + 64` on.
-fn store_bounds(b: Bounds, view: &mut [u32; 512], from: usize)
+fn store_bounds(b: Bounds, view: &mut ViewWords, from: usize)
     requires { ⌜ from + 128 ≤ 512 ⌝ }
     ensures { λ z. ⌜ now (view .exit) ≡ withBounds from b (now (view .entry)) ⌝ }
 {
@@ -142,10 +141,10 @@ fn store_bounds(b: Bounds, view: &mut [u32; 512], from: usize)
 // The regions of the noted words, their weights and bounds. The answer is false, and the view stays, where there are none: a count is
 // past its limit, an edge's end is no vertex, or a weight is over 1,000,000.
 pub fn compute_view(
-    plan: &[u32; 15241],
-    edges: [[u8; 2]; 128],
-    noted: &[u32; 384],
-    view: &mut [u32; 512],
+    plan: &PlanWords,
+    edges: Edges,
+    noted: &NotedWords,
+    view: &mut ViewWords,
 ) -> bool
     ensures { λ r. ⌜ computedOf r (now (view .exit)) ≡ computeView (now (plan .entry)) edges (now (noted .entry)) (now (view .entry)) ⌝ }
 {

@@ -2,6 +2,7 @@
 mod search;
 
 use crate::search::search;
+use edge_table::Edges;
 use graph::bounds::walkable;
 ghost use mathlib.Core.Path.{_≡_};
 ghost use mathlib.Core.Bool.{true};
@@ -121,7 +122,7 @@ fn leads_out(scan: &[u8; 256], one: u8, other: u8, p: u8) -> bool
 }
 
 // Whether edge g is disconnected and leads from vertex p out of what was reached.
-fn leaves(edges: &[[u8; 2]; 128], state: &[u32], scan: &[u8; 256], p: u8, g: usize) -> bool
+fn leaves(edges: &Edges, state: &[u32], scan: &[u8; 256], p: u8, g: usize) -> bool
     requires { ⌜ (g < 128) × (g < length (now state)) × Within 64 (now edges) g ⌝ }
     ensures { λ r. ⌜ r ≡ leaves (graph (now (edges .entry)) (now (state .entry)) true) (reachedYet (scanOf (now (scan .entry)) 0)) p g ⌝ }
 {
@@ -138,7 +139,7 @@ fn leaves(edges: &[[u8; 2]; 128], state: &[u32], scan: &[u8; 256], p: u8, g: usi
 
 // The literal of edge g, if it leads from vertex p out of what was reached.
 fn write_wall(
-    edges: &[[u8; 2]; 128],
+    edges: &Edges,
     state: &[u32],
     scan: &[u8; 256],
     p: u8,
@@ -158,7 +159,7 @@ fn write_wall(
 
 // The literals of all edges that lead from vertex p out of what was reached.
 fn write_walls(
-    edges: &[[u8; 2]; 128],
+    edges: &Edges,
     state: &[u32],
     scan: &[u8; 256],
     p: u8,
@@ -179,7 +180,7 @@ fn write_walls(
 
 // The same, if vertex p was reached.
 fn write_side(
-    edges: &[[u8; 2]; 128],
+    edges: &Edges,
     state: &[u32],
     scan: &[u8; 256],
     p: usize,
@@ -199,7 +200,7 @@ fn write_side(
 
 // The literals of all edges that lead out of what was reached.
 fn write_border(
-    edges: &[[u8; 2]; 128],
+    edges: &Edges,
     state: &[u32],
     scan: &[u8; 256],
     num_vertices: usize,
@@ -231,7 +232,7 @@ fn write_order(scan: &[u8; 256], count: usize, out: &mut [u32], at: usize) -> us
 }
 
 // Whether the graph can be walked from vertex u.
-fn startable(edges: &[[u8; 2]; 128], state: &[u32], shape: Shape, u: usize) -> bool
+fn startable(edges: &Edges, state: &[u32], shape: Shape, u: usize) -> bool
     ensures { λ r. ⌜ r ≡ startable (now (edges .entry)) (now (state .entry)) shape u ⌝ }
 {
     if walkable(edges, state, shape.num_edges, shape.num_vertices) {
@@ -241,7 +242,7 @@ fn startable(edges: &[[u8; 2]; 128], state: &[u32], shape: Shape, u: usize) -> b
 }
 
 // Whether, besides, each edge has a literal.
-fn ready(edges: &[[u8; 2]; 128], state: &[u32], lits: &[u32], shape: Shape, u: usize) -> bool
+fn ready(edges: &Edges, state: &[u32], lits: &[u32], shape: Shape, u: usize) -> bool
     ensures { λ r. ⌜ r ≡ ready (now (edges .entry)) (now (state .entry)) (now (lits .entry)) shape u ⌝ }
 {
     if startable(edges, state, shape, u) {
@@ -259,7 +260,7 @@ fn ready(edges: &[[u8; 2]; 128], state: &[u32], lits: &[u32], shape: Shape, u: u
 
 // The vertices of u's region in the order of the search from u, for the Rust's `Regions`.
 pub fn region_vertices(
-    edges: [[u8; 2]; 128],
+    edges: Edges,
     state: &[u32],
     potential: bool,
     shape: Shape,
@@ -288,7 +289,7 @@ pub fn region_vertices(
 // The negated literals of the connected edges from v back to u, on a shortest way: the Rust's `reason_connected_path`. There is no
 // list where v is no vertex or not joined to u.
 pub fn reason_connected_path(
-    edges: [[u8; 2]; 128],
+    edges: Edges,
     state: &[u32],
     lits: &[u32],
     shape: Shape,
@@ -330,7 +331,7 @@ pub fn reason_connected_path(
 
 // The negated literals of the connected edges by which the vertices of u's region are reached: the Rust's `reason_decided_region`.
 pub fn reason_decided_region(
-    edges: [[u8; 2]; 128],
+    edges: Edges,
     state: &[u32],
     lits: &[u32],
     shape: Shape,
@@ -359,7 +360,7 @@ pub fn reason_decided_region(
 
 // The literals of the disconnected edges that leave what u can be joined to: the Rust's `reason_potential_region`.
 pub fn reason_potential_region(
-    edges: [[u8; 2]; 128],
+    edges: Edges,
     state: &[u32],
     lits: &[u32],
     shape: Shape,

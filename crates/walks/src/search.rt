@@ -2,6 +2,7 @@
 //
 // `scan` holds a search under way: the vertices in the order in which they were reached from place 0 on, at 64 + q the vertex
 // that q was reached from, at 128 + q the edge, and at 192 + q whether q was reached (1) or not (0).
+use edge_table::Edges;
 use graph::bounds::passable;
 ghost use mathlib.Core.Path.{_≡_};
 ghost use Prim.Native.Nat.{ℕ, _+_, _<_, _≤_};
@@ -28,7 +29,7 @@ fn reach(scan: &mut [u8; 256], count: usize, p: u8, g: u8, q: u8) -> usize
 
 // Edge g, seen from vertex p.
 fn visit(
-    edges: &[[u8; 2]; 128],
+    edges: &Edges,
     state: &[u32],
     potential: bool,
     p: u8,
@@ -54,7 +55,7 @@ fn visit(
 
 // Every edge in order, seen from vertex p.
 fn walk(
-    edges: &[[u8; 2]; 128],
+    edges: &Edges,
     state: &[u32],
     potential: bool,
     num_edges: usize,
@@ -74,7 +75,7 @@ fn walk(
 
 // The vertex at place h of the order, if that many were reached: its edges are walked.
 fn pop(
-    edges: &[[u8; 2]; 128],
+    edges: &Edges,
     state: &[u32],
     potential: bool,
     num_edges: usize,
@@ -94,7 +95,7 @@ fn pop(
 
 // Each vertex of the order in turn, with those that are added on the way.
 fn drain(
-    edges: &[[u8; 2]; 128],
+    edges: &Edges,
     state: &[u32],
     potential: bool,
     num_edges: usize,
@@ -114,7 +115,7 @@ fn drain(
 
 // All that is reached from a vertex, in an array of zeros: how many, and in the array how.
 pub fn search(
-    edges: &[[u8; 2]; 128],
+    edges: &Edges,
     state: &[u32],
     potential: bool,
     num_edges: usize,
