@@ -1,31 +1,10 @@
-// The C host: the calls over numbers and byte slices. include/zuntjev.h has the layout of the bytes.
-// A slice is a pointer and a length in C. Every call is total: bytes that no call leaves are refused with 7.
-mod build;
-mod bytes;
-mod changes;
-mod codes;
-mod decode;
-mod fetch;
-mod initialize;
-mod numbers;
-mod store;
-
+// The C host: the calls of crate byte_calls, exported under C's names. A slice is a pointer and a length in C; include/zuntjev.h has the
+// layout of the bytes. Every call takes any bytes. `rt staticlib` proves this crate once more: it stays thin.
 ghost use mathlib.Core.Path.{_≡_};
-ghost use mathlib.Core.Bool.{true, false};
-ghost use lib.ListN.{length};
-ghost use Rattle.host.specs.Host.{left, back, tooShort, hostInitialized, initializedIn, hostPropagated, propagatedIn, hostUndone, undoneIn, hostReason, hostLast, buildCode};
-ghost use Rattle.host.specs.After.{Leaves};
-ghost use Rattle.host.specs.Build.{BuiltIn};
-ghost use Rattle.host.specs.Numbers.{numbersIn};
-
-fn too_short(state: &[u8], cursor: &[u8]) -> bool
-    ensures { λ r. ⌜ r ≡ tooShort (now (state .entry)) (now (cursor .entry)) ⌝ }
-{
-    if state.len() < 133440 {
-        return true;
-    }
-    cursor.len() < 8
-}
+ghost use Rattle.byte_calls.specs.Host.{left, back, tooShort, hostInitialized, initializedIn, hostPropagated, propagatedIn, hostUndone, undoneIn, hostReason, hostLast, buildCode};
+ghost use Rattle.byte_calls.specs.After.{Leaves};
+ghost use Rattle.byte_calls.specs.Build.{BuiltIn};
+ghost use Rattle.byte_calls.specs.Numbers.{numbersIn};
 
 // The bytes hold the numbers of n vertices and m edges as builder::input says, 4 bytes each. An option other than 0 counts as 1.
 #[no_mangle]
@@ -41,19 +20,7 @@ pub extern "C" fn zuntjev_build(
     ensures { λ r. ⌜ r ≡ buildCode (numbersIn 4288 (now (vertices .entry))) n (numbersIn 384 (now (edges .entry))) m (now (state .entry)) ⌝ }
     ensures { λ _. ⌜ BuiltIn (numbersIn 4288 (now (vertices .entry))) n (numbersIn 384 (now (edges .entry))) m «same_size» «extra_walls» (now (state .entry)) (now (state .exit)) ⌝ }
 {
-    let mut vertex_numbers = numbers::no_vertices();
-    numbers::read_numbers(vertices, 4288, &mut vertex_numbers);
-    let mut edge_numbers = numbers::no_edges();
-    numbers::read_numbers(edges, 384, &mut edge_numbers);
-    build::build_from(
-        &vertex_numbers,
-        n,
-        &edge_numbers,
-        m,
-        same_size,
-        extra_walls,
-        state,
-    )
+    byte_calls::calls::build(vertices, n, edges, m, same_size, extra_walls, state)
 }
 
 // Notifies, in rising order, the plan's literals that are true in the table on entry, and analyzes once more.
@@ -69,10 +36,7 @@ pub extern "C" fn zuntjev_initialize(
         ≡ hostInitialized (now (state .entry)) (now (table .entry)) (now (list .entry)) (now (log .entry)) (now (cursor .entry)) ⌝ }
     ensures { λ _. ⌜ Leaves (tooShort (now (state .entry)) (now (cursor .entry))) (initializedIn (now (state .entry)) (now (table .entry)) (now (list .entry)) (now (log .entry)) (now (cursor .entry)) .outcome) (now (state .entry)) (now (state .exit)) ⌝ }
 {
-    if too_short(state, cursor) {
-        return -7;
-    }
-    initialize::initialize(state, table, list, log, cursor)
+    byte_calls::calls::initialize(state, table, list, log, cursor)
 }
 
 // Notifies the literal. With a pending number other than 0 it is only noted.
@@ -90,10 +54,7 @@ pub extern "C" fn zuntjev_propagate(
         ≡ hostPropagated (now (state .entry)) (now (table .entry)) (now (list .entry)) (now (log .entry)) (now (cursor .entry)) lit «num_pending_propagations» ⌝ }
     ensures { λ _. ⌜ Leaves (tooShort (now (state .entry)) (now (cursor .entry))) (propagatedIn (now (state .entry)) (now (table .entry)) (now (list .entry)) (now (log .entry)) (now (cursor .entry)) lit «num_pending_propagations» .outcome) (now (state .entry)) (now (state .exit)) ⌝ }
 {
-    if too_short(state, cursor) {
-        return -7;
-    }
-    changes::propagate(
+    byte_calls::calls::propagate(
         state,
         table,
         list,
@@ -110,10 +71,7 @@ pub extern "C" fn zuntjev_undo(state: &mut [u8], log: &[u8], cursor: &mut [u8], 
     ensures { λ r. ⌜ back r (now (cursor .exit)) ≡ hostUndone (now (state .entry)) (now (log .entry)) (now (cursor .entry)) lit ⌝ }
     ensures { λ _. ⌜ Leaves (tooShort (now (state .entry)) (now (cursor .entry))) (undoneIn (now (state .entry)) (now (log .entry)) (now (cursor .entry)) lit) (now (state .entry)) (now (state .exit)) ⌝ }
 {
-    if too_short(state, cursor) {
-        return -7;
-    }
-    changes::undo(state, log, cursor, lit)
+    byte_calls::calls::undo(state, log, cursor, lit)
 }
 
 // The literal's reason goes to the buffer.
@@ -127,10 +85,7 @@ pub extern "C" fn zuntjev_calc_reason(
 ) -> i32
     ensures { λ r. ⌜ back r (now (buffer .exit)) ≡ hostReason (now (state .entry)) (now (log .entry)) (now (cursor .entry)) lit (now (buffer .entry)) ⌝ }
 {
-    if too_short(state, cursor) {
-        return -7;
-    }
-    fetch::calc_reason(state, log, cursor, lit, buffer)
+    byte_calls::calls::calc_reason(state, log, cursor, lit, buffer)
 }
 
 // The list last left goes to the buffer.
@@ -143,8 +98,5 @@ pub extern "C" fn zuntjev_calc_last(
 ) -> i32
     ensures { λ r. ⌜ back r (now (buffer .exit)) ≡ hostLast (now (state .entry)) (now (log .entry)) (now (cursor .entry)) (now (buffer .entry)) ⌝ }
 {
-    if too_short(state, cursor) {
-        return -7;
-    }
-    fetch::calc_last(state, log, cursor, buffer)
+    byte_calls::calls::calc_last(state, log, cursor, buffer)
 }

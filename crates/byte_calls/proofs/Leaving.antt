@@ -1,0 +1,205 @@
+-- What a call leaves in the bytes that it was lent.
+use Prim.Native.Nat.{ℕ, _+_, _*_, _/_, _-_, _≤_, _<_}
+use native.Mathlib.Omega.{arith}
+use mathlib.Core.Path.{_≡_, refl, sym, ap, _∙_, subst}
+use mathlib.Core.Bool.{Bool, true, false, true≢false, _||_}
+use lib.Dec.{ltb}
+use borrow.Author.Tests.{ltb-false}
+use Rattle.base.proofs.Tests.{or-none}
+use mathlib.Core.List.{List, []}
+use lib.IntN.{ℤ}
+use mir.Syntax.{w32}
+use mir.Val.{toZ, ofZ}
+use lib.ListN.{length, take, drop, replicate, length-replicate}
+use Rattle.noting.specs.Words.{capped}
+use lib.Seq.{length-take-le}
+use Rattle.base.specs.Iter.{pick}
+use Rattle.base.specs.Lists.{filled}
+use Rattle.base.proofs.Filled.{filled-length}
+use Rattle.base.proofs.Loop.{pick-yes, pick-no, pick-ind, tested}
+use Rattle.undo_log.specs.declared.Cursor.{Cursor}
+use Rattle.recorded.specs.declared.Reasons.{Reasons}
+use Rattle.graph_division.specs.declared.GraphDivision.{GraphDivision}
+use Rattle.graph_division.specs.declared.Outcome.{Outcome}
+use Rattle.graph_division.specs.declared.Answer.{Answer}
+use Rattle.graph_division.specs.Calls.{Called, called, outcome, propagated, undone, reasonFetched, lastFetched}
+use Rattle.lent.specs.declared.Done.{Done}
+use Rattle.lent.specs.Lent.{Parts, stateAfter, calledOf}
+use Rattle.byte_calls.specs.Bytes.{wordAt, longAt}
+use Rattle.byte_calls.specs.Codes.{codeOf, isRefused, givenBy}
+use Rattle.byte_calls.specs.Layout.{inUse, inUseOver, planIn, endsIn, wordsIn, reasonsIn, stateIn, cursorIn, roomOf, recordsIn, logIn, listIn, bufferIn}
+use Rattle.byte_calls.specs.Stores.{Kept, putCursor, putList, putLog}
+use Rattle.byte_calls.specs.Host.{Left, left, leftBy, leftOf, StateAfter, AfterOf, propagatedIn, hostPropagated, tooShort, short, Back, back, backBy, undoneIn, hostUndone, givenIn, hostReason, hostLast}
+use Rattle.byte_calls.proofs.Coding.{code-back}
+use Rattle.byte_calls.proofs.Filling.{capped-most, capped-less, room-is}
+use Rattle.byte_calls.proofs.Keeping.{kept-same}
+
+pub is-left : (a : Answer) (c d : Cursor) (lits records list log cursor : List ℕ) (r : ℤ) → r ≡ codeOf a → isRefused a ≡ true →
+    left r [] list log cursor ≡ leftBy a c d [] lits records list log cursor
+unfolding leftBy
+is-left a c d lits records list log cursor r e t = ap (λ (z : ℤ). left z [] list log cursor) e ∙ sym (pick-yes _ _ t)
+
+pub is-kept : (a : Answer) (c d : Cursor) (lits records list log cursor list′ log′ cursor′ : List ℕ) (r : ℤ) → r ≡ codeOf a → isRefused a ≡ false →
+    list′ ≡ putList lits (givenBy a) list → log′ ≡ putLog records (c .used) (d .used) log → cursor′ ≡ putCursor d cursor →
+    left r [] list′ log′ cursor′ ≡ leftBy a c d [] lits records list log cursor
+unfolding leftBy
+is-kept a c d lits records list log cursor list′ log′ cursor′ r e t f g h = (λ i. left (e i) [] (f i) (g i) (h i)) ∙ sym (pick-no _ _ t)
+
+-- the table stands beside it
+with-table : (a : Answer) (c d : Cursor) (t lits records list log cursor : List ℕ) (x : Left) → x ≡ leftBy a c d [] lits records list log cursor →
+    left (x .code) t (x .list) (x .log) (x .cursor) ≡ leftBy a c d t lits records list log cursor
+unfolding leftBy
+with-table a c d t lits records list log cursor x e = ap (λ (x : Left). left (x .code) t (x .list) (x .log) (x .cursor)) e
+    ∙ tested (isRefused a)
+    (λ (b : isRefused a ≡ true). ap (λ (x : Left). left (x .code) t (x .list) (x .log) (x .cursor)) (pick-yes _ _ b) ∙ sym (pick-yes _ _ b))
+    (λ (b : isRefused a ≡ false). ap (λ (x : Left). left (x .code) t (x .list) (x .log) (x .cursor)) (pick-no _ _ b) ∙ sym (pick-no _ _ b))
+
+-- a call on what is decoded, and what it leaves
+module _ (s : GraphDivision) (c : Cursor) (words props lefts : List ℕ) (d : Done) (t lits records : List ℕ) (y : Called) (e : calledOf s words props lefts d t lits records ≡ y) where
+  pub leaves : (list log cursor list′ log′ cursor′ : List ℕ) (r : ℤ) → left r [] list′ log′ cursor′ ≡ leftBy (d .answer) c (d .cursor) [] lits records list log cursor →
+      left r t list′ log′ cursor′ ≡ leftOf c y list log cursor
+  unfolding leftOf calledOf
+  leaves list log cursor list′ log′ cursor′ r h =
+      with-table (d .answer) c (d .cursor) t lits records list log cursor (left r [] list′ log′ cursor′) h
+      ∙ ap (λ (y : Called). leftOf c y list log cursor) e
+
+  pub state-left : (b b′ : List ℕ) → s ≡ stateIn b → (isRefused (d .answer) ≡ true → b′ ≡ b) →
+      (isRefused (d .answer) ≡ false → stateAfter (stateIn b) words props lefts d .«last_len» < 4294967296 → stateIn b′ ≡ stateAfter (stateIn b) words props lefts d) →
+      Kept b b′ → AfterOf false (y .outcome) b b′
+  unfolding calledOf
+  state-left b b′ q f g k = subst (λ (y : Called). StateAfter (isRefused (y .outcome .answer)) (y .outcome .state) b b′) e
+      (record { same = f; is = λ n h. g n (subst (λ (s : GraphDivision). stateAfter s words props lefts d .«last_len» < 4294967296) q h) ∙ ap (λ (s : GraphDivision). stateAfter s words props lefts d) (sym q); kept = k })
+
+-- lists and logs are as long as the bytes have room for
+pub room-length : (n : ℕ) (l : List ℕ) → length l ≡ 4352 → length (take (roomOf n) l) ≡ roomOf n
+room-length n l e = length-take-le (roomOf n) l (omega (arith, room-is n, capped-most n 4352))
+
+pub list-room : (list : List ℕ) → 2 * length (listIn list) ≤ length list
+unfolding listIn
+list-room list = omega (arith, room-length (length list / 2) (replicate 4352 0) (length-replicate {A = ℕ} 4352 0), room-is (length list / 2), capped-less (length list / 2) 4352)
+
+pub log-room : (c : Cursor) (log : List ℕ) → 8 * length (logIn c log) ≤ length log
+unfolding logIn recordsIn
+log-room c log = omega (arith, room-length (length log / 8) (recordsIn c log) (filled-length 0 _ (replicate 4352 0) _ ∙ length-replicate {A = ℕ} 4352 0), room-is (length log / 8), capped-less (length log / 8) 4352)
+
+pub list-fits : (n : ℕ) (l list : List ℕ) → n ≡ length l → l ≡ listIn list → 2 * n ≤ length list
+list-fits n l list e q = omega (arith, e, ap length q, list-room list)
+
+pub log-fits : (c : Cursor) (n : ℕ) (l log : List ℕ) → n ≡ length l → l ≡ logIn c log → 8 * n ≤ length log
+log-fits c n l log e q = omega (arith, e, ap length q, log-room c log)
+
+left-code : (c : Cursor) (y : Called) (list log cursor : List ℕ) → leftOf c y list log cursor .code ≡ codeOf (y .outcome .answer)
+unfolding leftOf leftBy
+left-code c y list log cursor = tested (isRefused (y .outcome .answer))
+    (λ (b : isRefused (y .outcome .answer) ≡ true). ap (λ (x : Left). x .code) (pick-yes _ _ b))
+    (λ (b : isRefused (y .outcome .answer) ≡ false). ap (λ (x : Left). x .code) (pick-no _ _ b))
+
+-- the number is handed on
+pub left-back : (c : Cursor) (y : Called) (list log cursor t list′ log′ cursor′ : List ℕ) (z : ℤ) → left z t list′ log′ cursor′ ≡ leftOf c y list log cursor →
+    left (toZ w32 (ofZ w32 z)) t list′ log′ cursor′ ≡ leftOf c y list log cursor
+left-back c y list log cursor t list′ log′ cursor′ z e =
+    let q : z ≡ codeOf (y .outcome .answer) = ap (λ (x : Left). x .code) e ∙ left-code c y list log cursor in
+    ap (λ (r : ℤ). left r t list′ log′ cursor′) (code-back (y .outcome .answer) z q ∙ sym q) ∙ e
+
+-- what is decoded is the parts of the state that the bytes stand for
+pub parts-in : (b : List ℕ) {ws : List ℕ} {ends : List (List ℕ)} {noted : List ℕ} → ws ≡ planIn b → ends ≡ endsIn b → noted ≡ wordsIn b 61220 384 → Parts (stateIn b) ws ends noted
+unfolding stateIn
+parts-in b p q r = record { plan = p; edges = q; noted = r }
+
+-- the parts that are lent of what is decoded
+pub part-fits : (r n m : ℕ) → r ≡ roomOf n → m ≡ 4352 → r ≤ m
+part-fits r n m e q = omega (arith, e, room-is n, capped-most n 4352)
+
+pub lits-long : (l : List ℕ) → l ≡ replicate 4352 0 → length l ≡ 4352
+lits-long l e = ap length e ∙ length-replicate {A = ℕ} 4352 0
+
+pub records-long : (k : ℕ) (f : ℕ → ℕ) (l z : List ℕ) → z ≡ replicate 4352 0 → l ≡ filled 0 k f z → length l ≡ 4352
+records-long k f l z q e = ap length e ∙ (filled-length 0 f z k ∙ lits-long z q)
+
+no-less : (r : ℕ) → r - 0 ≡ r
+no-less r = omega arith
+
+pub lits-part : (r n : ℕ) (l list : List ℕ) → n ≡ length list / 2 → r ≡ roomOf n → l ≡ replicate 4352 0 → take (r - 0) (drop 0 l) ≡ listIn list
+unfolding listIn
+lits-part r n l list m e q = λ i. take ((no-less r ∙ (e ∙ ap roomOf m)) i) (q i)
+
+pub records-part : (c : Cursor) (r : ℕ) (l z log : List ℕ) → r ≡ roomOf (length log / 8) → z ≡ replicate 4352 0 →
+    l ≡ filled 0 (capped (c .used) (roomOf (length log / 8))) (λ i. longAt log (8 * i)) z → take (r - 0) (drop 0 l) ≡ logIn c log
+unfolding logIn recordsIn
+records-part c r l z log e q h = λ i. take ((no-less r ∙ e) i) ((h ∙ ap (filled 0 (capped (c .used) (roomOf (length log / 8))) (λ i. longAt log (8 * i))) q) i)
+
+pub plan-read : (b ws z : List ℕ) → z ≡ replicate 15241 0 → ws ≡ inUseOver (λ i. wordAt b (4 * i)) z → ws ≡ planIn b
+unfolding planIn inUse
+plan-read b ws z q e = e ∙ ap (inUseOver (λ i. wordAt b (4 * i))) q
+
+pub after-is : (y z : Called) (b b′ : List ℕ) → y ≡ z → AfterOf false (y .outcome) b b′ → AfterOf false (z .outcome) b b′
+after-is y z b b′ e h = subst (λ (y : Called). StateAfter (isRefused (y .outcome .answer)) (y .outcome .state) b b′) e h
+
+-- a reason buffer's part
+pub buffer-part : (r n : ℕ) (l b : List ℕ) → n ≡ length b / 2 → r ≡ capped n 260 → l ≡ replicate 260 0 → take (r - 0) (drop 0 l) ≡ bufferIn b
+unfolding bufferIn
+buffer-part r n l b m e q = λ i. take ((no-less r ∙ (e ∙ ap (λ (k : ℕ). capped k 260) m)) i) (q i)
+
+pub buffer-fits : (r n m : ℕ) → r ≡ capped n 260 → m ≡ 260 → r ≤ m
+buffer-fits r n m e q = omega (arith, e, capped-most n 260)
+
+pub buffer-long : (l : List ℕ) → l ≡ replicate 260 0 → length l ≡ 260
+buffer-long l e = ap length e ∙ length-replicate {A = ℕ} 260 0
+
+pub buffer-room : (b : List ℕ) → 2 * length (bufferIn b) ≤ length b
+unfolding bufferIn
+buffer-room b = omega (arith, length-take-le (capped (length b / 2) 260) (replicate {A = ℕ} 260 0) (omega (arith, capped-most (length b / 2) 260, length-replicate {A = ℕ} 260 0)), capped-less (length b / 2) 260)
+
+pub buffer-less : (l b : List ℕ) → l ≡ bufferIn b → 2 * length l ≤ length b
+buffer-less l b e = subst (λ (x : List ℕ). 2 * length x ≤ length b) (sym e) (buffer-room b)
+
+-- what is tested first
+pub short-is : (state cursor : List ℕ) → tooShort state cursor ≡ false → (133440 ≤ length state) × (8 ≤ length cursor)
+unfolding tooShort
+short-is state cursor e =
+    let (p, q) = or-none (ltb (length state) 133440) (ltb (length cursor) 8) e in
+    (ltb-false (length state) 133440 p, ltb-false (length cursor) 8 q)
+
+module _ (state t list log cursor : List ℕ) (lit pending : ℤ) where
+  pub short-left : tooShort state cursor ≡ true → left short t list log cursor ≡ hostPropagated state t list log cursor lit pending
+  unfolding hostPropagated
+  short-left e = sym (pick-yes _ _ e)
+
+  pub long-left : (x : Left) → tooShort state cursor ≡ false → x ≡ leftOf (cursorIn cursor) (propagatedIn state t list log cursor lit pending) list log cursor →
+      x ≡ hostPropagated state t list log cursor lit pending
+  unfolding hostPropagated
+  long-left x e h = h ∙ sym (pick-no _ _ e)
+
+pub short-state : (y : Outcome) (b : List ℕ) (s : Bool) → s ≡ true → AfterOf s y b b
+short-state y b s e = record { same = λ h. refl; is = λ (h : (s || isRefused (y .answer)) ≡ false) k. absurd (true≢false (sym (ap (λ (t : Bool). t || isRefused (y .answer)) e) ∙ h)); kept = kept-same b }
+
+pub long-state : (y : Outcome) (b b′ : List ℕ) (s : Bool) → s ≡ false → AfterOf false y b b′ → AfterOf s y b b′
+long-state y b b′ s e h = subst (λ (t : Bool). AfterOf t y b b′) (sym e) h
+
+module _ (state log cursor : List ℕ) (lit : ℤ) where
+  pub short-back : tooShort state cursor ≡ true → back short cursor ≡ hostUndone state log cursor lit
+  unfolding hostUndone
+  short-back e = sym (pick-yes _ _ e)
+
+  pub long-back : (x : Back) → tooShort state cursor ≡ false → x ≡ backBy (undoneIn state log cursor lit) cursor → x ≡ hostUndone state log cursor lit
+  unfolding hostUndone
+  long-back x e h = h ∙ sym (pick-no _ _ e)
+
+  pub short-reason : (buffer : List ℕ) → tooShort state cursor ≡ true → back short buffer ≡ hostReason state log cursor lit buffer
+  unfolding hostReason
+  short-reason buffer e = sym (pick-yes _ _ e)
+
+  pub long-reason : (buffer : List ℕ) (x : Back) → tooShort state cursor ≡ false →
+      x ≡ givenIn (reasonFetched (stateIn state) (cursorIn cursor) (logIn (cursorIn cursor) log) lit (bufferIn buffer)) buffer → x ≡ hostReason state log cursor lit buffer
+  unfolding hostReason
+  long-reason buffer x e h = h ∙ sym (pick-no _ _ e)
+
+module _ (state log cursor : List ℕ) where
+  pub short-last : (buffer : List ℕ) → tooShort state cursor ≡ true → back short buffer ≡ hostLast state log cursor buffer
+  unfolding hostLast
+  short-last buffer e = sym (pick-yes _ _ e)
+
+  pub long-last : (buffer : List ℕ) (x : Back) → tooShort state cursor ≡ false →
+      x ≡ givenIn (lastFetched (stateIn state) (cursorIn cursor) (logIn (cursorIn cursor) log) (bufferIn buffer)) buffer → x ≡ hostLast state log cursor buffer
+  unfolding hostLast
+  long-last buffer x e h = h ∙ sym (pick-no _ _ e)

@@ -1,0 +1,130 @@
+use Rattle.byte_calls.proofs.Leaving.{after-is, left-back, part-fits, lits-long, records-long, lits-part, records-part, plan-read}
+use mathlib.Core.Path.{_≡_, refl, sym, ap, ap₂, subst, _∙_}
+use Prim.Native.Nat.{ℕ}
+use mathlib.Core.List.{List}
+use mir.Facts.{toZ-ofZ}
+use Rattle.graph_division.specs.Calls.{Called}
+use Rattle.byte_calls.specs.Layout.{cursorIn}
+use Rattle.byte_calls.specs.Host.{left, leftOf, propagatedIn, AfterOf}
+use Rattle.byte_calls.proofs.Filling.{read-words-in}
+use Rattle.byte_calls.proofs.Leaving.{left-back, part-fits, lits-long, records-long, lits-part, records-part, plan-read}
+use mathlib.Core.Bool.{false}
+use borrow.Author.Needs.{needs}
+use Rattle.byte_calls.proofs.changes.propagate.Statement.{statement}
+use Rattle.byte_calls.proofs.changes.propagate.Tie as tie
+
+no-plan-requires : tie.Need-no-plan-requires
+no-plan-requires c κs = search needs
+
+slice-aggregate-read-plan : tie.Need-slice-aggregate-read-plan
+slice-aggregate-read-plan c = search needs
+
+read-plan-requires : tie.Need-read-plan-requires
+read-plan-requires c κs = search needs
+
+read-edges-requires : tie.Need-read-edges-requires
+read-edges-requires c κs = search needs
+
+no-notes-requires : tie.Need-no-notes-requires
+no-notes-requires c κs = search needs
+
+slice-aggregate-read-words : tie.Need-slice-aggregate-read-words
+slice-aggregate-read-words c = search needs
+
+read-words-requires : tie.Need-read-words-requires
+read-words-requires c κs = search needs
+
+read-cursor-requires : tie.Need-read-cursor-requires
+read-cursor-requires c κs = search needs
+
+no-records-requires : tie.Need-no-records-requires
+no-records-requires c κs = search needs
+
+slice-aggregate-read-log : tie.Need-slice-aggregate-read-log
+slice-aggregate-read-log c = search needs
+
+read-log-requires : tie.Need-read-log-requires
+read-log-requires c κs = search needs
+
+room-of-requires : tie.Need-room-of-requires
+room-of-requires c κs = search needs
+
+no-lits-requires : tie.Need-no-lits-requires
+no-lits-requires c κs = search needs
+
+room-of-requires-2 : tie.Need-room-of-requires-2
+room-of-requires-2 c κs = search needs
+
+sub-notify : tie.Need-sub-notify
+sub-notify c = search needs
+
+part-lits-start : tie.Need-part-lits-start
+part-lits-start c = search needs
+
+part-lits-end : tie.Need-part-lits-end
+part-lits-end c = part-fits _ _ _ (c .before .before .before .room-of2 .ensures) (lits-long _ (c .before .before .before .before .no-lits .ensures))
+
+sub-notify-2 : tie.Need-sub-notify-2
+sub-notify-2 c = search needs
+
+part-records-start : tie.Need-part-records-start
+part-records-start c = search needs
+
+part-records-end : tie.Need-part-records-end
+part-records-end c = part-fits _ _ _ (c .before .before .before .before .before .before .room-of .ensures) (records-long _ _ _ _ (c .before .before .before .before .before .before .before .before .before .before .before .no-records .ensures) (c .before .before .before .before .before .before .before .before .read-log .ensures))
+
+notify-requires : tie.Need-notify-requires
+notify-requires c κs = ((c .before .before .before .before .before .before .before .before .before .before .before .before .before .before .before .before .before .before .before .before .before .before .before .before .before .before .before .before .before .before .before .before .before .before .before .before .pre .0), plan-read (c .before .before .before .before .before .before .before .before .before .before .before .before .before .before .before .before .before .before .before .before .before .before .before .before .before .before .before .before .before .before .before .before .before .before .before .before .args .state .now) _ _ (c .before .before .before .before .before .before .before .before .before .before .before .before .before .before .before .before .before .before .before .before .before .before .before .before .before .before .before .before .before .before .no-plan .ensures) (c .before .before .before .before .before .before .before .before .before .before .before .before .before .before .before .before .before .before .before .before .before .before .before .before .before .before .before .read-plan .ensures), (c .before .before .before .before .before .before .before .before .before .before .before .before .before .before .before .before .before .before .before .before .before .before .before .before .read-edges .ensures), read-words-in (c .before .before .before .before .before .before .before .before .before .before .before .before .before .before .before .before .before .before .before .before .before .before .before .before .before .before .before .before .before .before .before .before .before .before .before .before .args .state .now) 61220 384 _ _ (c .before .before .before .before .before .before .before .before .before .before .before .before .before .before .before .before .before .before .before .before .before .before .before .no-notes .ensures) (c .before .before .before .before .before .before .before .before .before .before .before .before .before .before .before .before .before .before .before .before .read-words .ensures), lits-part _ _ _ (c .before .before .before .before .before .before .before .before .before .before .before .before .before .before .before .before .before .before .before .before .before .before .before .before .before .before .before .before .before .before .before .before .before .before .before .before .args .list .now) refl (c .before .before .before .before .before .before .before .before .before .room-of2 .ensures) (c .before .before .before .before .before .before .before .before .before .before .no-lits .ensures), (c .before .before .before .before .before .before .before .before .before .before .before .before .before .before .before .before .before .read-cursor .ensures), records-part (c .before .before .before .before .before .before .before .before .before .before .before .before .before .before .before .before .before .read-cursor .result) _ _ _ (c .before .before .before .before .before .before .before .before .before .before .before .before .before .before .before .before .before .before .before .before .before .before .before .before .before .before .before .before .before .before .before .before .before .before .before .before .args .log .now) (c .before .before .before .before .before .before .before .before .before .before .before .room-of .ensures) (c .before .before .before .before .before .before .before .before .before .before .before .before .before .before .before .before .no-records .ensures) (c .before .before .before .before .before .before .before .before .before .before .before .before .before .read-log .ensures), (c .before .before .before .before .before .before .before .before .before .before .before .before .before .before .before .before .before .before .before .before .before .before .before .before .before .before .before .before .before .before .before .before .before .before .before .before .pre .1))
+
+same-length : tie.Need-same-length
+same-length c = search needs
+
+same-length-2 : tie.Need-same-length-2
+same-length-2 c = search needs
+
+same-length-3 : tie.Need-same-length-3
+same-length-3 c = search needs
+
+same-length-4 : tie.Need-same-length-4
+same-length-4 c = search needs
+
+same-length-5 : tie.Need-same-length-5
+same-length-5 c = search needs
+
+returns : tie.Need-returns
+returns c = (
+  left-back (cursorIn (c .before .before .before .before .before .before .before .before .before .before .before .before .before .before .before .before .before .before .before .before .before .before .before .before .before .before .before .before .before .before .before .before .before .before .before .before .before .before .before .before .before .before .before .before .before .before .before .before .before .args .cursor .now)) _ (c .before .before .before .before .before .before .before .before .before .before .before .before .before .before .before .before .before .before .before .before .before .before .before .before .before .before .before .before .before .before .before .before .before .before .before .before .before .before .before .before .before .before .before .before .before .before .before .before .before .args .list .now) (c .before .before .before .before .before .before .before .before .before .before .before .before .before .before .before .before .before .before .before .before .before .before .before .before .before .before .before .before .before .before .before .before .before .before .before .before .before .before .before .before .before .before .before .before .before .before .before .before .before .args .log .now) (c .before .before .before .before .before .before .before .before .before .before .before .before .before .before .before .before .before .before .before .before .before .before .before .before .before .before .before .before .before .before .before .before .before .before .before .before .before .before .before .before .before .before .before .before .before .before .before .before .before .args .cursor .now) _ _ _ _ _ ((c .before .before .before .before .before .before .before .before .before .before .before .before .notify .ensures .0) ∙ ap (λ (y : Called). leftOf (cursorIn (c .before .before .before .before .before .before .before .before .before .before .before .before .before .before .before .before .before .before .before .before .before .before .before .before .before .before .before .before .before .before .before .before .before .before .before .before .before .before .before .before .before .before .before .before .before .before .before .before .before .args .cursor .now)) y (c .before .before .before .before .before .before .before .before .before .before .before .before .before .before .before .before .before .before .before .before .before .before .before .before .before .before .before .before .before .before .before .before .before .before .before .before .before .before .before .before .before .before .before .before .before .before .before .before .before .args .list .now) (c .before .before .before .before .before .before .before .before .before .before .before .before .before .before .before .before .before .before .before .before .before .before .before .before .before .before .before .before .before .before .before .before .before .before .before .before .before .before .before .before .before .before .before .before .before .before .before .before .before .args .log .now) (c .before .before .before .before .before .before .before .before .before .before .before .before .before .before .before .before .before .before .before .before .before .before .before .before .before .before .before .before .before .before .before .before .before .before .before .before .before .before .before .before .before .before .before .before .before .before .before .before .before .args .cursor .now)) (λ i. propagatedIn (c .before .before .before .before .before .before .before .before .before .before .before .before .before .before .before .before .before .before .before .before .before .before .before .before .before .before .before .before .before .before .before .before .before .before .before .before .before .before .before .before .before .before .before .before .before .before .before .before .before .args .state .now) (c .before .before .before .before .before .before .before .before .before .before .before .before .before .before .before .before .before .before .before .before .before .before .before .before .before .before .before .before .before .before .before .before .before .before .before .before .before .before .before .before .before .before .before .before .before .before .before .before .before .args .table .now) (c .before .before .before .before .before .before .before .before .before .before .before .before .before .before .before .before .before .before .before .before .before .before .before .before .before .before .before .before .before .before .before .before .before .before .before .before .before .before .before .before .before .before .before .before .before .before .before .before .before .args .list .now) (c .before .before .before .before .before .before .before .before .before .before .before .before .before .before .before .before .before .before .before .before .before .before .before .before .before .before .before .before .before .before .before .before .before .before .before .before .before .before .before .before .before .before .before .before .before .before .before .before .before .args .log .now) (c .before .before .before .before .before .before .before .before .before .before .before .before .before .before .before .before .before .before .before .before .before .before .before .before .before .before .before .before .before .before .before .before .before .before .before .before .before .before .before .before .before .before .before .before .before .before .before .before .before .args .cursor .now) (toZ-ofZ (c .before .before .before .before .before .before .before .before .before .before .before .before .before .before .before .before .before .before .before .before .before .before .before .before .before .before .before .before .before .before .before .before .before .before .before .before .before .before .before .before .before .before .before .before .before .before .before .before .before .fits .lit) i) (toZ-ofZ (c .before .before .before .before .before .before .before .before .before .before .before .before .before .before .before .before .before .before .before .before .before .before .before .before .before .before .before .before .before .before .before .before .before .before .before .before .before .before .before .before .before .before .before .before .before .before .before .before .before .fits .num-pending-propagations) i))),
+  after-is _ _ _ _ (λ i. propagatedIn (c .before .before .before .before .before .before .before .before .before .before .before .before .before .before .before .before .before .before .before .before .before .before .before .before .before .before .before .before .before .before .before .before .before .before .before .before .before .before .before .before .before .before .before .before .before .before .before .before .before .args .state .now) (c .before .before .before .before .before .before .before .before .before .before .before .before .before .before .before .before .before .before .before .before .before .before .before .before .before .before .before .before .before .before .before .before .before .before .before .before .before .before .before .before .before .before .before .before .before .before .before .before .before .args .table .now) (c .before .before .before .before .before .before .before .before .before .before .before .before .before .before .before .before .before .before .before .before .before .before .before .before .before .before .before .before .before .before .before .before .before .before .before .before .before .before .before .before .before .before .before .before .before .before .before .before .before .args .list .now) (c .before .before .before .before .before .before .before .before .before .before .before .before .before .before .before .before .before .before .before .before .before .before .before .before .before .before .before .before .before .before .before .before .before .before .before .before .before .before .before .before .before .before .before .before .before .before .before .before .before .args .log .now) (c .before .before .before .before .before .before .before .before .before .before .before .before .before .before .before .before .before .before .before .before .before .before .before .before .before .before .before .before .before .before .before .before .before .before .before .before .before .before .before .before .before .before .before .before .before .before .before .before .before .args .cursor .now) (toZ-ofZ (c .before .before .before .before .before .before .before .before .before .before .before .before .before .before .before .before .before .before .before .before .before .before .before .before .before .before .before .before .before .before .before .before .before .before .before .before .before .before .before .before .before .before .before .before .before .before .before .before .before .fits .lit) i) (toZ-ofZ (c .before .before .before .before .before .before .before .before .before .before .before .before .before .before .before .before .before .before .before .before .before .before .before .before .before .before .before .before .before .before .before .before .before .before .before .before .before .before .before .before .before .before .before .before .before .before .before .before .before .fits .num-pending-propagations) i)) (c .before .before .before .before .before .before .before .before .before .before .before .before .notify .ensures .1),
+)
+
+pub propagate-spec : {M : Type 1} → statement M
+propagate-spec =
+    tie.close
+    (tie.spec
+    no-plan-requires
+    slice-aggregate-read-plan
+    read-plan-requires
+    read-edges-requires
+    no-notes-requires
+    slice-aggregate-read-words
+    read-words-requires
+    read-cursor-requires
+    no-records-requires
+    slice-aggregate-read-log
+    read-log-requires
+    room-of-requires
+    no-lits-requires
+    room-of-requires-2
+    sub-notify
+    part-lits-start
+    part-lits-end
+    sub-notify-2
+    part-records-start
+    part-records-end
+    notify-requires
+    same-length
+    same-length-2
+    same-length-3
+    same-length-4
+    same-length-5
+    returns)

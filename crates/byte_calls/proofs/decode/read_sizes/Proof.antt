@@ -1,0 +1,42 @@
+use mathlib.Core.Path.{_≡_, refl, sym, ap, ap₂, _∙_}
+use Prim.Native.Nat.{ℕ, _≤_, _<_, _+_, _-_, _*_, _/_, _%_}
+use Rattle.byte_calls.specs.Bytes.{wordAt, longAt, putHalf, putWord, putLong, putHalves, putWords, putLongs}
+use Rattle.byte_calls.specs.Layout.{window, sizesOf, litsOf, placesOf, indexOf, inUseOver, endsAt, endsIn, cursorIn, roomOf, recordsIn}
+use Rattle.byte_calls.proofs.Filling.{room-is, read-window, cap-most, cap-less, ends-more, putReason-length, putLong-length}
+use borrow.Author.Needs.{needs}
+use Rattle.byte_calls.proofs.decode.read_sizes.Statement.{statement}
+use Rattle.byte_calls.proofs.decode.read_sizes.Tie as tie
+
+read-words-requires : tie.Need-read-words-requires
+read-words-requires c κs = search needs
+
+read-words-requires-2 : tie.Need-read-words-requires-2
+read-words-requires-2 c κs = search needs
+
+read-words-requires-3 : tie.Need-read-words-requires-3
+read-words-requires-3 c κs = search needs
+
+mul-read-words : tie.Need-mul-read-words
+mul-read-words c = search needs
+
+read-words-requires-4 : tie.Need-read-words-requires-4
+read-words-requires-4 c κs = search needs
+
+same-length : tie.Need-same-length
+same-length c = search needs
+
+returns : tie.Need-returns
+unfolding sizesOf
+returns c = read-window (c .before .before .before .before .before .before .before .before .before .before .before .before .before .before .before .before .before .before .args .state .now) 136 (32 * (c .before .before .before .before .before .before .before .before .before .before .before .before .before .before .before .before .before .before .args .n)) _ _ (c .before .before .read-words4 .ensures) ∙ ap (window (λ i. wordAt (c .before .before .before .before .before .before .before .before .before .before .before .before .before .before .before .before .before .before .args .state .now) (4 * i)) 136 (32 * (c .before .before .before .before .before .before .before .before .before .before .before .before .before .before .before .before .before .before .args .n))) (read-window (c .before .before .before .before .before .before .before .before .before .before .before .before .before .before .before .before .before .before .args .state .now) 72 ((c .before .before .before .before .before .before .before .before .before .before .before .before .before .before .before .before .before .before .args .n)) _ _ (c .before .before .before .before .before .before .read-words3 .ensures) ∙ ap (window (λ i. wordAt (c .before .before .before .before .before .before .before .before .before .before .before .before .before .before .before .before .before .before .args .state .now) (4 * i)) 72 ((c .before .before .before .before .before .before .before .before .before .before .before .before .before .before .before .before .before .before .args .n))) (read-window (c .before .before .before .before .before .before .before .before .before .before .before .before .before .before .before .before .before .before .args .state .now) 8 ((c .before .before .before .before .before .before .before .before .before .before .before .before .before .before .before .before .before .before .args .n)) _ _ (c .before .before .before .before .before .before .before .before .before .before .read-words2 .ensures) ∙ ap (window (λ i. wordAt (c .before .before .before .before .before .before .before .before .before .before .before .before .before .before .before .before .before .before .args .state .now) (4 * i)) 8 ((c .before .before .before .before .before .before .before .before .before .before .before .before .before .before .before .before .before .before .args .n))) (read-window (c .before .before .before .before .before .before .before .before .before .before .before .before .before .before .before .before .before .before .args .state .now) 0 (8) _ _ (c .before .before .before .before .before .before .before .before .before .before .before .before .before .before .read-words .ensures))))
+
+pub read-sizes-spec : {M : Type 1} → statement M
+read-sizes-spec =
+    tie.close
+    (tie.spec
+    read-words-requires
+    read-words-requires-2
+    read-words-requires-3
+    mul-read-words
+    read-words-requires-4
+    same-length
+    returns)
