@@ -7,7 +7,9 @@ pub mod step3;
 pub mod step4;
 pub mod step5;
 
+use base::less_one;
 use edge_table::Edges;
+use graph::bounds::wide;
 use noting::Noted;
 use plan::Plan;
 use views::View;
@@ -86,27 +88,11 @@ fn dom_place(plan: &Plan, v: usize, j: usize) -> u32
     place_for(plan, dom_index(plan, v, j), plan::dom_lit(plan, v, j))
 }
 
-// The place of the other literal of the same variable.
-pub(crate) fn negation(p: u32) -> u32
-    ensures { λ r. ⌜ r ≡ negate p ⌝ }
-{
-    if p % 2 == 0 {
-        return p + 1;
-    }
-    p - 1
-}
-
 pub(crate) fn edge_state(noted: &Noted, g: usize) -> u32
     requires { ⌜ g < 128 ⌝ }
     ensures { λ r. ⌜ r ≡ getD (now (noted .entry)) g 0 ⌝ }
 {
     noted[g]
-}
-
-fn wide(x: u8) -> usize
-    ensures { λ r. ⌜ r ≡ x ⌝ }
-{
-    x as usize
 }
 
 // The ends of edge g.
@@ -157,15 +143,6 @@ fn sizes_below(plan: &Plan, v: usize, x: u64, n: usize) -> usize
         k -= 1;
     }
     0
-}
-
-fn less_one(k: usize) -> usize
-    ensures { λ r. ⌜ r ≡ pred k ⌝ }
-{
-    if k == 0 {
-        return 0;
-    }
-    k - 1
 }
 
 // The place of the literal: the size of v is at least x.

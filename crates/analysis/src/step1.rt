@@ -3,7 +3,6 @@
 use crate::edge_place;
 use crate::edge_state;
 use crate::left_region;
-use crate::negation;
 use crate::right_region;
 use edge_table::Edges;
 use noting::Noted;
@@ -12,6 +11,7 @@ use reasons::Verdict;
 use reasons::goes_on;
 use reasons::packed;
 use reasons::put;
+use sat::negation;
 use views::View;
 ghost use mathlib.Core.Path.{_≡_};
 ghost use mathlib.Core.List.{[]};

@@ -2,7 +2,6 @@
 // bound, then falling lower bound (its negation rising), then number: lower bounds of pairwise separate ranges, added, must not
 // pass the potential weight."
 use crate::lit_at_least;
-use crate::negation;
 use crate::potential_weight;
 use noting::Noted;
 use noting::lower_bound;
@@ -12,6 +11,7 @@ use reasons::Verdict;
 use reasons::goes_on;
 use reasons::packed;
 use reasons::put;
+use sat::negation;
 use views::View;
 use views::cells::required_weight;
 use views::cells::separate_ranges;

@@ -2,7 +2,6 @@
 use crate::edge_place;
 use crate::left_region;
 use crate::lit_at_least;
-use crate::negation;
 use crate::right_region;
 use crate::step1::loose;
 use edge_table::Edges;
@@ -14,6 +13,7 @@ use reasons::Verdict;
 use reasons::goes_on;
 use reasons::packed;
 use reasons::put;
+use sat::negation;
 use views::View;
 use views::decided_region;
 use views::members::extreme_vertices;

@@ -6,7 +6,7 @@
 // The file stdin is tests/analysis/named and after it what `tests/analysis/generate 1 280` prints. The file stdout has the Rust's
 // answers and not this program's: `tests/analysis/oracle FOLDER <crates/analysis_cases/stdin`, where FOLDER has the Rust source.
 use builder::build::GraphDivisionOptions;
-use builder::build::Plan;
+use builder::build::PlanWords;
 use builder::input::EdgeNumbers;
 use builder::input::VertexNumbers;
 use edge_table::Edges;
@@ -331,7 +331,7 @@ fn show_analysis(plan: &Plan, edges: Edges, lits: &[i32; 2176], count: usize) {
     put_proposals(plan, edges, &noted, &proposals);
 }
 
-fn build<'a>(vertices: &'a VertexNumbers, edges: &'a EdgeNumbers, c: Counts) -> Plan {
+fn build<'a>(vertices: &'a VertexNumbers, edges: &'a EdgeNumbers, c: Counts) -> PlanWords {
     let options = GraphDivisionOptions {
         disallow_adjacent_same_size_regions: c.same_size,
         allow_extra_walls: c.extra_walls,

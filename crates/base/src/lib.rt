@@ -1,5 +1,8 @@
-// Range tests on numbers from outside, shared by every reader of them. The definitions of loops stand in specs/.
+// What every crate may need: range tests on numbers from outside, small sums, entries of slices. The definitions of loops stand in specs/.
+pub mod slices;
+
 ghost use mathlib.Core.Path.{_≡_};
+ghost use Prim.Native.Nat.{pred};
 ghost use lib.Signed.{ltZ, leZ};
 ghost use Rattle.base.specs.Range.{inRange, toNat};
 
@@ -21,4 +24,20 @@ pub fn to_nat(n: i32) -> u32
         return 0;
     }
     n as u32
+}
+
+// 0 for 0.
+pub fn less_one(k: usize) -> usize
+    ensures { λ r. ⌜ r ≡ pred k ⌝ }
+{
+    if k == 0 {
+        return 0;
+    }
+    k - 1
+}
+
+pub fn wide(x: u8) -> u32
+    ensures { λ r. ⌜ r ≡ x ⌝ }
+{
+    x as u32
 }

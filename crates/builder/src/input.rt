@@ -8,10 +8,12 @@
 //   edges[3 * g], [3 * g + 1]  ends of edge g
 //   edges[3 * g + 2]           literal of edge g
 // The counts stand beside them as they are, so that 65 vertices, 33 sizes or a million literals need no room.
+use base::less_one;
 ghost use mathlib.Core.Path.{_≡_};
 ghost use mathlib.Core.Bool.{false, not, _&&_, _||_};
 ghost use Prim.Native.Nat.{ℕ, pred, _+_, _*_, _-_, _<_, _≤_};
 ghost use lib.IntN.{pos};
+ghost use lib.ListN.{replicate};
 ghost use Rattle.base.specs.Iter.{pick};
 ghost use lib.Signed.{ltZ};
 ghost use lib.Dec.{eqb, ltb};
@@ -22,6 +24,18 @@ ghost use Rattle.builder.specs.Input.{weightAt, sizesAt, litsAt, sizeAt,
 pub type VertexNumbers = [i32; 4288];
 
 pub type EdgeNumbers = [i32; 384];
+
+pub fn no_vertices() -> VertexNumbers
+    ensures { λ r. ⌜ r ≡ replicate 4288 (pos 0) ⌝ }
+{
+    [0i32; 4288]
+}
+
+pub fn no_edges() -> EdgeNumbers
+    ensures { λ r. ⌜ r ≡ replicate 384 (pos 0) ⌝ }
+{
+    [0i32; 384]
+}
 
 pub(crate) fn weight(vertices: &VertexNumbers, v: usize) -> i32
     requires { ⌜ v < 64 ⌝ }
@@ -230,16 +244,6 @@ fn size_lit_outside_below(vertices: &VertexNumbers, v: usize, count: usize) -> b
         j += 1;
     }
     false
-}
-
-// A domain of k sizes has k - 1 literals, an empty one none that count.
-pub(crate) fn less_one(k: usize) -> usize
-    ensures { λ r. ⌜ r ≡ pred k ⌝ }
-{
-    if k == 0 {
-        return 0;
-    }
-    k - 1
 }
 
 fn size_lit_outside(vertices: &VertexNumbers, v: usize) -> bool

@@ -6,6 +6,7 @@ use lent::Done;
 use lent::initialize::is_consistent;
 use lists::ReasonList;
 use noting::Noted;
+use reasons::no_words;
 use undo_log::Cursor;
 ghost use mathlib.Core.Path.{_≡_};
 ghost use Rattle.graph_division.specs.Calls.{called};
@@ -46,7 +47,7 @@ pub fn initialize(
     let held = s.edges;
     let edges = edge_table::table_of(held);
     let mut noted = s.noted;
-    let mut words = lent::no_words();
+    let mut words = no_words();
     let mut left = s.last;
     let len = s.last_len;
     let initialized = s.initialized;

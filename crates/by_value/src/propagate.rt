@@ -2,6 +2,8 @@
 use crate::after::state_after;
 use graph_division::GraphDivision;
 use graph_division::Outcome;
+use lists::no_list;
+use reasons::no_words;
 use undo_log::Cursor;
 ghost use mathlib.Core.Path.{_≡_};
 ghost use Rattle.graph_division.specs.Calls.{called, propagated};
@@ -21,8 +23,8 @@ pub fn propagate(
     let held = s.edges;
     let edges = edge_table::table_of(held);
     let mut noted = s.noted;
-    let mut proposals = lent::no_words();
-    let mut left = lent::no_list();
+    let mut proposals = no_words();
+    let mut left = no_list();
     let done = lent::propagate::propagate(
         &s.plan,
         edges,

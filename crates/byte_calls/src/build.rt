@@ -1,13 +1,13 @@
 // Building a state's bytes.
 use crate::bytes::write_words;
 use crate::codes::refusal_code;
-use crate::decode::no_notes;
 use crate::store::store_noted;
 use builder::build::GraphDivisionOptions;
 use builder::input::EdgeNumbers;
 use builder::input::VertexNumbers;
 use edge_table::Edges;
 use noting::Noted;
+use noting::no_notes;
 use plan::Plan;
 ghost use mathlib.Core.Path.{_≡_};
 ghost use mathlib.Core.Bool.{not, false};

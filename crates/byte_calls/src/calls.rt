@@ -1,4 +1,6 @@
 // The calls over numbers and byte slices, on any bytes: a state or a cursor that is shorter than its layout is refused with 7.
+use builder::input::no_edges;
+use builder::input::no_vertices;
 ghost use mathlib.Core.Path.{_≡_};
 ghost use mathlib.Core.Bool.{true, false};
 ghost use lib.ListN.{length};
@@ -29,9 +31,9 @@ pub fn build(
     ensures { λ r. ⌜ r ≡ buildCode (numbersIn 4288 (now (vertices .entry))) n (numbersIn 384 (now (edges .entry))) m (now (state .entry)) ⌝ }
     ensures { λ _. ⌜ BuiltIn (numbersIn 4288 (now (vertices .entry))) n (numbersIn 384 (now (edges .entry))) m «same_size» «extra_walls» (now (state .entry)) (now (state .exit)) ⌝ }
 {
-    let mut vertex_numbers = crate::numbers::no_vertices();
+    let mut vertex_numbers = no_vertices();
     crate::numbers::read_numbers(vertices, 4288, &mut vertex_numbers);
-    let mut edge_numbers = crate::numbers::no_edges();
+    let mut edge_numbers = no_edges();
     crate::numbers::read_numbers(edges, 384, &mut edge_numbers);
     crate::build::build_from(
         &vertex_numbers,

@@ -130,18 +130,6 @@ pub(crate) fn no_plan() -> Plan
     [0u32; 15241]
 }
 
-pub(crate) fn no_notes() -> Noted
-    ensures { λ r. ⌜ r ≡ replicate 384 0 ⌝ }
-{
-    [0u32; 384]
-}
-
-pub(crate) fn no_list() -> ReasonList
-    ensures { λ r. ⌜ r ≡ replicate 260 0 ⌝ }
-{
-    [0u32; 260]
-}
-
 pub(crate) fn no_lits() -> [u32; 4352]
     ensures { λ r. ⌜ r ≡ replicate 4352 0 ⌝ }
 {
@@ -152,10 +140,4 @@ pub(crate) fn no_records() -> [u64; 4352]
     ensures { λ r. ⌜ r ≡ replicate 4352 0 ⌝ }
 {
     [0u64; 4352]
-}
-
-pub(crate) fn no_words() -> Proposals
-    ensures { λ r. ⌜ r ≡ replicate 8704 0 ⌝ }
-{
-    [0u64; 8704]
 }

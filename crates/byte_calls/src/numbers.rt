@@ -65,15 +65,3 @@ pub(crate) fn read_numbers(bytes: &[u8], n: usize, numbers: &mut [i32])
         i += 1;
     }
 }
-
-pub(crate) fn no_vertices() -> VertexNumbers
-    ensures { λ r. ⌜ r ≡ replicate 4288 (pos 0) ⌝ }
-{
-    [0i32; 4288]
-}
-
-pub(crate) fn no_edges() -> EdgeNumbers
-    ensures { λ r. ⌜ r ≡ replicate 384 (pos 0) ⌝ }
-{
-    [0i32; 384]
-}

@@ -2,6 +2,8 @@
 use builder::build::GraphDivisionOptions;
 use builder::input::EdgeNumbers;
 use builder::input::VertexNumbers;
+use builder::input::no_edges;
+use builder::input::no_vertices;
 use graph_division::GraphDivision;
 ghost use mathlib.Core.Path.{_≡_};
 ghost use lib.IntN.{pos};
@@ -13,18 +15,6 @@ pub struct Started {
     pub refusal: u8,
     pub state: GraphDivision,
     pub calls_at: usize,
-}
-
-fn no_vertices() -> VertexNumbers
-    ensures { λ r. ⌜ r ≡ replicate 4288 (pos 0) ⌝ }
-{
-    [0i32; 4288]
-}
-
-fn no_edges() -> EdgeNumbers
-    ensures { λ r. ⌜ r ≡ replicate 384 (pos 0) ⌝ }
-{
-    [0i32; 384]
 }
 
 fn start_plan(input: &[u8]) -> Started

@@ -4,7 +4,9 @@ use builder::input::EdgeNumbers;
 use builder::input::VertexNumbers;
 use edge_table::EdgeTable;
 use lists::ReasonList;
+use lists::no_list;
 use noting::Noted;
+use noting::no_notes;
 use plan::Plan;
 use recorded::Reasons;
 use undo_log::Cursor;
@@ -52,18 +54,6 @@ pub struct Outcome {
 pub struct Built {
     pub refusal: u8,
     pub state: GraphDivision,
-}
-
-fn no_notes() -> Noted
-    ensures { λ r. ⌜ r ≡ replicate 384 0 ⌝ }
-{
-    [0u32; 384]
-}
-
-fn no_list() -> ReasonList
-    ensures { λ r. ⌜ r ≡ replicate 260 0 ⌝ }
-{
-    [0u32; 260]
 }
 
 impl GraphDivision {

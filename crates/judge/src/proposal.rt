@@ -1,6 +1,7 @@
 // The proposals of an analysis without a conflict: the lowest false one makes one, "its reason as this analysis recorded it, plus
 // its negation".
 use crate::Judgement;
+use base::slices::word;
 use edge_table::Edges;
 use lists::and_word;
 use lists::reason_lits;
@@ -8,6 +9,7 @@ use noting::Noted;
 use plan::Plan;
 use reasons::reason::Reason;
 use reasons::reason::reason_of;
+use sat::negation;
 use sweep::first_false;
 use sweep::table::some_current;
 use walks::Listed;
@@ -19,30 +21,12 @@ ghost use Rattle.reasons.specs.Reason.{reasonOf};
 ghost use Rattle.walks.specs.Answers.{answerOf};
 ghost use Rattle.judge.specs.Judge.{listing, negationAt, falseLits, judgeCurrent, judgeFalse, judgeProposals};
 
-fn word(words: &[u64], i: usize) -> u64
-    ensures { λ r. ⌜ r ≡ getD (now (words .entry)) i 0 ⌝ }
-{
-    if i < words.len() {
-        return words[i];
-    }
-    0
-}
-
 // The reason that the words of place p hold.
 fn reason_at(proposals: &[u64], p: usize) -> Reason
     requires { ⌜ p < 8589934592 ⌝ }
     ensures { λ r. ⌜ r ≡ reasonOf (getD (now (proposals .entry)) (2 * p) 0) (getD (now (proposals .entry)) (2 * p + 1) 0) ⌝ }
 {
     reason_of(word(proposals, 2 * p), word(proposals, 2 * p + 1))
-}
-
-fn negation(lit: u32) -> u32
-    ensures { λ r. ⌜ r ≡ negate lit ⌝ }
-{
-    if lit % 2 == 0 {
-        return lit + 1;
-    }
-    lit - 1
 }
 
 // The negation of the literal at place p; a word of the list has 32 bits.

@@ -1,11 +1,13 @@
 // The Rust's `calc_reason`, with a literal and without one. A fetch changes nothing but the buffer that it is lent.
 use edge_table::Edges;
 use graph_division::Answer;
+use lists::no_list;
 use noting::Noted;
 use plan::Plan;
 use reasons::reason::Reason;
 use undo_log::Cursor;
 use walks::Listed;
+use walks::push;
 ghost use mathlib.Core.Path.{_≡_};
 ghost use mathlib.Core.Bool.{Bool};
 ghost use mathlib.Core.List.{List};
@@ -26,17 +28,6 @@ fn word(list: &[u32], i: usize) -> u32
         return list[i];
     }
     0
-}
-
-// One word more, if there is room.
-fn push(buffer: &mut [u32], at: usize, x: u32) -> usize
-    ensures { λ r. ⌜ outOf (now (buffer .exit)) r ≡ pushed x (outOf (now (buffer .entry)) at) ⌝ }
-{
-    if at < buffer.len() {
-        buffer[at] = x;
-        return at + 1;
-    }
-    at
 }
 
 // The first n words of the list, as many as there is room for.
@@ -118,7 +109,7 @@ fn calc(plan: &Plan, edges: Edges, noted: &Noted, reason: Reason, buffer: &mut [
     if is_none(reason) {
         return Answer::Refused { number: 15 };
     }
-    let mut list = crate::no_list();
+    let mut list = no_list();
     let listed = lists::reason_lits(plan, edges, noted, reason, &mut list, 0);
     give(&list, listed, buffer)
 }

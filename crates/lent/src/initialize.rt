@@ -1,7 +1,6 @@
 // The Rust's `initialize`.
 use crate::Done;
 use crate::fetch::copy;
-use crate::no_words;
 use crate::table::restore;
 use crate::table::save;
 use edge_table::Edges;
@@ -12,6 +11,7 @@ use notifications::go_through;
 use notifications::lit_at;
 use noting::Noted;
 use plan::Plan;
+use reasons::no_words;
 use undo_log::Cursor;
 ghost use mathlib.Core.Path.{_≡_};
 ghost use mathlib.Core.Bool.{Bool};

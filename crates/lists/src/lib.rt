@@ -3,13 +3,16 @@
 pub mod conflict;
 
 use edge_table::Edges;
+use graph::bounds::wide;
 use noting::Noted;
 use plan::Plan;
 use reasons::reason::Reason;
 use sat::OptLit;
 use walks::Listed;
 use walks::Shape;
+use walks::push;
 ghost use mathlib.Core.Path.{_≡_};
+ghost use lib.ListN.{replicate};
 ghost use Rattle.walks.specs.Written.{outOf, pushed};
 ghost use Rattle.walks.specs.Answers.{answerOf};
 ghost use Rattle.lists.specs.Parts.{shapeOf, endsOf, path, decided, potential, andWord, andLit, andOpt, inside, twoPaths, twoRegions, threeRegions};
@@ -19,6 +22,12 @@ ghost use Rattle.lists.specs.Lists.{between, tooLarge, mismatch, spread,
 pub const LONGEST_LIST: usize = 260;
 
 pub type ReasonList = [u32; LONGEST_LIST];
+
+pub fn no_list() -> ReasonList
+    ensures { λ r. ⌜ r ≡ replicate 260 0 ⌝ }
+{
+    [0u32; 260]
+}
 
 // The ends of an edge, or of a path.
 struct Ends {
@@ -34,12 +43,6 @@ fn shape_of(plan: &Plan) -> Shape
         num_edges: plan::num_edges(plan) as usize,
         first_lit: 4232,
     }
-}
-
-fn wide(x: u8) -> usize
-    ensures { λ r. ⌜ r ≡ x ⌝ }
-{
-    x as usize
 }
 
 // The ends of edge g, the right one first with flip.
@@ -80,17 +83,6 @@ fn potential(
     ensures { λ r. ⌜ answerOf r (now (out .exit)) ≡ potential (now (plan .entry)) edges (now (noted .entry)) u (outOf (now (out .entry)) at) ⌝ }
 {
     walks::reason_potential_region(edges, noted, plan, shape_of(plan), u, out, at)
-}
-
-// One word more, if there is room: the place past it.
-fn push(out: &mut [u32], at: usize, x: u32) -> usize
-    ensures { λ r. ⌜ outOf (now (out .exit)) r ≡ pushed x (outOf (now (out .entry)) at) ⌝ }
-{
-    if at < out.len() {
-        out[at] = x;
-        return at + 1;
-    }
-    at
 }
 
 // One literal after a list.

@@ -1,18 +1,10 @@
 // What an analysis proposed is put beside what earlier ones did, two words for each place: the newest stays.
+use base::slices::word;
 use plan::Plan;
 ghost use mathlib.Core.Path.{_≡_};
 ghost use Prim.Native.Nat.{_*_, _+_, _<_};
 ghost use lib.ListN.{getD, set};
 ghost use Rattle.notifications.specs.Notifications.{merged, mergedAt};
-
-fn word(words: &[u64], i: usize) -> u64
-    ensures { λ r. ⌜ r ≡ getD (now (words .entry)) i 0 ⌝ }
-{
-    if i < words.len() {
-        return words[i];
-    }
-    0
-}
 
 fn put(words: &mut [u64], i: usize, x: u64)
     ensures { λ _. ⌜ now (words .exit) ≡ set (now (words .entry)) i x ⌝ }

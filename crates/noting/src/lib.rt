@@ -8,6 +8,7 @@ pub mod undo;
 
 use plan::Plan;
 ghost use mathlib.Core.Path.{_≡_};
+ghost use lib.ListN.{replicate};
 ghost use Prim.Native.Nat.{ℕ, _+_, _≤_, _<_};
 ghost use Rattle.base.specs.Lists.{filled};
 ghost use Rattle.noting.specs.Words.{edgeStateOf, boundAt, lowerOf, upperOf, lowerLitOf, upperLitOf, capped, firstSize, lastSize, fresh};
@@ -15,6 +16,12 @@ ghost use Rattle.noting.specs.Words.{edgeStateOf, boundAt, lowerOf, uppe
 pub const NOTED_WORDS: usize = 384;
 
 pub type Noted = [u32; NOTED_WORDS];
+
+pub fn no_notes() -> Noted
+    ensures { λ r. ⌜ r ≡ replicate 384 0 ⌝ }
+{
+    [0u32; 384]
+}
 
 // An edge's states: the Rust's `EdgeState`.
 pub const UNDECIDED: u32 = 0;

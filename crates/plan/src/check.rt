@@ -14,6 +14,8 @@ use crate::position;
 use crate::start_at;
 use crate::variable_at;
 use crate::weight;
+use base::less_one;
+use base::wide;
 use edge_table::Edges;
 ghost use mathlib.Core.Path.{_≡_};
 ghost use mathlib.Core.Bool.{not, _&&_, _||_};
@@ -84,16 +86,6 @@ fn some_entry_bad(plan: &Plan, v: usize, len: usize) -> bool
     false
 }
 
-// A domain of k sizes has k - 1 literals, an empty one none.
-fn less_one(k: usize) -> usize
-    ensures { λ r. ⌜ r ≡ pred k ⌝ }
-{
-    if k == 0 {
-        return 0;
-    }
-    k - 1
-}
-
 fn vertex_bad(plan: &Plan, v: usize) -> bool
     requires { ⌜ v < 64 ⌝ }
     ensures { λ r. ⌜ r ≡ vertexBad (now (plan .entry)) v ⌝ }
@@ -120,12 +112,6 @@ fn some_vertex_bad(plan: &Plan, n: usize) -> bool
         v += 1;
     }
     false
-}
-
-fn wide(x: u8) -> u32
-    ensures { λ r. ⌜ r ≡ x ⌝ }
-{
-    x as u32
 }
 
 fn edge_bad<'a>(plan: &'a Plan, edges: &'a Edges, g: usize) -> bool

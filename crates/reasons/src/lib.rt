@@ -2,6 +2,7 @@
 pub mod reason;
 
 ghost use mathlib.Core.Path.{_≡_};
+ghost use lib.ListN.{replicate};
 ghost use Rattle.reasons.specs.Words.{packed, packedLits, put};
 ghost use Rattle.reasons.specs.Verdicts.{goesOn};
 
@@ -9,6 +10,12 @@ ghost use Rattle.reasons.specs.Verdicts.{goesOn};
 pub const PROPOSAL_WORDS: usize = 8704;
 
 pub type Proposals = [u64; PROPOSAL_WORDS];
+
+pub fn no_words() -> Proposals
+    ensures { λ r. ⌜ r ≡ replicate 8704 0 ⌝ }
+{
+    [0u64; 8704]
+}
 
 // Where an analysis stands. Everything but Going ends it.
 pub enum Verdict {

@@ -1,4 +1,5 @@
 // The reasons recorded for the distinct literals: the Rust's `propagation_reasons`, an array of records that hold the enum.
+use base::slices::word;
 use plan::Plan;
 use reasons::reason::Reason;
 ghost use mathlib.Core.Path.{_≡_};
@@ -35,15 +36,6 @@ pub fn reason_at(reasons: Reasons, p: usize) -> Reason
         return recorded.reason;
     }
     Reason::NotPropagated
-}
-
-fn word(words: &[u64], i: usize) -> u64
-    ensures { λ r. ⌜ r ≡ getD (now (words .entry)) i 0 ⌝ }
-{
-    if i < words.len() {
-        return words[i];
-    }
-    0
 }
 
 // What stands at place p after an analysis: its reason where it is proposed, else what stood there.

@@ -28,6 +28,16 @@ fn signed(var: u16, negated: bool) -> u16
     positive
 }
 
+// The same of a literal among words.
+pub fn negation(lit: u32) -> u32
+    ensures { λ r. ⌜ r ≡ negate lit ⌝ }
+{
+    if lit % 2 == 0 {
+        return lit + 1;
+    }
+    lit - 1
+}
+
 impl Var {
     // How many variables there are.
     pub const COUNT: u16 = 4096;

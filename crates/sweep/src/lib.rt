@@ -3,6 +3,7 @@
 pub mod table;
 
 use plan::Plan;
+use walks::push;
 ghost use mathlib.Core.Path.{_≡_};
 ghost use Rattle.walks.specs.Written.{outOf, pushed};
 ghost use Rattle.plan.specs.Words.{uniqueLitAt};
@@ -67,17 +68,6 @@ pub fn first_false(plan: &Plan, proposals: &[u64], table: &[u8]) -> usize
         p += 1;
     }
     n
-}
-
-// One word more, if there is room: the place past it.
-fn push(list: &mut [u32], at: usize, x: u32) -> usize
-    ensures { λ r. ⌜ outOf (now (list .exit)) r ≡ pushed x (outOf (now (list .entry)) at) ⌝ }
-{
-    if at < list.len() {
-        list[at] = x;
-        return at + 1;
-    }
-    at
 }
 
 fn hand_on_lit(table: &mut [u8], list: &mut [u32], at: usize, lit: u64) -> usize

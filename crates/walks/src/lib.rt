@@ -4,6 +4,7 @@ mod search;
 use crate::search::search;
 use edge_table::Edges;
 use graph::bounds::walkable;
+use sat::negation;
 ghost use mathlib.Core.Path.{_≡_};
 ghost use mathlib.Core.Bool.{true};
 ghost use Prim.Native.Nat.{ℕ, _+_, _<_, _≤_};
@@ -29,7 +30,7 @@ pub enum Listed {
 }
 
 // One word more, if there is room: the place past it.
-fn push(out: &mut [u32], at: usize, x: u32) -> usize
+pub fn push(out: &mut [u32], at: usize, x: u32) -> usize
     ensures { λ r. ⌜ outOf (now (out .exit)) r ≡ pushed x (outOf (now (out .entry)) at) ⌝ }
 {
     if at < out.len() {
@@ -37,16 +38,6 @@ fn push(out: &mut [u32], at: usize, x: u32) -> usize
         return at + 1;
     }
     at
-}
-
-// The other literal of the same variable.
-fn negation(l: u32) -> u32
-    ensures { λ r. ⌜ r ≡ negate l ⌝ }
-{
-    if l % 2 == 0 {
-        return l + 1;
-    }
-    l - 1
 }
 
 fn word(x: u8) -> u32

@@ -1,9 +1,9 @@
-use mathlib.Core.Path.{sym}
+use mathlib.Core.Path.{_≡_, refl, sym, ap, ap₂, _∙_}
 use native.Mathlib.Omega.{arith}
 use lib.ListN.{List·getD-eq-default}
 use borrow.Author.Needs.{needs}
-use Rattle.notifications.proofs.merge.word.Statement.{statement}
-use Rattle.notifications.proofs.merge.word.Tie as tie
+use Rattle.base.proofs.slices.word.Statement.{statement}
+use Rattle.base.proofs.slices.word.Tie as tie
 
 mul-result : tie.Need-mul-result
 mul-result c = search needs
@@ -15,7 +15,7 @@ returns : tie.Need-returns
 returns c = search needs
 
 returns-2 : tie.Need-returns-2
-returns-2 c = sym (List·getD-eq-default (c .before .args .words .now) 0 {n = (c .before .args .i)} (omega arith))
+returns-2 c = sym (List·getD-eq-default (c .before .args .words .now) 0 {n = c .before .args .i} (omega arith))
 
 pub word-spec : {M : Type 1} → statement M
 word-spec = tie.close (tie.spec mul-result shared-slice-read-result returns returns-2)

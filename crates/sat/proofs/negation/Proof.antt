@@ -1,10 +1,10 @@
 use mathlib.Core.Path.{sym}
 use borrow.Author.Tests.{eq-eqb, ne-eqb}
-use borrow.Author.Needs.{needs}
-use Rattle.sat.specs.Literal.{negate}
 use Rattle.base.proofs.Loop.{pick-yes, pick-no}
-use Rattle.walks.proofs.negation.Statement.{statement}
-use Rattle.walks.proofs.negation.Tie as tie
+use Rattle.sat.specs.Literal.{negate}
+use borrow.Author.Needs.{needs}
+use Rattle.sat.proofs.negation.Statement.{statement}
+use Rattle.sat.proofs.negation.Tie as tie
 
 add-result : tie.Need-add-result
 add-result c = search needs
