@@ -27,7 +27,7 @@ use Rattle.lent.specs.declared.Done.{Done}
 use Rattle.lent.specs.Lent.{Parts, stateAfter, calledOf}
 use Rattle.byte_calls.specs.Bytes.{wordAt, longAt}
 use Rattle.byte_calls.specs.Codes.{codeOf, isRefused, givenBy}
-use Rattle.byte_calls.specs.Layout.{inUse, inUseOver, planIn, endsIn, wordsIn, reasonsIn, stateIn, cursorIn, roomOf, recordsIn, logIn, listIn, bufferIn}
+use Rattle.byte_calls.specs.Layout.{Decoded, decoded, decodedIn, inUse, inUseOver, planIn, endsIn, wordsIn, reasonsIn, stateIn, cursorIn, roomOf, recordsIn, logIn, listIn, bufferIn}
 use Rattle.byte_calls.specs.Stores.{Kept, putCursor, putList, putLog}
 use Rattle.byte_calls.specs.Host.{Left, left, leftBy, leftOf, StateAfter, AfterOf, propagatedIn, hostPropagated, tooShort, short, Back, back, backBy, undoneIn, hostUndone, givenIn, hostReason, hostLast}
 use Rattle.byte_calls.proofs.Coding.{code-back}
@@ -131,6 +131,32 @@ records-part c r l z log e q h = λ i. take ((no-less r ∙ e) i) ((h ∙ ap (fi
 pub plan-read : (b ws z : List ℕ) → z ≡ replicate 15241 0 → ws ≡ inUseOver (λ i. wordAt b (4 * i)) z → ws ≡ planIn b
 unfolding planIn inUse
 plan-read b ws z q e = e ∙ ap (inUseOver (λ i. wordAt b (4 * i))) q
+
+-- what `decode` gives, part by part
+module _ (ws ns rs b log cursor : List ℕ) (c : Cursor) (e : decoded ws ns rs c ≡ decodedIn b log cursor) where
+  pub plan-decoded : ws ≡ planIn b
+  unfolding decodedIn
+  plan-decoded = ap (λ (d : Decoded). d .plan) e
+
+  pub noted-decoded : ns ≡ wordsIn b 61220 384
+  unfolding decodedIn
+  noted-decoded = ap (λ (d : Decoded). d .noted) e
+
+  pub cursor-decoded : c ≡ cursorIn cursor
+  unfolding decodedIn
+  cursor-decoded = ap (λ (d : Decoded). d .cursor) e
+
+  all-records : rs ≡ recordsIn c log
+  unfolding decodedIn
+  all-records = ap (λ (d : Decoded). d .records) e ∙ ap (λ (d : Cursor). recordsIn d log) (sym cursor-decoded)
+
+  pub records-decoded : (r : ℕ) → r ≡ roomOf (length log / 8) → take (r - 0) (drop 0 rs) ≡ logIn c log
+  unfolding logIn
+  records-decoded r q = λ i. take ((no-less r ∙ q) i) (all-records i)
+
+  pub records-length : length rs ≡ 4352
+  unfolding recordsIn
+  records-length = ap length all-records ∙ (filled-length 0 _ (replicate 4352 0) _ ∙ length-replicate {A = ℕ} 4352 0)
 
 pub after-is : (y z : Called) (b b′ : List ℕ) → y ≡ z → AfterOf false (y .outcome) b b′ → AfterOf false (z .outcome) b b′
 after-is y z b b′ e h = subst (λ (y : Called). StateAfter (isRefused (y .outcome .answer)) (y .outcome .state) b b′) e h

@@ -91,6 +91,19 @@ recordsIn c log = filled 0 (capped (c .used) (roomOf (length log / 8))) (λ i. l
 unfoldable pub logIn : Cursor → List ℕ → List ℕ
 logIn c log = take (roomOf (length log / 8)) (recordsIn c log)
 
+-- what a call reads of the bytes that it is lent, but for the edges' ends
+pub record Decoded : Type 0 where
+  pub plan : List ℕ
+  pub noted : List ℕ
+  pub records : List ℕ
+  pub cursor : Cursor
+
+abbrev pub decoded : List ℕ → List ℕ → List ℕ → Cursor → Decoded
+decoded plan noted records cursor = record { plan = plan; noted = noted; records = records; cursor = cursor }
+
+unfoldable pub decodedIn : List ℕ → List ℕ → List ℕ → Decoded
+decodedIn state log cursor = decoded (planIn state) (wordsIn state 61220 384) (recordsIn (cursorIn cursor) log) (cursorIn cursor)
+
 -- a list of literals, or a reason buffer of at most 260: its entries count as 0 before a call
 unfoldable pub listIn : List ℕ → List ℕ
 listIn list = take (roomOf (length list / 2)) (replicate 4352 0)

@@ -1,15 +1,12 @@
 // The calls that notify and undo, over bytes that are as long as their layout.
-use crate::bytes::read_words;
 use crate::codes::code_of;
 use crate::codes::given_by;
 use crate::codes::is_refused;
+use crate::decode::decode;
 use crate::decode::no_lits;
 use crate::decode::no_plan;
 use crate::decode::no_records;
-use crate::decode::read_cursor;
 use crate::decode::read_edges;
-use crate::decode::read_log;
-use crate::decode::read_plan;
 use crate::decode::room_of;
 use crate::store::store_cursor;
 use crate::store::store_last;
@@ -165,13 +162,10 @@ pub(crate) fn propagate(
     ensures { λ _. ⌜ AfterOf false (propagatedIn (now (state .entry)) (now (table .entry)) (now (list .entry)) (now (log .entry)) (now (cursor .entry)) lit «num_pending_propagations» .outcome) (now (state .entry)) (now (state .exit)) ⌝ }
 {
     let mut plan = no_plan();
-    read_plan(state, &mut plan);
-    let edges = read_edges(state);
     let mut noted = no_notes();
-    read_words(state, 61220, 0, 384, &mut noted);
-    let before = read_cursor(cursor);
     let mut records = no_records();
-    read_log(log, before, &mut records);
+    let before = decode(state, log, cursor, &mut plan, &mut noted, &mut records);
+    let edges = read_edges(state);
     let k = room_of(log.len() / 8);
     let mut lits = no_lits();
     let n = room_of(list.len() / 2);
@@ -224,13 +218,10 @@ pub(crate) fn undo(state: &mut [u8], log: &[u8], cursor: &mut [u8], lit: i32) ->
     ensures { λ _. ⌜ AfterOf false (undoneIn (now (state .entry)) (now (log .entry)) (now (cursor .entry)) lit) (now (state .entry)) (now (state .exit)) ⌝ }
 {
     let mut plan = no_plan();
-    read_plan(state, &mut plan);
-    let edges = read_edges(state);
     let mut noted = no_notes();
-    read_words(state, 61220, 0, 384, &mut noted);
-    let before = read_cursor(cursor);
     let mut records = no_records();
-    read_log(log, before, &mut records);
+    let before = decode(state, log, cursor, &mut plan, &mut noted, &mut records);
+    let edges = read_edges(state);
     let k = room_of(log.len() / 8);
     take_back(
         state,

@@ -15,7 +15,7 @@ ghost use Prim.Native.Nat.{ℕ, _+_, _*_, _/_, _<_, _≤_};
 ghost use lib.ListN.{length, getD, replicate};
 ghost use Rattle.noting.specs.Words.{capped};
 ghost use Rattle.byte_calls.specs.Bytes.{wordAt, longAt};
-ghost use Rattle.byte_calls.specs.Layout.{sizesOf, litsOf, placesOf, indexOf, inUseOver, endsIn, cursorIn, roomOf, recordsIn};
+ghost use Rattle.byte_calls.specs.Layout.{sizesOf, litsOf, placesOf, indexOf, inUseOver, endsIn, cursorIn, roomOf, recordsIn, decoded, decodedIn};
 ghost use Rattle.base.specs.Lists.{filled};
 
 pub(crate) fn capped(n: usize, most: usize) -> usize
@@ -75,7 +75,7 @@ fn read_index(state: &[u8], k: usize, s: usize, plan: &mut [u32])
     read_words(state, 0, 13065, s, plan);
 }
 
-pub(crate) fn read_plan(state: &[u8], plan: &mut [u32])
+fn read_plan(state: &[u8], plan: &mut [u32])
     requires { ⌜ (133440 ≤ length (now state)) × (length (now plan) ≡ 15241) ⌝ }
     ensures { λ _. ⌜ now (plan .exit) ≡ inUseOver (λ i. wordAt (now (state .entry)) (4 * i)) (now (plan .entry)) ⌝ }
 {
@@ -104,7 +104,7 @@ pub(crate) fn read_edges(state: &[u8]) -> Edges
     table
 }
 
-pub(crate) fn read_cursor(cursor: &[u8]) -> Cursor
+fn read_cursor(cursor: &[u8]) -> Cursor
     requires { ⌜ 8 ≤ length (now cursor) ⌝ }
     ensures { λ r. ⌜ r ≡ cursorIn (now (cursor .entry)) ⌝ }
 {
@@ -115,13 +115,32 @@ pub(crate) fn read_cursor(cursor: &[u8]) -> Cursor
 }
 
 // The log's records up to the cursor.
-pub(crate) fn read_log(log: &[u8], cursor: Cursor, records: &mut [u64])
+fn read_log(log: &[u8], cursor: Cursor, records: &mut [u64])
     requires { ⌜ length (now records) ≡ 4352 ⌝ }
     ensures { λ _. ⌜ now (records .exit) ≡ filled 0 (capped (cursor .used) (roomOf (length (now (log .entry)) / 8))) (λ i. longAt (now (log .entry)) (8 * i)) (now (records .entry)) ⌝ }
 {
     let used = cursor.used;
     let n = capped(used, room_of(log.len() / 8));
     read_longs(log, n, records);
+}
+
+// All that a call reads but the edges' ends, into arrays of zeros; the cursor is the answer.
+pub(crate) fn decode(
+    state: &[u8],
+    log: &[u8],
+    cursor: &[u8],
+    plan: &mut [u32],
+    noted: &mut [u32],
+    records: &mut [u64],
+) -> Cursor
+    requires { ⌜ (133440 ≤ length (now state)) × (8 ≤ length (now cursor)) × (now plan ≡ replicate 15241 0) × (now noted ≡ replicate 384 0) × (now records ≡ replicate 4352 0) ⌝ }
+    ensures { λ r. ⌜ decoded (now (plan .exit)) (now (noted .exit)) (now (records .exit)) r ≡ decodedIn (now (state .entry)) (now (log .entry)) (now (cursor .entry)) ⌝ }
+{
+    read_plan(state, plan);
+    read_words(state, 61220, 0, 384, noted);
+    let before = read_cursor(cursor);
+    read_log(log, before, records);
+    before
 }
 
 pub(crate) fn no_plan() -> Plan

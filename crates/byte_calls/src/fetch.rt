@@ -5,12 +5,10 @@ use crate::bytes::word_at;
 use crate::codes::code_of;
 use crate::codes::given_by;
 use crate::decode::capped;
+use crate::decode::decode;
 use crate::decode::no_plan;
 use crate::decode::no_records;
-use crate::decode::read_cursor;
 use crate::decode::read_edges;
-use crate::decode::read_log;
-use crate::decode::read_plan;
 use crate::decode::room_of;
 use crate::store::store_list;
 use edge_table::Edges;
@@ -131,13 +129,10 @@ pub(crate) fn calc_reason(
     ensures { λ r. ⌜ back r (now (buffer .exit)) ≡ givenIn (reasonFetched (stateIn (now (state .entry))) (cursorIn (now (cursor .entry))) (logIn (cursorIn (now (cursor .entry))) (now (log .entry))) lit (bufferIn (now (buffer .entry)))) (now (buffer .entry)) ⌝ }
 {
     let mut plan = no_plan();
-    read_plan(state, &mut plan);
-    let edges = read_edges(state);
     let mut noted = no_notes();
-    read_words(state, 61220, 0, 384, &mut noted);
-    let before = read_cursor(cursor);
     let mut records = no_records();
-    read_log(log, before, &mut records);
+    let before = decode(state, log, cursor, &mut plan, &mut noted, &mut records);
+    let edges = read_edges(state);
     let k = room_of(log.len() / 8);
     let mut out = no_list();
     let n = capped(buffer.len() / 2, 260);
@@ -159,13 +154,10 @@ pub(crate) fn calc_last(state: &[u8], log: &[u8], cursor: &[u8], buffer: &mut [u
     ensures { λ r. ⌜ back r (now (buffer .exit)) ≡ givenIn (lastFetched (stateIn (now (state .entry))) (cursorIn (now (cursor .entry))) (logIn (cursorIn (now (cursor .entry))) (now (log .entry))) (bufferIn (now (buffer .entry)))) (now (buffer .entry)) ⌝ }
 {
     let mut plan = no_plan();
-    read_plan(state, &mut plan);
-    let edges = read_edges(state);
     let mut noted = no_notes();
-    read_words(state, 61220, 0, 384, &mut noted);
-    let before = read_cursor(cursor);
     let mut records = no_records();
-    read_log(log, before, &mut records);
+    let before = decode(state, log, cursor, &mut plan, &mut noted, &mut records);
+    let edges = read_edges(state);
     let k = room_of(log.len() / 8);
     let mut out = no_list();
     let n = capped(buffer.len() / 2, 260);

@@ -3,13 +3,11 @@ use crate::bytes::put_word;
 use crate::bytes::read_words;
 use crate::bytes::word_at;
 use crate::changes::finish;
+use crate::decode::decode;
 use crate::decode::no_lits;
 use crate::decode::no_plan;
 use crate::decode::no_records;
-use crate::decode::read_cursor;
 use crate::decode::read_edges;
-use crate::decode::read_log;
-use crate::decode::read_plan;
 use crate::decode::room_of;
 use edge_table::Edges;
 use graph_division::Answer;
@@ -123,15 +121,12 @@ pub(crate) fn initialize(
     ensures { λ _. ⌜ AfterOf false (initializedIn (now (state .entry)) (now (table .entry)) (now (list .entry)) (now (log .entry)) (now (cursor .entry)) .outcome) (now (state .entry)) (now (state .exit)) ⌝ }
 {
     let mut plan = no_plan();
-    read_plan(state, &mut plan);
-    let edges = read_edges(state);
     let mut noted = no_notes();
-    read_words(state, 61220, 0, 384, &mut noted);
+    let mut records = no_records();
+    let before = decode(state, log, cursor, &mut plan, &mut noted, &mut records);
+    let edges = read_edges(state);
     let mut last = no_list();
     read_words(state, 62764, 0, 260, &mut last);
-    let before = read_cursor(cursor);
-    let mut records = no_records();
-    read_log(log, before, &mut records);
     let k = room_of(log.len() / 8);
     let mut lits = no_lits();
     let n = room_of(list.len() / 2);
