@@ -40,7 +40,7 @@ ran-length r c a o e = ap (λ (q : Ran). length (q .words)) e ∙ stored-length 
 
 -- the code's verdict goes on exactly where the definition's does
 says-going : (x : abstract.Verdict) → goesOn (verdictOf x) ≡ true → x ≡ going
-unfolding verdictOf goesOn
+unfolding verdictOf
 says-going going e = refl
 says-going (conflict (disconnectedInside g)) e = absurd (false≢true e)
 says-going (conflict (over v)) e = absurd (false≢true e)
@@ -51,7 +51,7 @@ says-going crossed e = absurd (false≢true e)
 says-going zeroSize e = absurd (false≢true e)
 
 says-ended : (x : abstract.Verdict) → goesOn (verdictOf x) ≡ false → still x ≡ false
-unfolding verdictOf goesOn still
+unfolding verdictOf still
 says-ended going e = absurd (false≢true (sym e))
 says-ended (conflict c) e = refl
 says-ended crossed e = refl
@@ -130,7 +130,7 @@ pass-regular f u n = iter-regular (guarded f) (λ i. guarded-regular f i (u i)) 
 -- code that goes on: the verdict was Going
 module _ (f : Out → Out) (u : Follows f) (o : Out) (a b c : List ℕ) (r : Verdict) where
   pub ran-after : ran Going b ≡ ranOf o a → ran r c ≡ ranOf (f begun) b → ran r c ≡ ranOf (f o) a
-  unfolding ranOf goesOn
+  unfolding ranOf
   ran-after e h =
       let g = says-going (o .verdict) (ap (λ (q : Ran). goesOn (q .verdict)) (sym e)) in
       h ∙

@@ -2,8 +2,8 @@
 use crate::after::state_after;
 use graph_division::GraphDivision;
 use graph_division::Outcome;
+use graph_division::is_consistent;
 use lent::Done;
-use lent::initialize::is_consistent;
 use lists::ReasonList;
 use noting::Noted;
 use reasons::no_words;

@@ -16,9 +16,9 @@ use Rattle.graph_division.specs.declared.Answer.{Answer}
 use Rattle.graph_division.specs.declared.Answer.the-variants.{Consistent, Conflict, Noted, Undone, Reason, Refused}
 use Rattle.graph_division.specs.Calls.{Called}
 use Rattle.lent.specs.declared.Done.{Done}
-use Rattle.lent.specs.Lent.{stateOf, stateAfter, calledOf, withInitialized, isConsistent, begunAfter, begunOf}
+use Rattle.lent.specs.Lent.{stateOf, stateAfter, calledOf, withInitialized, begunAfter, begunOf}
 use Rattle.byte_calls.specs.Bytes.{putWord}
-use Rattle.byte_calls.specs.Codes.{isRefused}
+use Rattle.graph_division.specs.Answers.{isRefused, isConsistent}
 use Rattle.byte_calls.specs.Layout.{wordsIn, stateIn, cursorIn}
 use Rattle.byte_calls.specs.Stores.{Kept}
 use Rattle.byte_calls.specs.Host.{Left, left, leftBy, leftOf, StateAfter, AfterOf, initializedIn, hostInitialized, tooShort, short}
@@ -44,7 +44,6 @@ unfolding wordsIn
 words-fit m b l a n q e = q ∙ (ap length e ∙ (filled-length 0 _ (replicate n 0) n ∙ length-replicate {A = ℕ} n 0))
 
 refused-open : (a : Answer) → isRefused a ≡ true → isConsistent a ≡ false
-unfolding isRefused isConsistent
 refused-open (Consistent handed) e = absurd (true≢false (sym e))
 refused-open Conflict e = refl
 refused-open Noted e = refl

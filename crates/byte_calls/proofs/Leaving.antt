@@ -26,7 +26,8 @@ use Rattle.graph_division.specs.Calls.{Called, called, outcome, propagated, und
 use Rattle.lent.specs.declared.Done.{Done}
 use Rattle.lent.specs.Lent.{Parts, stateAfter, calledOf}
 use Rattle.byte_calls.specs.Bytes.{wordAt, longAt}
-use Rattle.byte_calls.specs.Codes.{codeOf, isRefused, givenBy}
+use Rattle.graph_division.specs.Answers.{isRefused}
+use Rattle.byte_calls.specs.Codes.{codeOf, givenBy}
 use Rattle.byte_calls.specs.Layout.{Decoded, decoded, decodedIn, inUse, inUseOver, planIn, endsIn, wordsIn, reasonsIn, stateIn, cursorIn, roomOf, recordsIn, logIn, listIn, bufferIn}
 use Rattle.byte_calls.specs.Stores.{Kept, putCursor, putList, putLog}
 use Rattle.byte_calls.specs.Host.{Left, left, leftBy, leftOf, StateAfter, AfterOf, propagatedIn, hostPropagated, tooShort, short, Back, back, backBy, undoneIn, hostUndone, givenIn, hostReason, hostLast}

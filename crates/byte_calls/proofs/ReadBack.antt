@@ -41,7 +41,7 @@ use Rattle.graph_division.specs.Calls.{Called, called, outcome, refuse, withNot
 use Rattle.graph_division.specs.Initialize.{notedAt, notedUpTo, takenOver, taking, endedBy, begun, initialized}
 use Rattle.notifications.specs.declared.Progress.{Progress}
 use Rattle.notifications.specs.Notifications.{litAt}
-use Rattle.byte_calls.specs.Codes.{isRefused}
+use Rattle.graph_division.specs.Answers.{isRefused}
 use Rattle.byte_calls.specs.Host.{leftBy, leftOf, initializedIn, propagatedIn, backOf, backBy, undoneIn}
 use Rattle.byte_calls.specs.Bytes.{wordAt, longAt, putHalf, putWord, putLong, putHalves, putLongs}
 use Rattle.byte_calls.specs.Layout.{planIn, wordsIn, stateIn, cursorIn, roomOf, recordsIn, logIn, listIn}
@@ -237,16 +237,16 @@ module _ (state t list log cursor : List ℕ) (lit pending : ℤ) (hs : Bytes st
   )
 
   refused-back : (n : ℕ) (t′ l : List ℕ) → ReadsBack c (called (refuse n s c) t′ l records) list log cursor
-  unfolding refuse leftOf leftBy isRefused pick
+  unfolding refuse leftOf leftBy pick
   refused-back n t′ l = record { cursor-is = refl; log-is = λ i k. refl }
 
   module _ (l : ℕ) (small : l < 65536) (r : c .used ≤ length records) where
     noted-back : (t′ list′ : List ℕ) → ReadsBack c (adding s c l t′ list′ records) list log cursor
-    unfolding adding leftOf leftBy isRefused pick
+    unfolding adding leftOf leftBy pick
     noted-back t′ list′ = let k = kept-back (notedIn s c l records .cursor) (notedIn s c l records .log) r (noted-kept l small) in record { cursor-is = k .0; log-is = k .1 }
 
     settled-by-back : (j : Judged) (x : Judgement) (t′ list′ : List ℕ) → ReadsBack c (settledBy s c l j x t′ list′ records) list log cursor
-    unfolding settledBy handingOn accepting leftOf leftBy isRefused pick
+    unfolding settledBy handingOn accepting leftOf leftBy pick
     settled-by-back j Fine t′ list′ = let k = kept-back (notedIn s c l records .cursor) (notedIn s c l records .log) r (noted-kept l small) in record { cursor-is = k .0; log-is = k .1 }
     settled-by-back j (Clash n) t′ list′ = let k = kept-back (notedIn s c l records .cursor) (notedIn s c l records .log) r (noted-kept l small) in record { cursor-is = k .0; log-is = k .1 }
     settled-by-back j (Stopped n) t′ list′ = refused-back n t′ list′
@@ -292,7 +292,7 @@ module _ (state t list log cursor : List ℕ) (hs : Bytes state) (hl : Bytes log
       (λ p x l u. pick-ind Going _ _ _ (λ _. note-kept c₁ r₁ (few state t list log cursor (pos 0) (pos 0) hs hl hc long) (planIn state) (plan-under state hs) (litAt (planIn state) p) (lit-under (planIn state) p) x u) (λ _. u))
 
   ended-back : c₁ .used ≤ length r₁ → (words left : List ℕ) (x : Progress) (y : Judgement) (back after handed : List ℕ) → ReadsBack c₁ (endedBy s₁ c₁ t r₁ words left x y back after handed (listIn list)) list log cursor
-  unfolding endedBy taking takenOver leftOf leftBy isRefused pick
+  unfolding endedBy taking takenOver leftOf leftBy pick
   ended-back r words left x Fine back after handed = let k = kept-back state t list log cursor (pos 0) (pos 0) hs hl hc long _ _ r (up-to-kept (x .past) .0) in record { cursor-is = k .0; log-is = k .1 }
   ended-back r words left x (Clash n) back after handed = let k = kept-back state t list log cursor (pos 0) (pos 0) hs hl hc long _ _ r (up-to-kept (x .past) .0) in record { cursor-is = k .0; log-is = k .1 }
   ended-back r words left x (Stopped n) back after handed = refused-back state t list log cursor (pos 0) (pos 0) hs hl hc long n back (listIn list)
@@ -378,7 +378,7 @@ module _ (state log cursor : List ℕ) (lit : ℤ) (hc : Bytes cursor) (long : 8
 
   undone-back : wordAt cursor 0 ≤ length (logIn (cursorIn cursor) log) → (noted : List ℕ) →
       UndoBack (outcome (withNoted (undo (noting noted (logIn (cursorIn cursor) log) (cursorIn cursor)) .noted) (stateIn state)) (undo (noting noted (logIn (cursorIn cursor) log) (cursorIn cursor)) .cursor) answer.Undone)
-  unfolding backBy backOf isRefused pick undo cursorIn
+  unfolding backBy backOf pick undo cursorIn
   undone-back r noted =
       let n : ℕ = wordAt cursor 0 in
       let d : Cursor = record { used = kept (recordsOf (logIn (cursorIn cursor) log) n); standing = wordAt cursor 4 - 1 } in
@@ -386,7 +386,7 @@ module _ (state log cursor : List ℕ) (lit : ℤ) (hc : Bytes cursor) (long : 8
       (cursor-back d cursor (omega (arith, word-fits cursor 0 hc)) (omega (arith, word-fits cursor 4 hc)) long, shorter d u r)
 
   refused-same : (n : ℕ) → UndoBack (refuse n (stateIn state) (cursorIn cursor))
-  unfolding backBy backOf isRefused pick refuse
+  unfolding backBy backOf pick refuse
   refused-same n = (refl, λ i k. refl)
 
   pub undo-reads-back : UndoBack (undoneIn state log cursor lit)

@@ -13,7 +13,8 @@ use Rattle.graph_division.specs.declared.GraphDivision.{GraphDivision}
 use Rattle.graph_division.specs.declared.Outcome.{Outcome}
 use Rattle.graph_division.specs.declared.Answer.{Answer}
 use Rattle.graph_division.specs.Calls.{outcome, withNoted, Fetched}
-use Rattle.byte_calls.specs.Codes.{codeOf, isRefused}
+use Rattle.graph_division.specs.Answers.{isRefused}
+use Rattle.byte_calls.specs.Codes.{codeOf}
 use Rattle.byte_calls.specs.Layout.{stateIn}
 use Rattle.byte_calls.specs.Stores.{Kept, putCursor, putNoted}
 use Rattle.byte_calls.specs.Host.{Back, back, backOf, backBy, givenIn, StateAfter, AfterOf}

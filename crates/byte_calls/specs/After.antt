@@ -6,7 +6,7 @@ use mathlib.Core.List.{List}
 use Prim.Native.Nat.{ℕ}
 use Rattle.graph_division.specs.declared.GraphDivision.{GraphDivision}
 use Rattle.graph_division.specs.declared.Outcome.{Outcome}
-use Rattle.byte_calls.specs.Codes.{isRefused}
+use Rattle.graph_division.specs.Answers.{isRefused}
 use Rattle.byte_calls.specs.Layout.{stateIn}
 use Rattle.byte_calls.specs.Stores.{Kept}
 

@@ -18,16 +18,8 @@ codeOf Undone = pos 0
 codeOf (Reason len) = pos (fitted len)
 codeOf (Refused number) = negℤ (pos (fitted number))
 
-unfoldable pub isRefused : Answer → Bool
-isRefused (Consistent handed) = false
-isRefused Conflict = false
-isRefused Noted = false
-isRefused Undone = false
-isRefused (Reason len) = false
-isRefused (Refused number) = true
-
 -- how many literals the answer says are in the list or the buffer
-unfoldable pub givenBy : Answer → ℕ
+abbrev pub givenBy : Answer → ℕ
 givenBy (Consistent handed) = handed
 givenBy Conflict = 0
 givenBy Noted = 0

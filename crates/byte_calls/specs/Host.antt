@@ -15,7 +15,8 @@ use Rattle.graph_division.specs.declared.Outcome.{Outcome}
 use Rattle.graph_division.specs.Calls.{Called, propagated, undone, Fetched, reasonFetched, lastFetched}
 use Rattle.graph_division.specs.Initialize.{initialized}
 use Rattle.byte_calls.specs.Bytes.{wordAt}
-use Rattle.byte_calls.specs.Codes.{fitted, codeOf, isRefused, givenBy}
+use Rattle.graph_division.specs.Answers.{isRefused}
+use Rattle.byte_calls.specs.Codes.{fitted, codeOf, givenBy}
 use Rattle.byte_calls.specs.Layout.{stateIn, cursorIn, logIn, listIn, bufferIn}
 use Rattle.byte_calls.specs.Stores.{Kept, putCursor, putList, putLog}
 

@@ -1,7 +1,6 @@
 // The calls that notify and undo, over bytes that are as long as their layout.
 use crate::codes::code_of;
 use crate::codes::given_by;
-use crate::codes::is_refused;
 use crate::decode::decode;
 use crate::decode::no_lits;
 use crate::decode::no_plan;
@@ -15,6 +14,7 @@ use crate::store::store_log;
 use crate::store::store_noted;
 use crate::store::store_reasons;
 use edge_table::Edges;
+use graph_division::is_refused;
 use lent::Done;
 use lists::no_list;
 use noting::Noted;
@@ -28,7 +28,7 @@ ghost use mathlib.Core.List.{[]};
 ghost use lib.ListN.{length};
 ghost use mathlib.Core.Bool.{true, false};
 ghost use Rattle.lent.specs.Lent.{stateAfter};
-ghost use Rattle.byte_calls.specs.Codes.{isRefused};
+ghost use Rattle.graph_division.specs.Answers.{isRefused};
 ghost use Rattle.byte_calls.specs.Layout.{planIn, endsIn, wordsIn, stateIn, cursorIn, listIn, logIn};
 ghost use Rattle.byte_calls.specs.Stores.{Kept};
 ghost use Rattle.byte_calls.specs.Host.{AfterOf, left, leftBy, leftOf, propagatedIn, back, backOf, backBy, undoneIn};

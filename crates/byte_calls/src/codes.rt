@@ -3,7 +3,7 @@ use graph_division::Answer;
 ghost use mathlib.Core.Path.{_≡_};
 ghost use Prim.Native.Nat.{_≤_};
 ghost use lib.IntN.{pos, negℤ};
-ghost use Rattle.byte_calls.specs.Codes.{fitted, codeOf, isRefused, givenBy};
+ghost use Rattle.byte_calls.specs.Codes.{fitted, codeOf, givenBy};
 
 fn count_code(n: usize) -> i32
     ensures { λ r. ⌜ r ≡ pos (fitted n) ⌝ }
@@ -41,19 +41,6 @@ pub(crate) fn code_of(answer: Answer) -> i32
         Answer::Undone => 0,
         Answer::Reason { len } => count_code(len),
         Answer::Refused { number } => refusal_code(number),
-    }
-}
-
-pub(crate) fn is_refused(answer: Answer) -> bool
-    ensures { λ r. ⌜ r ≡ isRefused answer ⌝ }
-{
-    match answer {
-        Answer::Consistent { handed: _ } => false,
-        Answer::Conflict => false,
-        Answer::Noted => false,
-        Answer::Undone => false,
-        Answer::Reason { len: _ } => false,
-        Answer::Refused { number: _ } => true,
     }
 }
 

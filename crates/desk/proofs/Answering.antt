@@ -25,7 +25,8 @@ use Rattle.graph_division.specs.declared.Answer.{Answer}
 use Rattle.graph_division.specs.declared.Outcome.{Outcome}
 use Rattle.desk.specs.declared.Obeyed.{Obeyed}
 use Rattle.desk.specs.Print.{Printed, written, printing, lineOf}
-use Rattle.desk.specs.Obey.{Turn, Desk, desk, turn, staying, Held, held, holding, writing, isRefused, marked, begun, notified, takenBack, obeyed}
+use Rattle.graph_division.specs.Answers.{isRefused}
+use Rattle.desk.specs.Obey.{Turn, Desk, desk, turn, staying, Held, held, holding, writing, marked, begun, notified, takenBack, obeyed}
 use Rattle.desk.proofs.Printing.{no-bytes, count-within}
 
 -- ---- a refused notification leaves the table
@@ -33,7 +34,7 @@ abbrev pub Keeps : List ℕ → Called → Type 0
 Keeps t o = isRefused (o .outcome .answer) ≡ true → o .table ≡ t
 
 by-judgement : (s : GraphDivision) (c : Cursor) (l : ℕ) (j : Judged) (v : Judgement) (t list log : List ℕ) → Keeps t (settledBy s c l j v t list log)
-unfolding isRefused settledBy handingOn accepting
+unfolding settledBy handingOn accepting
 by-judgement s c l j Fine t list log e = absurd (false≢true e)
 by-judgement s c l j (Clash len) t list log e = refl
 by-judgement s c l j (Stopped n) t list log e = refl

@@ -17,6 +17,7 @@ use Rattle.graph_division.specs.declared.Answer.the-variants.{Consistent, Confl
 use Rattle.graph_division.specs.declared.Outcome.{Outcome}
 use Rattle.graph_division.specs.Calls.{Called, Fetched, propagated, undone, reasonFetched, lastFetched}
 use Rattle.graph_division.specs.Initialize.{initialized}
+use Rattle.graph_division.specs.Answers.{isRefused}
 use Rattle.desk.specs.declared.Obeyed.{Obeyed}
 use Rattle.desk.specs.Print.{lineOf, Printed, printing}
 
@@ -37,14 +38,6 @@ pub record Turn : Type 0 where
 
 abbrev pub turn : Desk → List ℕ → Turn
 turn d bytes = record { desk = d; bytes = bytes }
-
-unfoldable pub isRefused : Answer → Bool
-isRefused (Consistent handed) = false
-isRefused Conflict = false
-isRefused Noted = false
-isRefused Undone = false
-isRefused (Reason len) = false
-isRefused (Refused number) = true
 
 -- "N first marks an unset variable at the current level (none for a literal outside its range)"
 unfoldable pub marked : ℤ → List ℕ → List ℕ

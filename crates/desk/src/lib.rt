@@ -11,6 +11,7 @@ use by_value::propagate::propagate;
 use by_value::undo::undo;
 use graph_division::Answer;
 use graph_division::GraphDivision;
+use graph_division::is_refused;
 use lists::ReasonList;
 use text::Line;
 use undo_log::Cursor;
@@ -19,7 +20,7 @@ ghost use Prim.Native.Nat.{_≤_};
 ghost use lib.ListN.{length, replicate};
 ghost use Rattle.text.specs.Lines.{readLine};
 ghost use Rattle.desk.specs.Print.{written, printing};
-ghost use Rattle.desk.specs.Obey.{desk, held, writing, isRefused, begun, notified, takenBack, reasonAsked, lastAsked, obeyed, staying};
+ghost use Rattle.desk.specs.Obey.{desk, held, writing, begun, notified, takenBack, reasonAsked, lastAsked, obeyed, staying};
 
 // What a line leaves, besides what it was lent: the first `printed` bytes of the lent buffer are what it prints.
 pub struct Obeyed {
@@ -38,19 +39,6 @@ fn no_reason() -> ReasonList
     ensures { λ r. ⌜ r ≡ replicate 260 0 ⌝ }
 {
     [0u32; 260]
-}
-
-fn is_refused(a: Answer) -> bool
-    ensures { λ r. ⌜ r ≡ isRefused a ⌝ }
-{
-    match a {
-        Answer::Consistent { handed: _ } => false,
-        Answer::Conflict => false,
-        Answer::Noted => false,
-        Answer::Undone => false,
-        Answer::Reason { len: _ } => false,
-        Answer::Refused { number: _ } => true,
-    }
 }
 
 // I.

@@ -1,4 +1,5 @@
 -- Document 01: "If an answer is an enum, a definition gives this paper's number and values for each of its cases."
+use mathlib.Core.Bool.{Bool, true, false}
 use mathlib.Core.List.{List, []}
 use Prim.Native.Nat.{ℕ}
 use lib.ListN.{take}
@@ -22,3 +23,19 @@ valuesOf Noted l = []
 valuesOf Undone l = []
 valuesOf (Reason len) l = take len l
 valuesOf (Refused number) l = []
+
+abbrev pub isRefused : Answer → Bool
+isRefused (Consistent handed) = false
+isRefused Conflict = false
+isRefused Noted = false
+isRefused Undone = false
+isRefused (Reason len) = false
+isRefused (Refused number) = true
+
+abbrev pub isConsistent : Answer → Bool
+isConsistent (Consistent handed) = true
+isConsistent Conflict = false
+isConsistent Noted = false
+isConsistent Undone = false
+isConsistent (Reason len) = false
+isConsistent (Refused number) = false

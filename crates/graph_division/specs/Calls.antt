@@ -132,7 +132,7 @@ unfoldable pub reasonGiven : List ℕ → Listed → List ℕ → Fetched
 reasonGiven l (Past n) b = copied l n b
 reasonGiven l Missing b = fetched (answer.Refused 16) b
 
-unfoldable pub isNone : Reason → Bool
+abbrev pub isNone : Reason → Bool
 isNone NotPropagated = true
 isNone (EdgeInSameGroup g) = false
 isNone (EdgeBetweenDifferentGroups h g flip) = false

@@ -12,6 +12,7 @@ use recorded::Reasons;
 use undo_log::Cursor;
 ghost use mathlib.Core.Path.{_≡_};
 ghost use lib.ListN.{replicate};
+ghost use Rattle.graph_division.specs.Answers.{isConsistent, isRefused};
 ghost use Rattle.graph_division.specs.New.{built};
 
 pub struct GraphDivision {
@@ -41,6 +42,32 @@ pub enum Answer {
     // The first `len` entries of the lent buffer are the reason.
     Reason { len: usize },
     Refused { number: u32 },
+}
+
+pub fn is_refused(answer: Answer) -> bool
+    ensures { λ r. ⌜ r ≡ isRefused answer ⌝ }
+{
+    match answer {
+        Answer::Consistent { handed: _ } => false,
+        Answer::Conflict => false,
+        Answer::Noted => false,
+        Answer::Undone => false,
+        Answer::Reason { len: _ } => false,
+        Answer::Refused { number: _ } => true,
+    }
+}
+
+pub fn is_consistent(answer: Answer) -> bool
+    ensures { λ r. ⌜ r ≡ isConsistent answer ⌝ }
+{
+    match answer {
+        Answer::Consistent { handed: _ } => true,
+        Answer::Conflict => false,
+        Answer::Noted => false,
+        Answer::Undone => false,
+        Answer::Reason { len: _ } => false,
+        Answer::Refused { number: _ } => false,
+    }
 }
 
 // A call's state, cursor and answer; what it was lent is changed in place.

@@ -52,14 +52,6 @@ calledOf s noted proposals left d t list log = called (outcome (stateAfter s not
 unfoldable pub withInitialized : GraphDivision → GraphDivision
 withInitialized s = stateOf (s .plan) (s .edges .ends) (s .noted) (s .reasons) (s .last) (s .«last_len») true
 
-unfoldable pub isConsistent : Answer → Bool
-isConsistent (answer.Consistent handed) = true
-isConsistent answer.Conflict = false
-isConsistent answer.Noted = false
-isConsistent answer.Undone = false
-isConsistent (answer.Reason len) = false
-isConsistent (answer.Refused number) = false
-
 -- the state after an initialise, where the words are those of all its analyses, the newest of each place
 unfoldable pub begunAfter : GraphDivision → List ℕ → List ℕ → List ℕ → Done → GraphDivision
 begunAfter s noted words left d = pick (isConsistent (d .answer)) (withInitialized (stateAfter s noted words left d)) (stateAfter s noted words left d)

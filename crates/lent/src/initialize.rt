@@ -23,7 +23,7 @@ ghost use Rattle.recorded.specs.declared.Reasons.{Reasons};
 ghost use Rattle.refusals.specs.Refusals.{initializeRefusal};
 ghost use Rattle.graph_division.specs.declared.GraphDivision.{GraphDivision};
 ghost use Rattle.graph_division.specs.Initialize.{restoredTable, notedAt, notedUpTo, endedBy};
-ghost use Rattle.lent.specs.Lent.{stateOf, Parts, isConsistent, begunOf, begunOver, initializedOver};
+ghost use Rattle.lent.specs.Lent.{stateOf, Parts, begunOf, begunOver, initializedOver};
 
 // The literal at place p is noted in the words and in the log, where it is true in the table on entry.
 fn note_at(
@@ -200,19 +200,5 @@ pub fn initialize(
         answer: Answer::Refused { number: n },
         judged: false,
         len: 0,
-    }
-}
-
-// Whether an initialise with this answer is marked in the state.
-pub fn is_consistent(answer: Answer) -> bool
-    ensures { λ r. ⌜ r ≡ isConsistent answer ⌝ }
-{
-    match answer {
-        Answer::Consistent { handed: _ } => true,
-        Answer::Conflict => false,
-        Answer::Noted => false,
-        Answer::Undone => false,
-        Answer::Reason { len: _ } => false,
-        Answer::Refused { number: _ } => false,
     }
 }

@@ -52,7 +52,7 @@ pub record Way : Type 0 where
 abbrev pub way : Progress → List ℕ → List ℕ → List ℕ → List ℕ → List ℕ → List ℕ → Way
 way x noted t list words proposals left = record { progress = x; noted = noted; table = t; list = list; words = words; proposals = proposals; left = left }
 
-unfoldable pub isFine : Judgement → Bool
+abbrev pub isFine : Judgement → Bool
 isFine Fine = true
 isFine (Clash n) = false
 isFine (Stopped n) = false

@@ -19,7 +19,7 @@ verdictOf (abstract.conflict (apart a b)) = Apart a b
 verdictOf abstract.crossed = Crossed
 verdictOf abstract.zeroSize = ZeroSize
 
-unfoldable pub goesOn : Verdict → Bool
+abbrev pub goesOn : Verdict → Bool
 goesOn Going = true
 goesOn (DisconnectedInside g) = false
 goesOn (Over v) = false

@@ -110,7 +110,7 @@ module _ (ws : List ℕ) (ends : List (List ℕ)) (t log : List ℕ) (used : ℕ
       (λ e. joined-so i _ _ _ (free-next i f (λ _. e)))
 
   step-so : (i : ℕ) (w : Way) → So i w → So (suc i) (notifiedAt ws ends t log used i w)
-  unfolding notifiedAt isDue isFine
+  unfolding notifiedAt isDue
   step-so i w s = go (w .progress .judgement) refl
     where
       stay : So (suc i) w → isDue ws t (w .progress .judgement) i ≡ false → So (suc i) (notifiedAt ws ends t log used i w)
@@ -141,7 +141,7 @@ module _ (ws : List ℕ) (ends : List (List ℕ)) (t log : List ℕ) (used : ℕ
 
   last-came : (noted : List ℕ) (x : Progress) (words proposals left : List ℕ) → Good (x .judgement) (2 * variablesOf ws) (x .past) →
       Came (lastPass ws ends noted x words proposals left .progress .judgement) (lastPass ws ends noted x words proposals left .progress .past)
-  unfolding lastPass onceMore isFine onceMoreBy stopping
+  unfolding lastPass onceMore onceMoreBy stopping
   last-came noted x words proposals left g = pick-ind (λ (y : Ending). Came (y .progress .judgement) (y .progress .past)) (isFine (x .judgement)) _ _
       (λ e. let j = judgeWords ws ends noted (0 ∷ []) proposals left in by j (j .judgement) (fine (x .judgement) e refl))
       (λ e. good-came (x .judgement) (x .past) g)

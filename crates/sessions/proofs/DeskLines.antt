@@ -31,7 +31,7 @@ use Rattle.text_writer.specs.Written.{answerLine}
 use Rattle.graph_division.specs.declared.Answer.{Answer}
 use Rattle.graph_division.specs.declared.Answer.the-variants as answer
 use Rattle.graph_division.specs.declared.Outcome.{Outcome}
-use Rattle.graph_division.specs.Answers.{valuesOf}
+use Rattle.graph_division.specs.Answers.{valuesOf, isRefused}
 use Rattle.graph_division.specs.Outcomes.{answerFor, answerOf}
 use Rattle.graph_division.specs.Calls.{Called, Fetched, propagated, undone, reasonFetched, lastFetched}
 use Rattle.graph_division.specs.Initialize.{initialized}
@@ -43,7 +43,7 @@ use Rattle.claims.proofs.Replying.{At, reply-at, next-at}
 use Rattle.claims.proofs.Past.{reply-log}
 use Rattle.sessions.specs.Follow.{bytesOf}
 use Rattle.desk.specs.Print.{letterOf, numbersIn, lineOf}
-use Rattle.desk.specs.Obey.{Desk, desk, Turn, turn, isRefused, marked, valued, begun, notified, takenBack, reasonAsked, lastAsked, obeyed}
+use Rattle.desk.specs.Obey.{Desk, desk, Turn, turn, marked, valued, begun, notified, takenBack, reasonAsked, lastAsked, obeyed}
 use Rattle.text.specs.declared.Line.{Line}
 use Rattle.text.specs.declared.Line.the-variants.{O, P, G, «V», I, N, U, R, RLast, Malformed}
 use Rattle.plan.specs.Plan.{planOf}
@@ -83,7 +83,7 @@ module _ (d : Plan) (w : World) where
   ask-bytes (asked room q) l e = asked-bytes _ (answer-judged d w q) l e
 
 refused-for : (a : calls.Answer) (n : ℕ) → isRefused (answerFor a n) ≡ not (calls.accepted a)
-unfolding isRefused answerFor calls.accepted
+unfolding answerFor calls.accepted
 refused-for calls.consistent n = refl
 refused-for calls.conflicting n = refl
 refused-for calls.noted n = refl

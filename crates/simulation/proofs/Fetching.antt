@@ -78,7 +78,7 @@ copied-is l m b n e h =
 
 -- a reason is none, or stands for one
 one-reason : (r : Reason) → ((meaning r ≡ []) × (isNone r ≡ true)) ⊎ ((q : abstract.Reason) × (meaning r ≡ q ∷ []) × (isNone r ≡ false))
-unfolding meaning isNone
+unfolding meaning
 one-reason NotPropagated = inl (refl, refl)
 one-reason (EdgeInSameGroup g) = inr (_, refl, refl)
 one-reason (EdgeBetweenDifferentGroups h g flip) = inr (_, refl, refl)

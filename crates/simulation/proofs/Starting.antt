@@ -368,7 +368,7 @@ module _ (s : GraphDivision) (log : List ℕ) (c : Cursor) (w : World) (r : Repr
           (λ (f : stands ≡ false). same-by (turned ∙ pick-no _ _ f) (pick-no _ _ (stands-is due ∙ f)) (same-joined due f))
 
       same-turn : Same (suc p) (turn here) (oneMore a)
-      unfolding notifiedAt isDue isFine
+      unfolding notifiedAt isDue
       same-turn = tested (trueIn t (lit p))
           (λ (f : trueIn t (lit p) ≡ true). same-by (pick-yes _ _ f) (pick-yes _ _ f ∙ ap (calls.oneBy d (lit p) a) fine) (same-due f))
           (λ (f : trueIn t (lit p) ≡ false). same-by (pick-no _ _ f) (pick-no _ _ f) (same-past f))
@@ -378,7 +378,7 @@ module _ (s : GraphDivision) (log : List ℕ) (c : Cursor) (w : World) (r : Repr
     still a z e o = tested (trueIn t (lit p)) (λ (f : trueIn t (lit p) ≡ true). pick-yes _ _ f ∙ ap (calls.oneBy d (lit p) a) e ∙ o) (λ (f : trueIn t (lit p) ≡ false). pick-no _ _ f)
 
     same-step : (x : Way) (a : calls.Going) → Same p x a → Same (suc p) (turn x) (oneMore a)
-    unfolding notifiedAt isDue isFine calls.oneBy pick
+    unfolding notifiedAt isDue calls.oneBy pick
     same-step x a (goes b e f k q) = same-by (ap turn e) refl (same-turn a b f k q)
     same-step x a (clashes n b e f k) = same-by (ap turn e) (still a look.clash f refl) (clashes n b refl f k)
     same-step x a (stops n e f) = same-by (pick-no _ _ (ap (λ (z : Judgement). isDue ws t z p) e)) (still a (look.stopped n) f refl) (stops n e f)
@@ -466,15 +466,15 @@ module _ (s : GraphDivision) (log : List ℕ) (c : Cursor) (w : World) (r : Repr
     endsAs x = ended (x .table) (x .list) (endOf x) (endOf x .progress .judgement)
 
     fine-ended : (a : calls.Going) (b : Rest) → Stands a b → SimulatesCalled s list (endsAs (wayOf Fine a b)) (calls.finishBy d w t a look.fine)
-    unfolding lastPass onceMore isFine pick calls.finishBy
+    unfolding lastPass onceMore pick calls.finishBy
     fine-ended a b k = called-by s list (ap (endedAs a b k) (last-analyzed a b k .judged .answer)) (unset-looked d w t a) (last-ended a b k _ refl)
 
     clash-ended : (a : calls.Going) (n : ℕ) (b : Rest) → Stands a b → SimulatesCalled s list (endsAs (wayOf (Clash n) a b)) (calls.finishBy d w t a look.clash)
-    unfolding lastPass isFine pick endedBy calls.finishBy answerFor
+    unfolding lastPass pick endedBy calls.finishBy answerFor
     clash-ended a n b k = took a b k (b .words) (b .proposals) (b .left) (Clash n) (b .len) (s .initialized) calls.conflicting (a .world) (k .represents)
 
     stop-ended : (x : Way) (n : ℕ) → x .progress .judgement ≡ Stopped n → endsAs x ≡ called (refuse n s c) t list log
-    unfolding lastPass isFine endedBy
+    unfolding lastPass endedBy
     stop-ended x n e =
         ap (λ (f : Ending). ended (x .table) (x .list) f (f .progress .judgement)) (pick-no _ (ending (x .progress) (x .words) (x .proposals) (x .left)) (ap isFine e))
         ∙ ap (ended (x .table) (x .list) (ending (x .progress) (x .words) (x .proposals) (x .left))) e

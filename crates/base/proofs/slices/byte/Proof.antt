@@ -15,4 +15,4 @@ returns-2 : tie.Need-returns-2
 returns-2 c = sym (List·getD-eq-default (c .before .args .bytes .now) 0 {n = c .before .args .i} (omega arith))
 
 pub byte-spec : {M : Type 1} → statement M
-byte-spec = tie.close (tie.spec mul-result shared-slice-read-result returns returns-2)
+byte-spec = tie.close (tie.spec shared-slice-read-result returns returns-2)

@@ -6,7 +6,7 @@ use Rattle.byte_calls.specs.Stores.{putReason, putReasons, putLast, putN
 use mathlib.Core.Bool.{true, false, true≢false}
 use Rattle.byte_calls.proofs.Leaving.{is-left, is-kept, leaves, state-left, list-room, log-room}
 use Rattle.byte_calls.proofs.Coding.{code-back}
-use Rattle.byte_calls.specs.Codes.{isRefused}
+use Rattle.graph_division.specs.Answers.{isRefused}
 use lib.ListN.{length, length-set, getD, set}
 use mathlib.Core.List.{List}
 use Rattle.byte_calls.proofs.Keeping.{kept-same}

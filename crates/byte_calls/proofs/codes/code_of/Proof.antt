@@ -1,6 +1,6 @@
 use Rattle.byte_calls.proofs.Coding.{code-back}
 use mathlib.Core.Path.{_≡_, refl, sym, ap, ap₂, _∙_}
-use Rattle.byte_calls.specs.Codes.{fitted, codeOf, isRefused, givenBy}
+use Rattle.byte_calls.specs.Codes.{fitted, codeOf, givenBy}
 use borrow.Author.Needs.{needs}
 use Rattle.byte_calls.proofs.codes.code_of.Statement.{statement}
 use Rattle.byte_calls.proofs.codes.code_of.Tie as tie

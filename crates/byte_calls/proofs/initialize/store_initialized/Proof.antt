@@ -1,6 +1,6 @@
 use mathlib.Core.Path.{_≡_, refl, sym, ap, _∙_}
 use mathlib.Core.Bool.{true, false, true≢false}
-use Rattle.lent.specs.Lent.{isConsistent}
+use Rattle.graph_division.specs.Answers.{isConsistent}
 use Rattle.byte_calls.specs.Layout.{stateIn}
 use Rattle.byte_calls.proofs.Initializing.{mark-stored}
 use Rattle.byte_calls.proofs.Keeping.{kept-same, mark-kept}

@@ -3,7 +3,7 @@ use Rattle.base.specs.Iter.{pick}
 use Rattle.graph_division.specs.declared.Answer.the-variants as answer
 use Rattle.graph_division.specs.Calls.{withNoted, refuse}
 use Rattle.lent.proofs.Begun.{end-fine, end-clash, end-stopped}
-use Rattle.lent.specs.Lent.{stateOf, stateAfter, isConsistent, begunAfter, begunOf}
+use Rattle.lent.specs.Lent.{stateOf, stateAfter, begunAfter, begunOf}
 use Rattle.lent.proofs.Beginning.{taken-done, taken-over}
 use borrow.Author.Needs.{needs}
 use Rattle.lent.proofs.initialize.finish.Statement.{statement}
@@ -40,7 +40,7 @@ same-length-2 : tie.Need-same-length-2
 same-length-2 c = search needs
 
 returns : tie.Need-returns
-unfolding begunOf begunAfter isConsistent stateAfter pick
+unfolding begunOf begunAfter stateAfter pick
 returns c =
     let a = (c .before .before .before .before .before .before .before .before .before .before .before .before .before .before .before .before .args) in
     λ ends rs last len b words left.
@@ -55,7 +55,7 @@ same-length-4 : tie.Need-same-length-4
 same-length-4 c = search needs
 
 returns-2 : tie.Need-returns-2
-unfolding begunOf begunAfter isConsistent stateAfter pick
+unfolding begunOf begunAfter stateAfter pick
 returns-2 c =
     let a = (c .before .before .before .before .before .before .before .before .before .before .before .before .before .before .before .before .args) in
     λ ends rs last len b words left.
@@ -67,7 +67,7 @@ same-length-5 : tie.Need-same-length-5
 same-length-5 c = search needs
 
 returns-3 : tie.Need-returns-3
-unfolding begunOf begunAfter isConsistent stateAfter pick withNoted refuse
+unfolding begunOf begunAfter stateAfter pick withNoted refuse
 returns-3 c =
     let a = (c .before .before .before .before .before .before .before .before .before .before .before .before .args) in
     λ ends rs last len b words left.

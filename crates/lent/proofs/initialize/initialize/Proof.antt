@@ -1,6 +1,6 @@
 use Rattle.base.specs.Iter.{pick}
 use Rattle.graph_division.specs.Calls.{withNoted, refuse}
-use Rattle.lent.specs.Lent.{stateOf, stateAfter, isConsistent, begunAfter, begunOf}
+use Rattle.lent.specs.Lent.{stateOf, stateAfter, begunAfter, begunOf}
 use Rattle.lent.proofs.Beginning.{is-begun, is-refused}
 use Rattle.lent.proofs.Parting.{of-all}
 use borrow.Author.Needs.{needs}
@@ -42,7 +42,7 @@ same-length-7 : tie.Need-same-length-7
 same-length-7 c = search needs
 
 returns-2 : tie.Need-returns-2
-unfolding begunOf begunAfter isConsistent stateAfter pick withNoted refuse
+unfolding begunOf begunAfter stateAfter pick withNoted refuse
 returns-2 c =
     let a = (c .before .before .before .before .before .before .before .before .before .before .before .before .args) in
     of-all _ (λ rs. is-refused (stateOf (a .plan .now) (a .edges) (a .noted .now) rs (a .left .now) (a .last-len) (a .done)) (a .cursor) (a .words .now) (a .table .now) (a .log .now) (a .list .now) _ (c .before .initialize-refusal .ensures) (c .if1 .left))
