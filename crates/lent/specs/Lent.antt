@@ -19,6 +19,7 @@ use Rattle.notifications.specs.Notifications.{progress, Way, way, goneThrough}
 use Rattle.graph_division.specs.declared.GraphDivision.{GraphDivision}
 use Rattle.graph_division.specs.declared.Answer.{Answer}
 use Rattle.graph_division.specs.declared.Answer.the-variants as answer
+use Rattle.graph_division.specs.Answers.{isConsistent}
 use Rattle.graph_division.specs.Calls.{Called, called, outcome, refuse, withNoted, withJudged, triedOut, settledBy, adding, Fetched, fetched, giving}
 use Rattle.graph_division.specs.Initialize.{endedBy}
 use Rattle.lent.specs.declared.Done.{Done}
