@@ -114,9 +114,6 @@ part-fits r n m e q = omega (arith, e, room-is n, capped-most n 4352)
 pub lits-long : (l : List ℕ) → l ≡ replicate 4352 0 → length l ≡ 4352
 lits-long l e = ap length e ∙ length-replicate {A = ℕ} 4352 0
 
-pub records-long : (k : ℕ) (f : ℕ → ℕ) (l z : List ℕ) → z ≡ replicate 4352 0 → l ≡ filled 0 k f z → length l ≡ 4352
-records-long k f l z q e = ap length e ∙ (filled-length 0 f z k ∙ lits-long z q)
-
 no-less : (r : ℕ) → r - 0 ≡ r
 no-less r = omega arith
 
@@ -124,17 +121,26 @@ pub lits-part : (r n : ℕ) (l list : List ℕ) → n ≡ length list / 2 → r 
 unfolding listIn
 lits-part r n l list m e q = λ i. take ((no-less r ∙ (e ∙ ap roomOf m)) i) (q i)
 
-pub records-part : (c : Cursor) (r : ℕ) (l z log : List ℕ) → r ≡ roomOf (length log / 8) → z ≡ replicate 4352 0 →
-    l ≡ filled 0 (capped (c .used) (roomOf (length log / 8))) (λ i. longAt log (8 * i)) z → take (r - 0) (drop 0 l) ≡ logIn c log
-unfolding logIn recordsIn
-records-part c r l z log e q h = λ i. take ((no-less r ∙ e) i) ((h ∙ ap (filled 0 (capped (c .used) (roomOf (length log / 8))) (λ i. longAt log (8 * i))) q) i)
-
 pub plan-read : (b ws z : List ℕ) → z ≡ replicate 15241 0 → ws ≡ inUseOver (λ i. wordAt b (4 * i)) z → ws ≡ planIn b
 unfolding planIn inUse
 plan-read b ws z q e = e ∙ ap (inUseOver (λ i. wordAt b (4 * i))) q
 
+pub records-read : (log : List ℕ) {c d : Cursor} {l z : List ℕ} → z ≡ replicate 4352 0 → c ≡ d →
+    l ≡ filled 0 (capped (c .used) (roomOf (length log / 8))) (λ i. longAt log (8 * i)) z → l ≡ recordsIn d log
+unfolding recordsIn
+records-read log {c} q e h =
+    h ∙ ap (filled 0 (capped (c .used) (roomOf (length log / 8))) (λ i. longAt log (8 * i))) q ∙ ap (λ (c : Cursor). recordsIn c log) e
+
+pub all-decoded : (b log cursor : List ℕ) {ws ns rs : List ℕ} {c : Cursor} →
+    ws ≡ planIn b → ns ≡ wordsIn b 61220 384 → rs ≡ recordsIn (cursorIn cursor) log → c ≡ cursorIn cursor → decoded ws ns rs c ≡ decodedIn b log cursor
+unfolding decodedIn
+all-decoded b log cursor p n r c = λ i. decoded (p i) (n i) (r i) (c i)
+
+pub zeros-length : {l : List ℕ} (n : ℕ) → l ≡ replicate n 0 → length l ≡ n
+zeros-length n e = ap length e ∙ length-replicate {A = ℕ} n 0
+
 -- what `decode` gives, part by part
-module _ (ws ns rs b log cursor : List ℕ) (c : Cursor) (e : decoded ws ns rs c ≡ decodedIn b log cursor) where
+module _ (b log cursor : List ℕ) {ws ns rs : List ℕ} {c : Cursor} (e : decoded ws ns rs c ≡ decodedIn b log cursor) where
   pub plan-decoded : ws ≡ planIn b
   unfolding decodedIn
   plan-decoded = ap (λ (d : Decoded). d .plan) e
@@ -147,17 +153,24 @@ module _ (ws ns rs b log cursor : List ℕ) (c : Cursor) (e : decoded ws ns rs c
   unfolding decodedIn
   cursor-decoded = ap (λ (d : Decoded). d .cursor) e
 
-  all-records : rs ≡ recordsIn c log
+  all-records : rs ≡ recordsIn (cursorIn cursor) log
   unfolding decodedIn
-  all-records = ap (λ (d : Decoded). d .records) e ∙ ap (λ (d : Cursor). recordsIn d log) (sym cursor-decoded)
-
-  pub records-decoded : (r : ℕ) → r ≡ roomOf (length log / 8) → take (r - 0) (drop 0 rs) ≡ logIn c log
-  unfolding logIn
-  records-decoded r q = λ i. take ((no-less r ∙ q) i) (all-records i)
+  all-records = ap (λ (d : Decoded). d .records) e
 
   pub records-length : length rs ≡ 4352
   unfolding recordsIn
   records-length = ap length all-records ∙ (filled-length 0 _ (replicate 4352 0) _ ∙ length-replicate {A = ℕ} 4352 0)
+
+  pub records-in : {r : ℕ} → r ≡ roomOf (length log / 8) → take (r - 0) (drop 0 rs) ≡ logIn (cursorIn cursor) log
+  unfolding logIn
+  records-in {r} q = λ i. take ((no-less r ∙ q) i) (all-records i)
+
+  pub records-decoded : {r : ℕ} → r ≡ roomOf (length log / 8) → take (r - 0) (drop 0 rs) ≡ logIn c log
+  records-decoded q = records-in q ∙ ap (λ (d : Cursor). logIn d log) (sym cursor-decoded)
+
+pub propagated-read : (state t list log cursor : List ℕ) {lit m pending n : ℤ} → lit ≡ m → pending ≡ n →
+    propagatedIn state t list log cursor lit pending ≡ propagatedIn state t list log cursor m n
+propagated-read state t list log cursor p q = λ i. propagatedIn state t list log cursor (p i) (q i)
 
 pub after-is : (y z : Called) (b b′ : List ℕ) → y ≡ z → AfterOf false (y .outcome) b b′ → AfterOf false (z .outcome) b b′
 after-is y z b b′ e h = subst (λ (y : Called). StateAfter (isRefused (y .outcome .answer)) (y .outcome .state) b b′) e h

@@ -12,7 +12,7 @@ use Rattle.undo_log.specs.declared.Cursor.{Cursor}
 use Rattle.graph_division.specs.declared.GraphDivision.{GraphDivision}
 use Rattle.graph_division.specs.declared.Outcome.{Outcome}
 use Rattle.graph_division.specs.declared.Answer.{Answer}
-use Rattle.graph_division.specs.Calls.{outcome, withNoted, Fetched}
+use Rattle.graph_division.specs.Calls.{outcome, withNoted, undone, Fetched, reasonFetched, lastFetched}
 use Rattle.graph_division.specs.Answers.{isRefused}
 use Rattle.byte_calls.specs.Codes.{codeOf}
 use Rattle.byte_calls.specs.Layout.{stateIn}
@@ -60,3 +60,16 @@ given-back y buffer buffer′ z e =
 
 pub undo-after : (y z : Outcome) (b b′ : List ℕ) → y ≡ z → AfterOf false y b b′ → AfterOf false z b b′
 undo-after y z b b′ e h = subst (λ (y : Outcome). StateAfter (isRefused (y .answer)) (y .state) b b′) e h
+
+-- the calls on what was decoded are those on what the bytes stand for
+pub undone-read : (s : GraphDivision) {c d : Cursor} {lit m : ℤ} {records log : List ℕ} → c ≡ d → lit ≡ m → records ≡ log →
+    undone s c lit records ≡ undone s d m log
+undone-read s p q r = λ i. undone s (p i) (q i) (r i)
+
+pub reason-read : (s : GraphDivision) {c d : Cursor} {records log out b : List ℕ} {lit m : ℤ} → c ≡ d → records ≡ log → lit ≡ m → out ≡ b →
+    reasonFetched s c records lit out ≡ reasonFetched s d log m b
+reason-read s p r q o = λ i. reasonFetched s (p i) (r i) (q i) (o i)
+
+pub last-read : (s : GraphDivision) {c d : Cursor} {records log out b : List ℕ} → c ≡ d → records ≡ log → out ≡ b →
+    lastFetched s c records out ≡ lastFetched s d log b
+last-read s p r o = λ i. lastFetched s (p i) (r i) (o i)

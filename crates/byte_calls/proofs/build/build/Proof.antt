@@ -14,7 +14,7 @@ use Rattle.builder.proofs.build.plan_words.Reads as plan-words-reads
 use Rattle.byte_calls.proofs.build.clear.Reads as clear-reads
 use Rattle.byte_calls.proofs.build.store_edges.Reads as store-edges-reads
 use Rattle.byte_calls.proofs.build.store_words.Reads as store-words-reads
-use Rattle.byte_calls.proofs.decode.no_notes.Reads as no-notes-reads
+use Rattle.noting.proofs.no_notes.Reads as no-notes-reads
 use Rattle.noting.proofs.fresh.Reads as fresh-reads
 
 plan-words-requires : tie.Need-plan-words-requires

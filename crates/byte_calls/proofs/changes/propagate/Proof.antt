@@ -1,14 +1,9 @@
-use Rattle.byte_calls.proofs.Leaving.{after-is, left-back, part-fits, lits-long, records-long, lits-part, records-part, plan-read}
-use mathlib.Core.Path.{_≡_, refl, sym, ap, ap₂, subst, _∙_}
-use Prim.Native.Nat.{ℕ}
-use mathlib.Core.List.{List}
+use mathlib.Core.Path.{refl, ap, _∙_}
 use mir.Facts.{toZ-ofZ}
 use Rattle.graph_division.specs.Calls.{Called}
 use Rattle.byte_calls.specs.Layout.{cursorIn}
-use Rattle.byte_calls.specs.Host.{left, leftOf, propagatedIn, AfterOf}
-use Rattle.byte_calls.proofs.Filling.{read-words-in}
-use Rattle.byte_calls.proofs.Leaving.{left-back, part-fits, lits-long, records-long, lits-part, records-part, plan-read}
-use mathlib.Core.Bool.{false}
+use Rattle.byte_calls.specs.Host.{leftOf, propagatedIn}
+use Rattle.byte_calls.proofs.Leaving.{after-is, left-back, part-fits, lits-long, lits-part, plan-decoded, noted-decoded, cursor-decoded, records-length, records-decoded, propagated-read}
 use borrow.Author.Needs.{needs}
 use Rattle.byte_calls.proofs.changes.propagate.Statement.{statement}
 use Rattle.byte_calls.proofs.changes.propagate.Tie as tie
@@ -16,35 +11,26 @@ use Rattle.byte_calls.proofs.changes.propagate.Tie as tie
 no-plan-requires : tie.Need-no-plan-requires
 no-plan-requires c κs = search needs
 
-slice-aggregate-read-plan : tie.Need-slice-aggregate-read-plan
-slice-aggregate-read-plan c = search needs
-
-read-plan-requires : tie.Need-read-plan-requires
-read-plan-requires c κs = search needs
-
-read-edges-requires : tie.Need-read-edges-requires
-read-edges-requires c κs = search needs
-
 no-notes-requires : tie.Need-no-notes-requires
 no-notes-requires c κs = search needs
-
-slice-aggregate-read-words : tie.Need-slice-aggregate-read-words
-slice-aggregate-read-words c = search needs
-
-read-words-requires : tie.Need-read-words-requires
-read-words-requires c κs = search needs
-
-read-cursor-requires : tie.Need-read-cursor-requires
-read-cursor-requires c κs = search needs
 
 no-records-requires : tie.Need-no-records-requires
 no-records-requires c κs = search needs
 
-slice-aggregate-read-log : tie.Need-slice-aggregate-read-log
-slice-aggregate-read-log c = search needs
+slice-aggregate-decode : tie.Need-slice-aggregate-decode
+slice-aggregate-decode c = search needs
 
-read-log-requires : tie.Need-read-log-requires
-read-log-requires c κs = search needs
+slice-aggregate-decode-2 : tie.Need-slice-aggregate-decode-2
+slice-aggregate-decode-2 c = search needs
+
+slice-aggregate-decode-3 : tie.Need-slice-aggregate-decode-3
+slice-aggregate-decode-3 c = search needs
+
+decode-requires : tie.Need-decode-requires
+decode-requires c κs = search needs
+
+read-edges-requires : tie.Need-read-edges-requires
+read-edges-requires c κs = search needs
 
 room-of-requires : tie.Need-room-of-requires
 room-of-requires c κs = search needs
@@ -71,10 +57,14 @@ part-records-start : tie.Need-part-records-start
 part-records-start c = search needs
 
 part-records-end : tie.Need-part-records-end
-part-records-end c = part-fits _ _ _ (c .before .before .before .before .before .before .room-of .ensures) (records-long _ _ _ _ (c .before .before .before .before .before .before .before .before .before .before .before .no-records .ensures) (c .before .before .before .before .before .before .before .before .read-log .ensures))
+part-records-end c = part-fits _ _ _ (c .before .before .before .before .before .before .room-of .ensures) (records-length _ _ _ (c .before .before .before .before .before .before .before .before .before .before .before .before .decode .ensures))
 
 notify-requires : tie.Need-notify-requires
-notify-requires c κs = ((c .before .before .before .before .before .before .before .before .before .before .before .before .before .before .before .before .before .before .before .before .before .before .before .before .before .before .before .before .before .before .before .before .before .before .before .before .pre .0), plan-read (c .before .before .before .before .before .before .before .before .before .before .before .before .before .before .before .before .before .before .before .before .before .before .before .before .before .before .before .before .before .before .before .before .before .before .before .before .args .state .now) _ _ (c .before .before .before .before .before .before .before .before .before .before .before .before .before .before .before .before .before .before .before .before .before .before .before .before .before .before .before .before .before .before .no-plan .ensures) (c .before .before .before .before .before .before .before .before .before .before .before .before .before .before .before .before .before .before .before .before .before .before .before .before .before .before .before .read-plan .ensures), (c .before .before .before .before .before .before .before .before .before .before .before .before .before .before .before .before .before .before .before .before .before .before .before .before .read-edges .ensures), read-words-in (c .before .before .before .before .before .before .before .before .before .before .before .before .before .before .before .before .before .before .before .before .before .before .before .before .before .before .before .before .before .before .before .before .before .before .before .before .args .state .now) 61220 384 _ _ (c .before .before .before .before .before .before .before .before .before .before .before .before .before .before .before .before .before .before .before .before .before .before .before .no-notes .ensures) (c .before .before .before .before .before .before .before .before .before .before .before .before .before .before .before .before .before .before .before .before .read-words .ensures), lits-part _ _ _ (c .before .before .before .before .before .before .before .before .before .before .before .before .before .before .before .before .before .before .before .before .before .before .before .before .before .before .before .before .before .before .before .before .before .before .before .before .args .list .now) refl (c .before .before .before .before .before .before .before .before .before .room-of2 .ensures) (c .before .before .before .before .before .before .before .before .before .before .no-lits .ensures), (c .before .before .before .before .before .before .before .before .before .before .before .before .before .before .before .before .before .read-cursor .ensures), records-part (c .before .before .before .before .before .before .before .before .before .before .before .before .before .before .before .before .before .read-cursor .result) _ _ _ (c .before .before .before .before .before .before .before .before .before .before .before .before .before .before .before .before .before .before .before .before .before .before .before .before .before .before .before .before .before .before .before .before .before .before .before .before .args .log .now) (c .before .before .before .before .before .before .before .before .before .before .before .room-of .ensures) (c .before .before .before .before .before .before .before .before .before .before .before .before .before .before .before .before .no-records .ensures) (c .before .before .before .before .before .before .before .before .before .before .before .before .before .read-log .ensures), (c .before .before .before .before .before .before .before .before .before .before .before .before .before .before .before .before .before .before .before .before .before .before .before .before .before .before .before .before .before .before .before .before .before .before .before .before .pre .1))
+notify-requires c κs =
+    let p = c .before .before .before .before .before .before .before .before .before .before .before .before .before .before .before .before .before .before .before .before .before .before .before .before .before .before .before .before .before .before .before .before .pre in
+    let d = c .before .before .before .before .before .before .before .before .before .before .before .before .before .before .before .before .before .decode .ensures in
+    let lits = lits-part _ _ _ (c .before .before .before .before .before .before .before .before .before .before .before .before .before .before .before .before .before .before .before .before .before .before .before .before .before .before .before .before .before .before .before .before .args .list .now) refl (c .before .before .before .before .before .before .before .before .before .room-of2 .ensures) (c .before .before .before .before .before .before .before .before .before .before .no-lits .ensures) in
+    (p .0, plan-decoded _ _ _ d, c .before .before .before .before .before .before .before .before .before .before .before .before .read-edges .ensures, noted-decoded _ _ _ d, lits, cursor-decoded _ _ _ d, records-decoded _ _ _ d (c .before .before .before .before .before .before .before .before .before .before .before .room-of .ensures), p .1)
 
 same-length : tie.Need-same-length
 same-length c = search needs
@@ -92,26 +82,31 @@ same-length-5 : tie.Need-same-length-5
 same-length-5 c = search needs
 
 returns : tie.Need-returns
-returns c = (
-  left-back (cursorIn (c .before .before .before .before .before .before .before .before .before .before .before .before .before .before .before .before .before .before .before .before .before .before .before .before .before .before .before .before .before .before .before .before .before .before .before .before .before .before .before .before .before .before .before .before .before .before .before .before .before .args .cursor .now)) _ (c .before .before .before .before .before .before .before .before .before .before .before .before .before .before .before .before .before .before .before .before .before .before .before .before .before .before .before .before .before .before .before .before .before .before .before .before .before .before .before .before .before .before .before .before .before .before .before .before .before .args .list .now) (c .before .before .before .before .before .before .before .before .before .before .before .before .before .before .before .before .before .before .before .before .before .before .before .before .before .before .before .before .before .before .before .before .before .before .before .before .before .before .before .before .before .before .before .before .before .before .before .before .before .args .log .now) (c .before .before .before .before .before .before .before .before .before .before .before .before .before .before .before .before .before .before .before .before .before .before .before .before .before .before .before .before .before .before .before .before .before .before .before .before .before .before .before .before .before .before .before .before .before .before .before .before .before .args .cursor .now) _ _ _ _ _ ((c .before .before .before .before .before .before .before .before .before .before .before .before .notify .ensures .0) ∙ ap (λ (y : Called). leftOf (cursorIn (c .before .before .before .before .before .before .before .before .before .before .before .before .before .before .before .before .before .before .before .before .before .before .before .before .before .before .before .before .before .before .before .before .before .before .before .before .before .before .before .before .before .before .before .before .before .before .before .before .before .args .cursor .now)) y (c .before .before .before .before .before .before .before .before .before .before .before .before .before .before .before .before .before .before .before .before .before .before .before .before .before .before .before .before .before .before .before .before .before .before .before .before .before .before .before .before .before .before .before .before .before .before .before .before .before .args .list .now) (c .before .before .before .before .before .before .before .before .before .before .before .before .before .before .before .before .before .before .before .before .before .before .before .before .before .before .before .before .before .before .before .before .before .before .before .before .before .before .before .before .before .before .before .before .before .before .before .before .before .args .log .now) (c .before .before .before .before .before .before .before .before .before .before .before .before .before .before .before .before .before .before .before .before .before .before .before .before .before .before .before .before .before .before .before .before .before .before .before .before .before .before .before .before .before .before .before .before .before .before .before .before .before .args .cursor .now)) (λ i. propagatedIn (c .before .before .before .before .before .before .before .before .before .before .before .before .before .before .before .before .before .before .before .before .before .before .before .before .before .before .before .before .before .before .before .before .before .before .before .before .before .before .before .before .before .before .before .before .before .before .before .before .before .args .state .now) (c .before .before .before .before .before .before .before .before .before .before .before .before .before .before .before .before .before .before .before .before .before .before .before .before .before .before .before .before .before .before .before .before .before .before .before .before .before .before .before .before .before .before .before .before .before .before .before .before .before .args .table .now) (c .before .before .before .before .before .before .before .before .before .before .before .before .before .before .before .before .before .before .before .before .before .before .before .before .before .before .before .before .before .before .before .before .before .before .before .before .before .before .before .before .before .before .before .before .before .before .before .before .before .args .list .now) (c .before .before .before .before .before .before .before .before .before .before .before .before .before .before .before .before .before .before .before .before .before .before .before .before .before .before .before .before .before .before .before .before .before .before .before .before .before .before .before .before .before .before .before .before .before .before .before .before .before .args .log .now) (c .before .before .before .before .before .before .before .before .before .before .before .before .before .before .before .before .before .before .before .before .before .before .before .before .before .before .before .before .before .before .before .before .before .before .before .before .before .before .before .before .before .before .before .before .before .before .before .before .before .args .cursor .now) (toZ-ofZ (c .before .before .before .before .before .before .before .before .before .before .before .before .before .before .before .before .before .before .before .before .before .before .before .before .before .before .before .before .before .before .before .before .before .before .before .before .before .before .before .before .before .before .before .before .before .before .before .before .before .fits .lit) i) (toZ-ofZ (c .before .before .before .before .before .before .before .before .before .before .before .before .before .before .before .before .before .before .before .before .before .before .before .before .before .before .before .before .before .before .before .before .before .before .before .before .before .before .before .before .before .before .before .before .before .before .before .before .before .fits .num-pending-propagations) i))),
-  after-is _ _ _ _ (λ i. propagatedIn (c .before .before .before .before .before .before .before .before .before .before .before .before .before .before .before .before .before .before .before .before .before .before .before .before .before .before .before .before .before .before .before .before .before .before .before .before .before .before .before .before .before .before .before .before .before .before .before .before .before .args .state .now) (c .before .before .before .before .before .before .before .before .before .before .before .before .before .before .before .before .before .before .before .before .before .before .before .before .before .before .before .before .before .before .before .before .before .before .before .before .before .before .before .before .before .before .before .before .before .before .before .before .before .args .table .now) (c .before .before .before .before .before .before .before .before .before .before .before .before .before .before .before .before .before .before .before .before .before .before .before .before .before .before .before .before .before .before .before .before .before .before .before .before .before .before .before .before .before .before .before .before .before .before .before .before .before .args .list .now) (c .before .before .before .before .before .before .before .before .before .before .before .before .before .before .before .before .before .before .before .before .before .before .before .before .before .before .before .before .before .before .before .before .before .before .before .before .before .before .before .before .before .before .before .before .before .before .before .before .before .args .log .now) (c .before .before .before .before .before .before .before .before .before .before .before .before .before .before .before .before .before .before .before .before .before .before .before .before .before .before .before .before .before .before .before .before .before .before .before .before .before .before .before .before .before .before .before .before .before .before .before .before .before .args .cursor .now) (toZ-ofZ (c .before .before .before .before .before .before .before .before .before .before .before .before .before .before .before .before .before .before .before .before .before .before .before .before .before .before .before .before .before .before .before .before .before .before .before .before .before .before .before .before .before .before .before .before .before .before .before .before .before .fits .lit) i) (toZ-ofZ (c .before .before .before .before .before .before .before .before .before .before .before .before .before .before .before .before .before .before .before .before .before .before .before .before .before .before .before .before .before .before .before .before .before .before .before .before .before .before .before .before .before .before .before .before .before .before .before .before .before .fits .num-pending-propagations) i)) (c .before .before .before .before .before .before .before .before .before .before .before .before .notify .ensures .1),
-)
+returns c =
+    let a = c .before .before .before .before .before .before .before .before .before .before .before .before .before .before .before .before .before .before .before .before .before .before .before .before .before .before .before .before .before .before .before .before .before .before .before .before .before .before .before .before .before .before .before .before .before .args in
+    let f = c .before .before .before .before .before .before .before .before .before .before .before .before .before .before .before .before .before .before .before .before .before .before .before .before .before .before .before .before .before .before .before .before .before .before .before .before .before .before .before .before .before .before .before .before .before .fits in
+    let n = c .before .before .before .before .before .before .before .before .before .before .before .before .notify .ensures in
+    let y = propagated-read (a .state .now) (a .table .now) (a .list .now) (a .log .now) (a .cursor .now)
+    (toZ-ofZ (f .lit)) (toZ-ofZ (f .num-pending-propagations)) in
+    let list = a .list .now in
+    let log = a .log .now in
+    let cursor = a .cursor .now in (
+      left-back (cursorIn cursor) _ list log cursor _ _ _ _ _ (n .0 ∙ ap (λ (y : Called). leftOf (cursorIn cursor) y list log cursor) y),
+      after-is _ _ _ _ y (n .1),
+    )
 
 pub propagate-spec : {M : Type 1} → statement M
 propagate-spec =
     tie.close
     (tie.spec
     no-plan-requires
-    slice-aggregate-read-plan
-    read-plan-requires
-    read-edges-requires
     no-notes-requires
-    slice-aggregate-read-words
-    read-words-requires
-    read-cursor-requires
     no-records-requires
-    slice-aggregate-read-log
-    read-log-requires
+    slice-aggregate-decode
+    slice-aggregate-decode-2
+    slice-aggregate-decode-3
+    decode-requires
+    read-edges-requires
     room-of-requires
     no-lits-requires
     room-of-requires-2

@@ -1,18 +1,9 @@
-use Rattle.byte_calls.proofs.Undoing.{undo-after}
-use mathlib.Core.Path.{_≡_, refl, sym, ap, ap₂, subst, _∙_}
-use Prim.Native.Nat.{ℕ, _≤_, _<_, _+_, _-_, _*_, _/_, _%_}
-use native.Mathlib.Omega.{arith}
-use lib.ListN.{length, length-set, getD, set, replicate}
-use mathlib.Core.List.{List, _∷_, []}
-use Rattle.byte_calls.specs.Layout.{endsAt, endsIn, stateIn, planIn, wordsIn, reasonsIn, reasonIn, reasonWordIn, cursorIn, logIn, bufferIn}
-use Rattle.byte_calls.proofs.Undoing.{undo-left, undo-kept, state-same, state-stored, undo-back, given-back}
-use Rattle.byte_calls.specs.Host.{tooShort, back, givenIn, backOf, backBy, undoneIn, hostUndone, hostReason, hostLast, hostPropagated, propagatedIn, AfterOf, left, leftOf, short, buildCode}
-use Rattle.byte_calls.proofs.Leaving.{part-fits, lits-long, records-long, records-part, plan-read, buffer-part, buffer-fits, buffer-long, buffer-less, after-is, left-back}
-use Rattle.byte_calls.proofs.Filling.{ends-more, filled-more, read-words-in, cap-most, cap-less}
-use Rattle.graph_division.specs.Calls.{undone, withNoted}
+use mathlib.Core.Path.{ap, _∙_}
 use mir.Facts.{toZ-ofZ}
-use Rattle.undo_log.specs.declared.Cursor.{Cursor}
 use Rattle.graph_division.specs.declared.Outcome.{Outcome}
+use Rattle.byte_calls.specs.Host.{backBy, undoneIn}
+use Rattle.byte_calls.proofs.Undoing.{undo-back, undo-after, undone-read}
+use Rattle.byte_calls.proofs.Leaving.{part-fits, plan-decoded, noted-decoded, cursor-decoded, records-length, records-in}
 use borrow.Author.Needs.{needs}
 use Rattle.byte_calls.proofs.changes.undo.Statement.{statement}
 use Rattle.byte_calls.proofs.changes.undo.Tie as tie
@@ -20,35 +11,26 @@ use Rattle.byte_calls.proofs.changes.undo.Tie as tie
 no-plan-requires : tie.Need-no-plan-requires
 no-plan-requires c κs = search needs
 
-slice-aggregate-read-plan : tie.Need-slice-aggregate-read-plan
-slice-aggregate-read-plan c = search needs
-
-read-plan-requires : tie.Need-read-plan-requires
-read-plan-requires c κs = search needs
-
-read-edges-requires : tie.Need-read-edges-requires
-read-edges-requires c κs = search needs
-
 no-notes-requires : tie.Need-no-notes-requires
 no-notes-requires c κs = search needs
-
-slice-aggregate-read-words : tie.Need-slice-aggregate-read-words
-slice-aggregate-read-words c = search needs
-
-read-words-requires : tie.Need-read-words-requires
-read-words-requires c κs = search needs
-
-read-cursor-requires : tie.Need-read-cursor-requires
-read-cursor-requires c κs = search needs
 
 no-records-requires : tie.Need-no-records-requires
 no-records-requires c κs = search needs
 
-slice-aggregate-read-log : tie.Need-slice-aggregate-read-log
-slice-aggregate-read-log c = search needs
+slice-aggregate-decode : tie.Need-slice-aggregate-decode
+slice-aggregate-decode c = search needs
 
-read-log-requires : tie.Need-read-log-requires
-read-log-requires c κs = search needs
+slice-aggregate-decode-2 : tie.Need-slice-aggregate-decode-2
+slice-aggregate-decode-2 c = search needs
+
+slice-aggregate-decode-3 : tie.Need-slice-aggregate-decode-3
+slice-aggregate-decode-3 c = search needs
+
+decode-requires : tie.Need-decode-requires
+decode-requires c κs = search needs
+
+read-edges-requires : tie.Need-read-edges-requires
+read-edges-requires c κs = search needs
 
 room-of-requires : tie.Need-room-of-requires
 room-of-requires c κs = search needs
@@ -60,10 +42,13 @@ part-take-back-start : tie.Need-part-take-back-start
 part-take-back-start c = search needs
 
 part-take-back-end : tie.Need-part-take-back-end
-part-take-back-end c = part-fits _ _ _ (c .before .before .before .before .room-of .ensures) (records-long _ _ _ _ (c .before .before .before .before .before .before .before .before .no-records .ensures) (c .before .before .before .before .before .before .read-log .ensures))
+part-take-back-end c = part-fits _ _ _ (c .before .before .before .before .room-of .ensures) (records-length _ _ _ (c .before .before .before .before .before .before .before .before .before .before .decode .ensures))
 
 take-back-requires : tie.Need-take-back-requires
-take-back-requires c κs = ((c .before .before .before .before .before .before .before .before .before .before .before .before .before .before .before .before .before .before .before .before .before .before .before .before .before .before .before .before .pre .0), (c .before .before .before .before .before .before .before .before .before .before .before .before .before .before .before .before .before .before .before .before .before .before .before .before .before .before .before .before .pre .1), plan-read (c .before .before .before .before .before .before .before .before .before .before .before .before .before .before .before .before .before .before .before .before .before .before .before .before .before .before .before .before .args .state .now) _ _ (c .before .before .before .before .before .before .before .before .before .before .before .before .before .before .before .before .before .before .before .before .before .before .before .before .no-plan .ensures) (c .before .before .before .before .before .before .before .before .before .before .before .before .before .before .before .before .before .before .before .before .before .read-plan .ensures), (c .before .before .before .before .before .before .before .before .before .before .before .before .before .before .before .before .before .before .read-edges .ensures), read-words-in (c .before .before .before .before .before .before .before .before .before .before .before .before .before .before .before .before .before .before .before .before .before .before .before .before .before .before .before .before .args .state .now) 61220 384 _ _ (c .before .before .before .before .before .before .before .before .before .before .before .before .before .before .before .before .before .no-notes .ensures) (c .before .before .before .before .before .before .before .before .before .before .before .before .before .before .read-words .ensures))
+take-back-requires c κs =
+    let p = c .before .before .before .before .before .before .before .before .before .before .before .before .before .before .before .before .before .before .before .before .before .before .before .before .pre in
+    let d = c .before .before .before .before .before .before .before .before .before .before .before .before .decode .ensures in
+    (p .0, p .1, plan-decoded _ _ _ d, c .before .before .before .before .before .before .before .read-edges .ensures, noted-decoded _ _ _ d)
 
 same-length : tie.Need-same-length
 same-length c = search needs
@@ -73,23 +58,25 @@ same-length-2 c = search needs
 
 returns : tie.Need-returns
 unfolding undoneIn
-returns c = (undo-back _ _ _ _ ((c .before .before .before .before .take-back .ensures .0) ∙ ap (λ (y : Outcome). backBy y (c .before .before .before .before .before .before .before .before .before .before .before .before .before .before .before .before .before .before .before .before .before .before .before .before .before .before .before .before .before .before .before .before .before .args .cursor .now)) (λ i. undone (stateIn (c .before .before .before .before .before .before .before .before .before .before .before .before .before .before .before .before .before .before .before .before .before .before .before .before .before .before .before .before .before .before .before .before .before .args .state .now)) ((c .before .before .before .before .before .before .before .before .before .before .before .before .before .before .before .before .read-cursor .ensures) i) (toZ-ofZ (c .before .before .before .before .before .before .before .before .before .before .before .before .before .before .before .before .before .before .before .before .before .before .before .before .before .before .before .before .before .before .before .before .before .fits .lit) i) ((records-part (c .before .before .before .before .before .before .before .before .before .before .before .before .before .before .before .before .read-cursor .result) _ _ _ (c .before .before .before .before .before .before .before .before .before .before .before .before .before .before .before .before .before .before .before .before .before .before .before .before .before .before .before .before .before .before .before .before .before .args .log .now) (c .before .before .before .before .before .before .before .before .before .before .before .room-of .ensures) (c .before .before .before .before .before .before .before .before .before .before .before .before .before .before .before .no-records .ensures) (c .before .before .before .before .before .before .before .before .before .before .before .before .before .read-log .ensures) ∙ ap (λ (q : Cursor). logIn q (c .before .before .before .before .before .before .before .before .before .before .before .before .before .before .before .before .before .before .before .before .before .before .before .before .before .before .before .before .before .before .before .before .before .args .log .now)) (c .before .before .before .before .before .before .before .before .before .before .before .before .before .before .before .before .read-cursor .ensures)) i))), undo-after _ _ _ _ (λ i. undone (stateIn (c .before .before .before .before .before .before .before .before .before .before .before .before .before .before .before .before .before .before .before .before .before .before .before .before .before .before .before .before .before .before .before .before .before .args .state .now)) ((c .before .before .before .before .before .before .before .before .before .before .before .before .before .before .before .before .read-cursor .ensures) i) (toZ-ofZ (c .before .before .before .before .before .before .before .before .before .before .before .before .before .before .before .before .before .before .before .before .before .before .before .before .before .before .before .before .before .before .before .before .before .fits .lit) i) ((records-part (c .before .before .before .before .before .before .before .before .before .before .before .before .before .before .before .before .read-cursor .result) _ _ _ (c .before .before .before .before .before .before .before .before .before .before .before .before .before .before .before .before .before .before .before .before .before .before .before .before .before .before .before .before .before .before .before .before .before .args .log .now) (c .before .before .before .before .before .before .before .before .before .before .before .room-of .ensures) (c .before .before .before .before .before .before .before .before .before .before .before .before .before .before .before .no-records .ensures) (c .before .before .before .before .before .before .before .before .before .before .before .before .before .read-log .ensures) ∙ ap (λ (q : Cursor). logIn q (c .before .before .before .before .before .before .before .before .before .before .before .before .before .before .before .before .before .before .before .before .before .before .before .before .before .before .before .before .before .before .before .before .before .args .log .now)) (c .before .before .before .before .before .before .before .before .before .before .before .before .before .before .before .before .read-cursor .ensures)) i)) (c .before .before .before .before .take-back .ensures .1))
+returns c =
+    let d = c .before .before .before .before .before .before .before .before .before .before .before .before .before .before .before .before .before .decode .ensures in
+    let cursor = c .before .before .before .before .before .before .before .before .before .before .before .before .before .before .before .before .before .before .before .before .before .before .before .before .before .before .before .before .before .args .cursor .now in
+    let lit = toZ-ofZ (c .before .before .before .before .before .before .before .before .before .before .before .before .before .before .before .before .before .before .before .before .before .before .before .before .before .before .before .before .before .fits .lit) in
+    let y = undone-read _ (cursor-decoded _ _ _ d) lit (records-in _ _ _ d (c .before .before .before .before .before .before .before .before .before .before .before .room-of .ensures)) in
+    (undo-back _ _ _ _ (c .before .before .before .before .take-back .ensures .0 ∙ ap (λ (y : Outcome). backBy y cursor) y), undo-after _ _ _ _ y (c .before .before .before .before .take-back .ensures .1))
 
 pub undo-spec : {M : Type 1} → statement M
 undo-spec =
     tie.close
     (tie.spec
     no-plan-requires
-    slice-aggregate-read-plan
-    read-plan-requires
-    read-edges-requires
     no-notes-requires
-    slice-aggregate-read-words
-    read-words-requires
-    read-cursor-requires
     no-records-requires
-    slice-aggregate-read-log
-    read-log-requires
+    slice-aggregate-decode
+    slice-aggregate-decode-2
+    slice-aggregate-decode-3
+    decode-requires
+    read-edges-requires
     room-of-requires
     sub-take-back
     part-take-back-start
