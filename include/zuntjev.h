@@ -101,7 +101,7 @@ extern "C" {
 #define ZUNTJEV_LOG_LEN_FOR(edges, size_lits) ((size_t)16 * ((size_t)(edges) + (size_t)(size_lits)))
 
 /* Answers below 0. The first two are no refusals: a conflict, and a literal that was only noted. The others are minus
- * document 01's number of the refusal; 17, a malformed line of text, comes only from the program yard. */
+ * the refusal's number; 17, a malformed line of text, comes only from the program yard. */
 #define ZUNTJEV_CONFLICT (-100)
 #define ZUNTJEV_NOTED (-101)
 #define ZUNTJEV_REFUSED_COUNT (-1)         /* too many vertices, edges or sizes, or a count of sizes below 0 */
