@@ -1,5 +1,5 @@
-// two_pens.cpp: two pens of 3 and 4 heads, alone or together (7), and the gate between them. Once the gate is open, both
-// groups must have 7 heads: literals 0 and 2 follow, because of literal 5. To build it, after `./build-c target/c`:
+// two_pens.cpp: two pens of 3 and 4 heads, alone or together (7), and the gate between them. Once the gate is open,
+// both groups must have 7 heads: literals 0 and 2 follow, because of literal 5. After `./build-c target/c`:
 //     c++ -std=c++11 -Itarget/c examples/two_pens.cpp target/c/libzuntjev.a -o target/c/two_pens
 #include "zuntjev.h"
 #include <iostream>

@@ -1,5 +1,5 @@
-"""two_pens.py: two pens of 3 and 4 heads, alone or together (7), and the gate between them. Once the gate is open, both
-groups must have 7 heads: literals 0 and 2 follow, because of literal 5. After `./build-c target/c`:
+"""two_pens.py: two pens of 3 and 4 heads, alone or together (7), and the gate between them. Once the gate is open,
+both groups must have 7 heads: literals 0 and 2 follow, because of literal 5. After `./build-c target/c`:
     cc -shared -Wl,--whole-archive target/c/libzuntjev.a -Wl,--no-whole-archive -o target/c/libzuntjev.so
     python3 examples/two_pens.py target/c/libzuntjev.so"""
 import ctypes, struct, sys
