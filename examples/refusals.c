@@ -76,7 +76,7 @@ static void two_gates(void)
     build(2, 2);
 }
 
-/* Pens of 0, 0 and 1 heads, the first two to stay at 0, and a gate from the third to each; neighbours differ in size. */
+/* Pens of 0, 0 and 1 heads, the first two to stay at 0, a gate from the third to each; neighbours differ in size. */
 static void two_empty_pens(void)
 {
     vertex(0, 0, SOME(0), NONE);
