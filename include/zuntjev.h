@@ -42,7 +42,7 @@
  * THREADS. No function keeps anything, or reads anything, but what it is lent: calls on different buffers may run at
  * the same time, and so may fetches of one state. A call that changes a state must have it for itself.
  *
- * STACK that a call needs, as measured on x86-64; nothing is taken from the heap: zuntjev_build about 124 KB,
+ * STACK that a call needs, as measured on x86-64; nothing is taken from the heap: zuntjev_build about 140 KB,
  * zuntjev_initialize about 312 KB, zuntjev_propagate about 204 KB, zuntjev_undo about 103 KB, a fetch about 104 KB.
  * Give a thread that makes calls 512 KB.
  *
