@@ -24,7 +24,7 @@
  *
  * ANY BYTES may be lent: every function ends, with an answer. A call that is refused leaves all bytes as they were.
  * What is tested, in this order, the first that applies being the answer:
- *   zuntjev_build        1, 2, 3, 4, 5, 6, then 7 (a state that is too short)
+ *   zuntjev_build        1, 2, 3, 4, 5, 6, then 7 (a state that is too short): where -1 and -7 both apply, it is -1
  *   zuntjev_initialize   7, 8; then for each literal in turn 10 and, as it works, 12, 13, 14
  *   zuntjev_propagate    7, 9, 10; then, where nothing is pending, 12, 13, 14 as it works
  *   zuntjev_undo         7, 9, 11
