@@ -1,17 +1,18 @@
 /*
- * host_loop.c: a search over the C host, as a controller would run it. It lays the twelve pens of examples/dozen_pens.txt into groups of
- * permitted sizes, prints them, and checks them by itself. docs/HOST.md explains it. To build it, after `rt staticlib host`:
+ * host_loop.c: a search over the C host, as a controller would run it. It lays the twelve pens of
+ * examples/dozen_pens.txt into groups of permitted sizes, prints them, and checks them by itself. docs/HOST.md
+ * explains it. To build it, after `./build-c target/c`:
  *
- *     cc -Iinclude examples/host_loop.c target/staticlib/libhost.a -o host_loop
+ *     cc -Itarget/c examples/host_loop.c target/c/libzuntjev.a -o target/c/host_loop
  */
 #include "zuntjev.h"
 #include <stdio.h>
 #include <stdlib.h>
-#include <string.h>
 
-enum { PENS = 12, GATES = 17, VARIABLES = 21 };
+enum { PENS = 12, GATES = 17, SIZE_LITS = 4, VARIABLES = 21 };
 
-/* A pen's heads, and the two sizes that its group may have with the literal that says "the second"; 0 and 0: any size, no literal. */
+/* A pen's heads, and the two sizes that its group may have with the literal that says "the second"; 0 and 0: any
+ * size, no literal. */
 static const struct { int32_t heads, sizes[2], lit; } pens[PENS] = {
     {6, {10, 18}, 34}, {4, {0, 0}, 0}, {5, {0, 0}, 0}, {3, {8, 16}, 36}, {7, {0, 0}, 0}, {2, {15, 22}, 38},
     {6, {0, 0}, 0}, {4, {0, 0}, 0}, {5, {0, 0}, 0}, {5, {0, 0}, 0}, {3, {0, 0}, 0}, {6, {9, 13}, 40}};
@@ -20,11 +21,13 @@ static const struct { int32_t heads, sizes[2], lit; } pens[PENS] = {
 static const int32_t gates[GATES][2] = {{0, 1}, {1, 2}, {2, 3}, {4, 5}, {5, 6}, {6, 7}, {8, 9}, {9, 10}, {10, 11},
                                         {0, 4}, {1, 5}, {2, 6}, {3, 7}, {4, 8}, {5, 9}, {6, 10}, {7, 11}};
 
-/* What the host is lent. */
-static uint8_t state[ZUNTJEV_STATE_LEN], table[VARIABLES], list[ZUNTJEV_LIST_LEN], undo_log[ZUNTJEV_LOG_LEN];
-static uint8_t cursor[ZUNTJEV_CURSOR_LEN], buffer[ZUNTJEV_REASON_LEN];
+/* What the host lends: buffers that just suffice for this plan. */
+static uint8_t state[ZUNTJEV_STATE_LEN], cursor[ZUNTJEV_CURSOR_LEN];
+static uint8_t table[ZUNTJEV_TABLE_LEN_FOR(VARIABLES - 1)], list[ZUNTJEV_LIST_LEN_FOR(VARIABLES)];
+static uint8_t undo_log[ZUNTJEV_LOG_LEN_FOR(GATES, SIZE_LITS)], buffer[ZUNTJEV_REASON_LEN_FOR(PENS, GATES)];
 
-/* The search: each variable's value (-1 unset) and level, the literals notified, and for each level where it began and its decision. */
+/* The search: each variable's value (-1 unset) and level, the literals notified, and for each level where it began
+ * and its decision. */
 static int value[VARIABLES], level_of[VARIABLES], level;
 static int32_t notified[VARIABLES], waiting[VARIABLES];
 static int count, queued, begins[VARIABLES + 1];
@@ -36,29 +39,17 @@ static void stop(const char *call, int32_t answer)
     exit(1);
 }
 
-/* A signed number in 4 bytes, the lowest first. */
-static void put_number(uint8_t *at, int32_t x)
-{
-    for (int i = 0; i < 4; i++)
-        at[i] = (uint8_t)((uint32_t)x >> 8 * i);
-}
-
 static void build(void)
 {
-    static uint8_t vertices[268 * PENS], edges[12 * GATES];
+    static uint8_t vertices[ZUNTJEV_VERTEX_LEN * PENS], edges[ZUNTJEV_EDGE_LEN * GATES];
     for (int v = 0; v < PENS; v++) {
-        int32_t k = pens[v].sizes[1] ? 2 : 0;
-        const int32_t numbers[] = {pens[v].heads, k, k ? 1 : 0, pens[v].sizes[0], pens[v].sizes[1]};
-        for (int i = 0; i < 5; i++)
-            put_number(vertices + 268 * v + 4 * i, numbers[i]);
-        put_number(vertices + 268 * v + 4 * 35, pens[v].lit);
+        size_t k = pens[v].sizes[1] ? 2 : 0;
+        zuntjev_put_vertex(vertices, (size_t)v, pens[v].heads, pens[v].sizes, k, &pens[v].lit, k / 2);
     }
-    for (int g = 0; g < GATES; g++) {
-        put_number(edges + 12 * g, gates[g][0]);
-        put_number(edges + 12 * g + 4, gates[g][1]);
-        put_number(edges + 12 * g + 8, 2 * g);
-    }
-    int32_t answer = zuntjev_build(vertices, sizeof vertices, PENS, edges, sizeof edges, GATES, 0, 0, state, sizeof state);
+    for (int g = 0; g < GATES; g++)
+        zuntjev_put_edge(edges, (size_t)g, gates[g][0], gates[g][1], 2 * g);
+    int32_t answer = zuntjev_build(vertices, sizeof vertices, PENS, edges, sizeof edges, GATES, 0, 0, state,
+                                   sizeof state);
     if (answer < 0)
         stop("building", answer);
 }
@@ -81,7 +72,7 @@ static void set(int32_t lit)
 static void take_handed_on(int32_t n)
 {
     for (int32_t i = 0; i < n; i++)
-        set(list[2 * i] + 256 * list[2 * i + 1]);
+        set(zuntjev_lit_at(list, (size_t)i));
 }
 
 /* Notifies what waits; only the last is analyzed, the others are noted. Answers 0 for a conflict. */
@@ -90,9 +81,9 @@ static int notify_all(void)
     while (queued > 0) {
         int32_t lit = waiting[--queued];
         fill_table();
-        int32_t answer = zuntjev_propagate(state, sizeof state, table, sizeof table, list, sizeof list, undo_log, sizeof undo_log,
-                                           cursor, sizeof cursor, lit, queued);
-        if (answer < 0 && answer > ZUNTJEV_CONFLICT)
+        int32_t answer = zuntjev_propagate(state, sizeof state, table, sizeof table, list, sizeof list, undo_log,
+                                           sizeof undo_log, cursor, sizeof cursor, lit, queued);
+        if (zuntjev_is_refused(answer))
             stop("notifying", answer);
         notified[count++] = lit;
         if (answer == ZUNTJEV_CONFLICT)
@@ -108,7 +99,8 @@ static void undo_level(void)
 {
     queued = 0;
     while (count > begins[level]) {
-        int32_t answer = zuntjev_undo(state, sizeof state, undo_log, sizeof undo_log, cursor, sizeof cursor, notified[--count]);
+        int32_t answer = zuntjev_undo(state, sizeof state, undo_log, sizeof undo_log, cursor, sizeof cursor,
+                                      notified[--count]);
         if (answer < 0)
             stop("undoing", answer);
     }
@@ -154,8 +146,8 @@ static int search(void)
     for (int v = 0; v < VARIABLES; v++)
         value[v] = level_of[v] = -1;
     fill_table();
-    int32_t answer = zuntjev_initialize(state, sizeof state, table, sizeof table, list, sizeof list, undo_log, sizeof undo_log, cursor,
-                                        sizeof cursor);
+    int32_t answer = zuntjev_initialize(state, sizeof state, table, sizeof table, list, sizeof list, undo_log,
+                                        sizeof undo_log, cursor, sizeof cursor);
     if (answer == ZUNTJEV_CONFLICT)
         return 0;
     if (answer < 0)
@@ -163,7 +155,8 @@ static int search(void)
     take_handed_on(answer);
     for (;;) {
         if (!notify_all()) {
-            int32_t n = zuntjev_calc_last(state, sizeof state, undo_log, sizeof undo_log, cursor, sizeof cursor, buffer, sizeof buffer);
+            int32_t n = zuntjev_calc_last(state, sizeof state, undo_log, sizeof undo_log, cursor, sizeof cursor,
+                                          buffer, sizeof buffer);
             if (n < 0)
                 stop("fetching", n);
             if (!turn_back())
@@ -177,7 +170,8 @@ static int search(void)
     }
 }
 
-/* Document 01's valid division, tested with no help of the host: groups by open gates, shut gates between groups, sizes permitted. */
+/* A valid division, tested with no help of the host: groups by open gates, shut gates only between groups, sizes
+ * permitted, each size literal true exactly when its meaning is. */
 static int print_and_check(void)
 {
     int group[PENS], heads[PENS] = {0}, good = 1;
