@@ -12,11 +12,11 @@ use crate::step4::disconnect_parted;
 use crate::step4::spread_bounds;
 use crate::step5::disconnect_same_size;
 use edge_table::Edges;
-use noting::NotedWords;
-use plan::PlanWords;
+use noting::Noted;
+use plan::Plan;
 use reasons::Verdict;
 use reasons::goes_on;
-use views::ViewWords;
+use views::View;
 ghost use mathlib.Core.Path.{_≡_};
 ghost use mathlib.Core.List.{[]};
 ghost use Prim.Native.Nat.{_≤_};
@@ -27,13 +27,7 @@ ghost use Rattle.analysis.specs.Placed.{words, on};
 ghost use Rattle.analysis.specs.First.{step4First, analyzedFirst};
 ghost use Rattle.analysis.specs.Analyze.{Fit, analyzeWords};
 
-fn step1(
-    plan: &PlanWords,
-    edges: Edges,
-    noted: &NotedWords,
-    view: &ViewWords,
-    proposals: &mut [u64],
-) -> Verdict
+fn step1(plan: &Plan, edges: Edges, noted: &Noted, view: &View, proposals: &mut [u64]) -> Verdict
     requires { ⌜ Fit (now plan) edges (now noted) ⌝ }
     ensures { λ r. ⌜ ran r (now (proposals .exit)) ≡ ranOf (on step1 (words (now (plan .entry)) edges (now (noted .entry)) (now (view .entry)))) (now (proposals .entry)) ⌝ }
 {
@@ -48,13 +42,7 @@ fn step1(
     found
 }
 
-fn step2(
-    plan: &PlanWords,
-    edges: Edges,
-    noted: &NotedWords,
-    view: &ViewWords,
-    proposals: &mut [u64],
-) -> Verdict
+fn step2(plan: &Plan, edges: Edges, noted: &Noted, view: &View, proposals: &mut [u64]) -> Verdict
     requires { ⌜ Fit (now plan) edges (now noted) ⌝ }
     ensures { λ r. ⌜ ran r (now (proposals .exit)) ≡ ranOf (on step2 (words (now (plan .entry)) edges (now (noted .entry)) (now (view .entry))) begun) (now (proposals .entry)) ⌝ }
 {
@@ -72,7 +60,7 @@ fn step2(
     crossed
 }
 
-fn step3(plan: &PlanWords, noted: &NotedWords, view: &ViewWords, proposals: &mut [u64]) -> Verdict
+fn step3(plan: &Plan, noted: &Noted, view: &View, proposals: &mut [u64]) -> Verdict
     requires { ⌜ verticesOf (now plan) ≤ 64 ⌝ }
     ensures { λ r. ⌜ ran r (now (proposals .exit)) ≡ ranOf (on step3 (words (now (plan .entry)) [] (now (noted .entry)) (now (view .entry))) begun) (now (proposals .entry)) ⌝ }
 {
@@ -83,13 +71,7 @@ fn step3(plan: &PlanWords, noted: &NotedWords, view: &ViewWords, proposals: &mut
     under
 }
 
-fn step4(
-    plan: &PlanWords,
-    edges: Edges,
-    noted: &NotedWords,
-    view: &ViewWords,
-    proposals: &mut [u64],
-) -> Verdict
+fn step4(plan: &Plan, edges: Edges, noted: &Noted, view: &View, proposals: &mut [u64]) -> Verdict
     requires { ⌜ Fit (now plan) edges (now noted) ⌝ }
     ensures { λ r. ⌜ ran r (now (proposals .exit)) ≡ ranOf (on step4First (words (now (plan .entry)) edges (now (noted .entry)) (now (view .entry))) begun) (now (proposals .entry)) ⌝ }
 {
@@ -102,13 +84,7 @@ fn step4(
     apart
 }
 
-fn step5(
-    plan: &PlanWords,
-    edges: Edges,
-    noted: &NotedWords,
-    view: &ViewWords,
-    proposals: &mut [u64],
-) -> Verdict
+fn step5(plan: &Plan, edges: Edges, noted: &Noted, view: &View, proposals: &mut [u64]) -> Verdict
     requires { ⌜ Fit (now plan) edges (now noted) ⌝ }
     ensures { λ r. ⌜ ran r (now (proposals .exit)) ≡ ranOf (on step5 (words (now (plan .entry)) edges (now (noted .entry)) (now (view .entry))) begun) (now (proposals .entry)) ⌝ }
 {
@@ -118,13 +94,7 @@ fn step5(
     Verdict::Going
 }
 
-fn steps(
-    plan: &PlanWords,
-    edges: Edges,
-    noted: &NotedWords,
-    view: &ViewWords,
-    proposals: &mut [u64],
-) -> Verdict
+fn steps(plan: &Plan, edges: Edges, noted: &Noted, view: &View, proposals: &mut [u64]) -> Verdict
     requires { ⌜ Fit (now plan) edges (now noted) ⌝ }
     ensures { λ r. ⌜ ran r (now (proposals .exit)) ≡ ranOf (on analyzedFirst (words (now (plan .entry)) edges (now (noted .entry)) (now (view .entry)))) (now (proposals .entry)) ⌝ }
 {
@@ -149,7 +119,7 @@ fn steps(
 
 // Analyzes what is noted: the verdict, and the proposals' words, newest reasons over what was there. Where the words are no
 // plan's, Unfit, and nothing is stored.
-pub fn analyze(plan: &PlanWords, edges: Edges, noted: &NotedWords, proposals: &mut [u64]) -> Verdict
+pub fn analyze(plan: &Plan, edges: Edges, noted: &Noted, proposals: &mut [u64]) -> Verdict
     ensures { λ r. ⌜ ran r (now (proposals .exit)) ≡ analyzeWords (now (plan .entry)) edges (now (noted .entry)) (now (proposals .entry)) ⌝ }
 {
     let mut view = [0u32; 512];

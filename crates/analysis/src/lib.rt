@@ -8,9 +8,9 @@ pub mod step4;
 pub mod step5;
 
 use edge_table::Edges;
-use noting::NotedWords;
-use plan::PlanWords;
-use views::ViewWords;
+use noting::Noted;
+use plan::Plan;
+use views::View;
 ghost use mathlib.Core.Path.{_≡_};
 ghost use mathlib.Core.List.{[]};
 ghost use Prim.Native.Nat.{ℕ, pred, suc, _+_, _*_, _/_, _<_, _≤_};
@@ -25,14 +25,14 @@ ghost use Rattle.views.specs.Words.{decidedRegionOf, potentialRegionOf, decided
 ghost use Rattle.analysis.specs.Placed.{placeOfLit, placeFor, edgePlaceOf, domPlaceOf};
 
 // The place of a literal among the distinct literals, found from its variable's.
-fn place_of_lit(plan: &PlanWords, lit: u32) -> u32
+fn place_of_lit(plan: &Plan, lit: u32) -> u32
     ensures { λ r. ⌜ r ≡ placeOfLit (now (plan .entry)) lit ⌝ }
 {
     let k = noting::note::place_in(plan, lit / 2) % 2147483648;
     2 * (k as u32) + lit % 2
 }
 
-fn is_place(plan: &PlanWords, p: u32, lit: u32) -> bool
+fn is_place(plan: &Plan, p: u32, lit: u32) -> bool
     ensures { λ r. ⌜ r ≡ (ltb (p / 2) (variablesOf (now (plan .entry))) && eqb (uniqueLitAt (now (plan .entry)) p) lit) ⌝ }
 {
     if p / 2 < plan::num_variables(plan) {
@@ -42,7 +42,7 @@ fn is_place(plan: &PlanWords, p: u32, lit: u32) -> bool
 }
 
 // The same, where p may be it already: what the plan's index says is tested before it is used.
-fn place_for(plan: &PlanWords, p: u32, lit: u32) -> u32
+fn place_for(plan: &Plan, p: u32, lit: u32) -> u32
     ensures { λ r. ⌜ r ≡ placeFor (now (plan .entry)) p lit ⌝ }
 {
     if is_place(plan, p, lit) {
@@ -52,7 +52,7 @@ fn place_for(plan: &PlanWords, p: u32, lit: u32) -> u32
 }
 
 // The slots' places in the plan's index.
-fn edge_index(plan: &PlanWords, g: usize) -> u32
+fn edge_index(plan: &Plan, g: usize) -> u32
     ensures { λ r. ⌜ r ≡ pick (ltb g 128) (placeOf (now (plan .entry)) (2048 + g)) 0 ⌝ }
 {
     if g < 128 {
@@ -61,7 +61,7 @@ fn edge_index(plan: &PlanWords, g: usize) -> u32
     0
 }
 
-fn dom_index(plan: &PlanWords, v: usize, j: usize) -> u32
+fn dom_index(plan: &Plan, v: usize, j: usize) -> u32
     ensures { λ r. ⌜ r ≡ pick (ltb v 64 && ltb j 32) (placeOf (now (plan .entry)) (32 * v + j)) 0 ⌝ }
 {
     if v < 64 {
@@ -73,14 +73,14 @@ fn dom_index(plan: &PlanWords, v: usize, j: usize) -> u32
 }
 
 // The place of edge g's literal.
-pub(crate) fn edge_place(plan: &PlanWords, g: usize) -> u32
+pub(crate) fn edge_place(plan: &Plan, g: usize) -> u32
     ensures { λ r. ⌜ r ≡ edgePlaceOf (now (plan .entry)) g ⌝ }
 {
     place_for(plan, edge_index(plan, g), plan::edge_lit(plan, g))
 }
 
 // The place of size literal j of vertex v.
-fn dom_place(plan: &PlanWords, v: usize, j: usize) -> u32
+fn dom_place(plan: &Plan, v: usize, j: usize) -> u32
     ensures { λ r. ⌜ r ≡ domPlaceOf (now (plan .entry)) v j ⌝ }
 {
     place_for(plan, dom_index(plan, v, j), plan::dom_lit(plan, v, j))
@@ -96,7 +96,7 @@ pub(crate) fn negation(p: u32) -> u32
     p - 1
 }
 
-pub(crate) fn edge_state(noted: &NotedWords, g: usize) -> u32
+pub(crate) fn edge_state(noted: &Noted, g: usize) -> u32
     requires { ⌜ g < 128 ⌝ }
     ensures { λ r. ⌜ r ≡ getD (now (noted .entry)) g 0 ⌝ }
 {
@@ -125,28 +125,28 @@ pub(crate) fn right(edges: &Edges, g: usize) -> usize
 }
 
 // The regions of edge g's ends.
-pub(crate) fn left_region(edges: &Edges, view: &ViewWords, g: usize) -> usize
+pub(crate) fn left_region(edges: &Edges, view: &View, g: usize) -> usize
     requires { ⌜ g < 128 ⌝ }
     ensures { λ r. ⌜ r ≡ decidedRegionOf (now (view .entry)) (getD (getD (now (edges .entry)) g []) 0 0) ⌝ }
 {
     views::decided_region(view, left(edges, g)) as usize
 }
 
-pub(crate) fn right_region(edges: &Edges, view: &ViewWords, g: usize) -> usize
+pub(crate) fn right_region(edges: &Edges, view: &View, g: usize) -> usize
     requires { ⌜ g < 128 ⌝ }
     ensures { λ r. ⌜ r ≡ decidedRegionOf (now (view .entry)) (getD (getD (now (edges .entry)) g []) 1 0) ⌝ }
 {
     views::decided_region(view, right(edges, g)) as usize
 }
 
-fn size_below(plan: &PlanWords, v: usize, i: usize, x: u64) -> bool
+fn size_below(plan: &Plan, v: usize, i: usize, x: u64) -> bool
     ensures { λ r. ⌜ r ≡ ltb (domainOf (now (plan .entry)) v i) x ⌝ }
 {
     (plan::domain(plan, v, i) as u64) < x
 }
 
 // How many of the first n sizes of v, which rise, are below x: the Rust's `partition_point`.
-fn sizes_below(plan: &PlanWords, v: usize, x: u64, n: usize) -> usize
+fn sizes_below(plan: &Plan, v: usize, x: u64, n: usize) -> usize
     ensures { λ r. ⌜ r ≡ place (domainOf (now (plan .entry)) v) x n ⌝ }
 {
     let mut k = n;
@@ -169,7 +169,7 @@ fn less_one(k: usize) -> usize
 }
 
 // The place of the literal: the size of v is at least x.
-pub(crate) fn lit_at_least(plan: &PlanWords, v: usize, x: u64) -> u32
+pub(crate) fn lit_at_least(plan: &Plan, v: usize, x: u64) -> u32
     ensures { λ r. ⌜ r ≡ domPlaceOf (now (plan .entry)) v (pred (place (domainOf (now (plan .entry)) v) x (domainLenOf (now (plan .entry)) v))) ⌝ }
 {
     dom_place(
@@ -180,14 +180,14 @@ pub(crate) fn lit_at_least(plan: &PlanWords, v: usize, x: u64) -> u32
 }
 
 // The weight of v's region.
-pub(crate) fn decided_weight(view: &ViewWords, v: usize) -> u32
+pub(crate) fn decided_weight(view: &View, v: usize) -> u32
     ensures { λ r. ⌜ r ≡ decidedWeightOf (now (view .entry)) (decidedRegionOf (now (view .entry)) v) ⌝ }
 {
     views::decided_region_weight(view, views::decided_region(view, v) as usize)
 }
 
 // The weight of v's potential region.
-pub(crate) fn potential_weight(view: &ViewWords, v: usize) -> u32
+pub(crate) fn potential_weight(view: &View, v: usize) -> u32
     ensures { λ r. ⌜ r ≡ potentialWeightOf (now (view .entry)) (potentialRegionOf (now (view .entry)) v) ⌝ }
 {
     views::potential_region_weight(view, views::potential_region(view, v) as usize)

@@ -6,13 +6,13 @@ use crate::left_region;
 use crate::negation;
 use crate::right_region;
 use edge_table::Edges;
-use noting::NotedWords;
-use plan::PlanWords;
+use noting::Noted;
+use plan::Plan;
 use reasons::Verdict;
 use reasons::goes_on;
 use reasons::packed;
 use reasons::put;
-use views::ViewWords;
+use views::View;
 ghost use mathlib.Core.Path.{_≡_};
 ghost use mathlib.Core.List.{[]};
 ghost use mathlib.Core.Bool.{_&&_, _||_};
@@ -31,10 +31,10 @@ ghost use Rattle.analysis.specs.First.{disconnectedEnd, pairPlace, Walle
 
 // Edge g inside a region.
 fn inside(
-    plan: &PlanWords,
+    plan: &Plan,
     edges: &Edges,
-    noted: &NotedWords,
-    view: &ViewWords,
+    noted: &Noted,
+    view: &View,
     g: usize,
     proposals: &mut [u64],
 ) -> Verdict
@@ -61,10 +61,10 @@ fn inside(
 
 // Every edge in order, up to a conflict.
 pub(crate) fn connect_inside(
-    plan: &PlanWords,
+    plan: &Plan,
     edges: &Edges,
-    noted: &NotedWords,
-    view: &ViewWords,
+    noted: &Noted,
+    view: &View,
     proposals: &mut [u64],
 ) -> Verdict
     requires { ⌜ edgesOf (now plan) ≤ 128 ⌝ }
@@ -101,7 +101,7 @@ fn same_pair(a: usize, b: usize, c: usize, d: usize) -> bool
 }
 
 // Whether edge h is disconnected and joins the two regions that edge g joins.
-fn matches(edges: &Edges, noted: &NotedWords, view: &ViewWords, g: usize, h: usize) -> bool
+fn matches(edges: &Edges, noted: &Noted, view: &View, g: usize, h: usize) -> bool
     requires { ⌜ (g < 128) × (h < 128) ⌝ }
     ensures { λ r. ⌜ r ≡ on matches (words [] (now (edges .entry)) (now (noted .entry)) (now (view .entry))) g h ⌝ }
 {
@@ -118,7 +118,7 @@ fn matches(edges: &Edges, noted: &NotedWords, view: &ViewWords, g: usize, h: usi
 
 // The lowest of the first n edges that matches edge g, or n. Document 01: "Where several shut gates match, the lowest gate
 // number is the reason."
-fn lowest_match(edges: &Edges, noted: &NotedWords, view: &ViewWords, g: usize, n: usize) -> usize
+fn lowest_match(edges: &Edges, noted: &Noted, view: &View, g: usize, n: usize) -> usize
     requires { ⌜ (g < 128) × (n ≤ 128) ⌝ }
     ensures { λ r. ⌜ r ≡ lowest (on matches (words [] (now (edges .entry)) (now (noted .entry)) (now (view .entry))) g) n ⌝ }
 {
@@ -131,7 +131,7 @@ fn lowest_match(edges: &Edges, noted: &NotedWords, view: &ViewWords, g: usize, n
 }
 
 // Whether edge g is undecided and joins two regions.
-pub(crate) fn loose(edges: &Edges, noted: &NotedWords, view: &ViewWords, g: usize) -> bool
+pub(crate) fn loose(edges: &Edges, noted: &Noted, view: &View, g: usize) -> bool
     requires { ⌜ g < 128 ⌝ }
     ensures { λ r. ⌜ r ≡ on loose (words [] (now (edges .entry)) (now (noted .entry)) (now (view .entry))) g ⌝ }
 {
@@ -150,7 +150,7 @@ fn bit(b: bool) -> usize
     0
 }
 
-fn is_disconnected(noted: &NotedWords, g: usize) -> bool
+fn is_disconnected(noted: &Noted, g: usize) -> bool
     requires { ⌜ g < 128 ⌝ }
     ensures { λ r. ⌜ r ≡ eqb (getD (now (noted .entry)) g 0) 1 ⌝ }
 {
@@ -158,7 +158,7 @@ fn is_disconnected(noted: &NotedWords, g: usize) -> bool
 }
 
 // How many of the first n edges there are up to the last disconnected one: no other edge can match.
-fn disconnected_end(noted: &NotedWords, n: usize) -> usize
+fn disconnected_end(noted: &Noted, n: usize) -> usize
     requires { ⌜ n ≤ 128 ⌝ }
     ensures { λ r. ⌜ r ≡ disconnectedEnd (now (noted .entry)) n ⌝ }
 {
@@ -172,7 +172,7 @@ fn disconnected_end(noted: &NotedWords, n: usize) -> usize
     0
 }
 
-fn is_undecided(noted: &NotedWords, g: usize) -> bool
+fn is_undecided(noted: &Noted, g: usize) -> bool
     requires { ⌜ g < 128 ⌝ }
     ensures { λ r. ⌜ r ≡ eqb (getD (now (noted .entry)) g 0) 0 ⌝ }
 {
@@ -180,7 +180,7 @@ fn is_undecided(noted: &NotedWords, g: usize) -> bool
 }
 
 // The lowest undecided one of the first n edges, or n.
-fn first_undecided(noted: &NotedWords, n: usize) -> usize
+fn first_undecided(noted: &Noted, n: usize) -> usize
     requires { ⌜ n ≤ 128 ⌝ }
     ensures { λ r. ⌜ r ≡ lowest (λ h. eqb (getD (now (noted .entry)) h 0) 0) n ⌝ }
 {
@@ -206,7 +206,7 @@ fn no_walls() -> [u8; 4096]
 }
 
 // The pairs of regions, in both orders, that the disconnected ones of the first n edges join.
-fn walls_between(edges: &Edges, noted: &NotedWords, view: &ViewWords, n: usize) -> [u8; 4096]
+fn walls_between(edges: &Edges, noted: &Noted, view: &View, n: usize) -> [u8; 4096]
     requires { ⌜ n ≤ 128 ⌝ }
     ensures { λ r. ⌜ Walled (words [] (now (edges .entry)) (now (noted .entry)) (now (view .entry))) n r ⌝ }
 {
@@ -226,8 +226,8 @@ fn walls_between(edges: &Edges, noted: &NotedWords, view: &ViewWords, n: usize) 
 // it would look at all n edges.
 fn marked_match(
     edges: &Edges,
-    noted: &NotedWords,
-    view: &ViewWords,
+    noted: &Noted,
+    view: &View,
     walls: &[u8; 4096],
     g: usize,
     n: usize,
@@ -244,10 +244,10 @@ fn marked_match(
 
 // Edge g between two regions that a disconnected edge, one of the first `end`, also joins.
 fn matched(
-    plan: &PlanWords,
+    plan: &Plan,
     edges: &Edges,
-    noted: &NotedWords,
-    view: &ViewWords,
+    noted: &Noted,
+    view: &View,
     walls: &[u8; 4096],
     g: usize,
     end: usize,
@@ -272,10 +272,10 @@ fn matched(
 
 // Every edge in order. Where none is disconnected or none is undecided, none matches, and nothing is marked.
 pub(crate) fn disconnect_matched(
-    plan: &PlanWords,
+    plan: &Plan,
     edges: &Edges,
-    noted: &NotedWords,
-    view: &ViewWords,
+    noted: &Noted,
+    view: &View,
     proposals: &mut [u64],
 )
     requires { ⌜ edgesOf (now plan) ≤ 128 ⌝ }

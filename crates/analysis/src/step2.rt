@@ -7,15 +7,15 @@ use crate::lit_at_least;
 use crate::right_region;
 use crate::step1::loose;
 use edge_table::Edges;
-use noting::NotedWords;
+use noting::Noted;
 use noting::lower_bound;
 use noting::upper_bound;
-use plan::PlanWords;
+use plan::Plan;
 use reasons::Verdict;
 use reasons::goes_on;
 use reasons::packed;
 use reasons::put;
-use views::ViewWords;
+use views::View;
 use views::decided_region_weight;
 use views::region_upper_bound;
 use views::region_upper_bound_idx;
@@ -32,7 +32,7 @@ ghost use Rattle.reasons.specs.Verdicts.{begun, ran, ranOf};
 ghost use Rattle.analysis.specs.Placed.{words, on, Finds};
 
 // Vertex v: its lower bound is over its upper bound. The one place of refusal 12.
-fn uncrossed(noted: &NotedWords, v: usize) -> Verdict
+fn uncrossed(noted: &Noted, v: usize) -> Verdict
     ensures { λ r. ⌜ Finds r (on uncrossed (words [] [] (now (noted .entry)) []) v begun) ⌝ }
 {
     if upper_bound(noted, v) < lower_bound(noted, v) {
@@ -42,7 +42,7 @@ fn uncrossed(noted: &NotedWords, v: usize) -> Verdict
 }
 
 // Every vertex in order, up to a crossed one.
-pub(crate) fn check_crossed(noted: &NotedWords, n: usize) -> Verdict
+pub(crate) fn check_crossed(noted: &Noted, n: usize) -> Verdict
     ensures { λ r. ⌜ Finds r (iter (guarded (on uncrossed (words [] [] (now (noted .entry)) []))) n begun) ⌝ }
 {
     for v in 0..n {
@@ -56,7 +56,7 @@ pub(crate) fn check_crossed(noted: &NotedWords, n: usize) -> Verdict
 }
 
 // Vertex v: its upper bound is below its region's weight.
-fn overfull(noted: &NotedWords, view: &ViewWords, v: usize) -> Verdict
+fn overfull(noted: &Noted, view: &View, v: usize) -> Verdict
     ensures { λ r. ⌜ Finds r (on overfull (words [] [] (now (noted .entry)) (now (view .entry))) v begun) ⌝ }
 {
     if upper_bound(noted, v) < decided_weight(view, v) {
@@ -66,7 +66,7 @@ fn overfull(noted: &NotedWords, view: &ViewWords, v: usize) -> Verdict
 }
 
 // Every vertex in order, up to a conflict.
-pub(crate) fn check_overfull(noted: &NotedWords, view: &ViewWords, n: usize) -> Verdict
+pub(crate) fn check_overfull(noted: &Noted, view: &View, n: usize) -> Verdict
     ensures { λ r. ⌜ Finds r (iter (guarded (on overfull (words [] [] (now (noted .entry)) (now (view .entry))))) n begun) ⌝ }
 {
     for v in 0..n {
@@ -80,7 +80,7 @@ pub(crate) fn check_overfull(noted: &NotedWords, view: &ViewWords, n: usize) -> 
 }
 
 // Vertex v: its lower bound is raised where its region weighs more.
-fn raises(plan: &PlanWords, noted: &NotedWords, view: &ViewWords, v: usize, proposals: &mut [u64])
+fn raises(plan: &Plan, noted: &Noted, view: &View, v: usize, proposals: &mut [u64])
     ensures { λ _. ⌜ ran Going (now (proposals .exit)) ≡ ranOf (on raises (words (now (plan .entry)) [] (now (noted .entry)) (now (view .entry))) v begun) (now (proposals .entry)) ⌝ }
 {
     if 0 < plan::domain_len(plan, v) {
@@ -93,12 +93,7 @@ fn raises(plan: &PlanWords, noted: &NotedWords, view: &ViewWords, v: usize, prop
 }
 
 // Every vertex in order.
-pub(crate) fn raise_lower_bounds(
-    plan: &PlanWords,
-    noted: &NotedWords,
-    view: &ViewWords,
-    proposals: &mut [u64],
-)
+pub(crate) fn raise_lower_bounds(plan: &Plan, noted: &Noted, view: &View, proposals: &mut [u64])
     ensures { λ _. ⌜ ran Going (now (proposals .exit)) ≡ ranOf (iter (guarded (on raises (words (now (plan .entry)) [] (now (noted .entry)) (now (view .entry))))) (verticesOf (now (plan .entry))) begun) (now (proposals .entry)) ⌝ }
 {
     let n = plan::num_vertices(plan) as usize;
@@ -117,7 +112,7 @@ fn lesser(a: u32, b: u32) -> u32
 }
 
 // Whether regions u and v weigh more together than one of them may.
-fn too_large_if_merged(view: &ViewWords, u: usize, v: usize) -> bool
+fn too_large_if_merged(view: &View, u: usize, v: usize) -> bool
     ensures { λ r. ⌜ r ≡ ltb (min (upperBoundOf (now (view .entry)) u) (upperBoundOf (now (view .entry)) v)) (decidedWeightOf (now (view .entry)) u + decidedWeightOf (now (view .entry)) v) ⌝ }
 {
     let bound = lesser(region_upper_bound(view, u), region_upper_bound(view, v));
@@ -126,7 +121,7 @@ fn too_large_if_merged(view: &ViewWords, u: usize, v: usize) -> bool
 }
 
 // The vertex that has the lesser upper bound of regions u and v, of v where they are equal.
-fn tighter_upper_bound(view: &ViewWords, u: usize, v: usize) -> u32
+fn tighter_upper_bound(view: &View, u: usize, v: usize) -> u32
     ensures { λ r. ⌜ r ≡ pick (ltb (upperBoundOf (now (view .entry)) u) (upperBoundOf (now (view .entry)) v)) (upperBoundAt (now (view .entry)) u) (upperBoundAt (now (view .entry)) v) ⌝ }
 {
     if region_upper_bound(view, u) < region_upper_bound(view, v) {
@@ -136,14 +131,7 @@ fn tighter_upper_bound(view: &ViewWords, u: usize, v: usize) -> u32
 }
 
 // Edge g between two regions that would be too large.
-fn merges(
-    plan: &PlanWords,
-    edges: &Edges,
-    noted: &NotedWords,
-    view: &ViewWords,
-    g: usize,
-    proposals: &mut [u64],
-)
+fn merges(plan: &Plan, edges: &Edges, noted: &Noted, view: &View, g: usize, proposals: &mut [u64])
     requires { ⌜ g < 128 ⌝ }
     ensures { λ _. ⌜ ran Going (now (proposals .exit)) ≡ ranOf (on merges (words (now (plan .entry)) (now (edges .entry)) (now (noted .entry)) (now (view .entry))) g begun) (now (proposals .entry)) ⌝ }
 {
@@ -160,10 +148,10 @@ fn merges(
 
 // Every edge in order.
 pub(crate) fn disconnect_too_large(
-    plan: &PlanWords,
+    plan: &Plan,
     edges: &Edges,
-    noted: &NotedWords,
-    view: &ViewWords,
+    noted: &Noted,
+    view: &View,
     proposals: &mut [u64],
 )
     requires { ⌜ edgesOf (now plan) ≤ 128 ⌝ }

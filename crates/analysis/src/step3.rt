@@ -4,15 +4,15 @@
 use crate::lit_at_least;
 use crate::negation;
 use crate::potential_weight;
-use noting::NotedWords;
+use noting::Noted;
 use noting::lower_bound;
 use noting::upper_bound;
-use plan::PlanWords;
+use plan::Plan;
 use reasons::Verdict;
 use reasons::goes_on;
 use reasons::packed;
 use reasons::put;
-use views::ViewWords;
+use views::View;
 use views::cells::required_weight;
 use views::cells::separate_ranges;
 ghost use mathlib.Core.Path.{_≡_};
@@ -27,13 +27,7 @@ ghost use Rattle.reasons.specs.Verdicts.{begun, ran, ranOf};
 ghost use Rattle.analysis.specs.Placed.{words, on, Finds};
 
 // Vertex v: no more than what can be joined to it.
-fn cuts(
-    plan: &PlanWords,
-    noted: &NotedWords,
-    view: &ViewWords,
-    v: usize,
-    proposals: &mut [u64],
-) -> Verdict
+fn cuts(plan: &Plan, noted: &Noted, view: &View, v: usize, proposals: &mut [u64]) -> Verdict
     ensures { λ r. ⌜ ran r (now (proposals .exit)) ≡ ranOf (on cuts (words (now (plan .entry)) [] (now (noted .entry)) (now (view .entry))) v begun) (now (proposals .entry)) ⌝ }
 {
     if plan::domain_len(plan, v) == 0 {
@@ -52,9 +46,9 @@ fn cuts(
 
 // Every vertex in order, up to a conflict.
 pub(crate) fn cut_upper_bounds(
-    plan: &PlanWords,
-    noted: &NotedWords,
-    view: &ViewWords,
+    plan: &Plan,
+    noted: &Noted,
+    view: &View,
     proposals: &mut [u64],
 ) -> Verdict
     ensures { λ r. ⌜ ran r (now (proposals .exit)) ≡ ranOf (iter (guarded (on cuts (words (now (plan .entry)) [] (now (noted .entry)) (now (view .entry))))) (verticesOf (now (plan .entry))) begun) (now (proposals .entry)) ⌝ }
@@ -71,7 +65,7 @@ pub(crate) fn cut_upper_bounds(
 }
 
 // The potential region with label r: its separate ranges need more than it weighs.
-fn crowds(plan: &PlanWords, noted: &NotedWords, view: &ViewWords, r: usize) -> Verdict
+fn crowds(plan: &Plan, noted: &Noted, view: &View, r: usize) -> Verdict
     requires { ⌜ verticesOf (now plan) ≤ 64 ⌝ }
     ensures { λ x. ⌜ Finds x (on crowds (words (now (plan .entry)) [] (now (noted .entry)) (now (view .entry))) r begun) ⌝ }
 {
@@ -87,7 +81,7 @@ fn crowds(plan: &PlanWords, noted: &NotedWords, view: &ViewWords, r: usize) -> V
 }
 
 // Every potential region in order, up to a conflict.
-pub(crate) fn check_crowded(plan: &PlanWords, noted: &NotedWords, view: &ViewWords) -> Verdict
+pub(crate) fn check_crowded(plan: &Plan, noted: &Noted, view: &View) -> Verdict
     requires { ⌜ verticesOf (now plan) ≤ 64 ⌝ }
     ensures { λ r. ⌜ Finds r (iter (guarded (on crowds (words (now (plan .entry)) [] (now (noted .entry)) (now (view .entry))))) (verticesOf (now (plan .entry))) begun) ⌝ }
 {

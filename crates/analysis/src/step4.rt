@@ -6,15 +6,15 @@ use crate::negation;
 use crate::right_region;
 use crate::step1::loose;
 use edge_table::Edges;
-use noting::NotedWords;
+use noting::Noted;
 use noting::lower_bound;
 use noting::upper_bound;
-use plan::PlanWords;
+use plan::Plan;
 use reasons::Verdict;
 use reasons::goes_on;
 use reasons::packed;
 use reasons::put;
-use views::ViewWords;
+use views::View;
 use views::decided_region;
 use views::members::extreme_vertices;
 use views::region_lower_bound;
@@ -39,7 +39,7 @@ ghost use Rattle.analysis.specs.First.{meetsFirst};
 ghost use Rattle.analysis.specs.Placed.{edgePlaceOf};
 
 // The region with label r, whose bounds do not meet: the two vertices that a conflict names.
-fn meets(plan: &PlanWords, edges: Edges, noted: &NotedWords, view: &ViewWords, r: usize) -> Verdict
+fn meets(plan: &Plan, edges: Edges, noted: &Noted, view: &View, r: usize) -> Verdict
     requires { ⌜ (r < verticesOf (now plan)) × (walkable edges (now noted) (edgesOf (now plan)) (verticesOf (now plan)) ≡ true) ⌝ }
     ensures { λ x. ⌜ Finds x (on meets (words (now (plan .entry)) edges (now (noted .entry)) (now (view .entry))) r begun) ⌝ }
 {
@@ -56,13 +56,7 @@ fn meets(plan: &PlanWords, edges: Edges, noted: &NotedWords, view: &ViewWords, r
 }
 
 // The same of any region: its own two bounds are compared first.
-fn meets_first(
-    plan: &PlanWords,
-    edges: Edges,
-    noted: &NotedWords,
-    view: &ViewWords,
-    r: usize,
-) -> Verdict
+fn meets_first(plan: &Plan, edges: Edges, noted: &Noted, view: &View, r: usize) -> Verdict
     requires { ⌜ (r < verticesOf (now plan)) × (walkable edges (now noted) (edgesOf (now plan)) (verticesOf (now plan)) ≡ true) ⌝ }
     ensures { λ x. ⌜ Finds x (on meetsFirst (words (now (plan .entry)) edges (now (noted .entry)) (now (view .entry))) r begun) ⌝ }
 {
@@ -73,12 +67,7 @@ fn meets_first(
 }
 
 // Every region in order, up to a conflict.
-pub(crate) fn check_meets(
-    plan: &PlanWords,
-    edges: Edges,
-    noted: &NotedWords,
-    view: &ViewWords,
-) -> Verdict
+pub(crate) fn check_meets(plan: &Plan, edges: Edges, noted: &Noted, view: &View) -> Verdict
     requires { ⌜ walkable edges (now noted) (edgesOf (now plan)) (verticesOf (now plan)) ≡ true ⌝ }
     ensures { λ r. ⌜ Finds r (iter (guarded (on meetsFirst (words (now (plan .entry)) edges (now (noted .entry)) (now (view .entry))))) (verticesOf (now (plan .entry))) begun) ⌝ }
 {
@@ -94,15 +83,7 @@ pub(crate) fn check_meets(
 }
 
 // Edge g, where the greatest lower bound of region `low` is over the least upper bound of region `up`.
-fn part(
-    plan: &PlanWords,
-    view: &ViewWords,
-    g: usize,
-    low: usize,
-    up: usize,
-    flip: u32,
-    proposals: &mut [u64],
-)
+fn part(plan: &Plan, view: &View, g: usize, low: usize, up: usize, flip: u32, proposals: &mut [u64])
     ensures { λ _. ⌜ now (proposals .exit) ≡ pick (ltb (upperBoundOf (now (view .entry)) up) (lowerBoundOf (now (view .entry)) low)) (put (edgePlaceOf (now (plan .entry)) g) (packed 6 g (upperBoundAt (now (view .entry)) up) (lowerBoundAt (now (view .entry)) low) flip) 0 (now (proposals .entry))) (now (proposals .entry)) ⌝ }
 {
     if region_upper_bound(view, up) < region_lower_bound(view, low) {
@@ -113,14 +94,7 @@ fn part(
 }
 
 // Edge g between two regions whose bounds would not meet, either way.
-fn parts(
-    plan: &PlanWords,
-    edges: &Edges,
-    noted: &NotedWords,
-    view: &ViewWords,
-    g: usize,
-    proposals: &mut [u64],
-)
+fn parts(plan: &Plan, edges: &Edges, noted: &Noted, view: &View, g: usize, proposals: &mut [u64])
     requires { ⌜ g < 128 ⌝ }
     ensures { λ _. ⌜ ran Going (now (proposals .exit)) ≡ ranOf (on parts (words (now (plan .entry)) (now (edges .entry)) (now (noted .entry)) (now (view .entry))) g begun) (now (proposals .entry)) ⌝ }
 {
@@ -134,10 +108,10 @@ fn parts(
 
 // Every edge in order.
 pub(crate) fn disconnect_parted(
-    plan: &PlanWords,
+    plan: &Plan,
     edges: &Edges,
-    noted: &NotedWords,
-    view: &ViewWords,
+    noted: &Noted,
+    view: &View,
     proposals: &mut [u64],
 )
     requires { ⌜ edgesOf (now plan) ≤ 128 ⌝ }
@@ -150,13 +124,7 @@ pub(crate) fn disconnect_parted(
 }
 
 // Vertex v: a lower bound of its region that is over its own.
-fn spreads_low(
-    plan: &PlanWords,
-    noted: &NotedWords,
-    view: &ViewWords,
-    v: usize,
-    proposals: &mut [u64],
-)
+fn spreads_low(plan: &Plan, noted: &Noted, view: &View, v: usize, proposals: &mut [u64])
     ensures { λ _. ⌜ ran Going (now (proposals .exit)) ≡ ranOf (on spreadsLow (words (now (plan .entry)) [] (now (noted .entry)) (now (view .entry))) v begun) (now (proposals .entry)) ⌝ }
 {
     if 0 < plan::domain_len(plan, v) {
@@ -176,13 +144,7 @@ fn spreads_low(
 }
 
 // Vertex v: an upper bound of its region that is below its own.
-fn spreads_high(
-    plan: &PlanWords,
-    noted: &NotedWords,
-    view: &ViewWords,
-    v: usize,
-    proposals: &mut [u64],
-)
+fn spreads_high(plan: &Plan, noted: &Noted, view: &View, v: usize, proposals: &mut [u64])
     ensures { λ _. ⌜ ran Going (now (proposals .exit)) ≡ ranOf (on spreadsHigh (words (now (plan .entry)) [] (now (noted .entry)) (now (view .entry))) v begun) (now (proposals .entry)) ⌝ }
 {
     if 0 < plan::domain_len(plan, v) {
@@ -201,7 +163,7 @@ fn spreads_high(
     }
 }
 
-fn spreads(plan: &PlanWords, noted: &NotedWords, view: &ViewWords, v: usize, proposals: &mut [u64])
+fn spreads(plan: &Plan, noted: &Noted, view: &View, v: usize, proposals: &mut [u64])
     ensures { λ _. ⌜ ran Going (now (proposals .exit)) ≡ ranOf (on spreads (words (now (plan .entry)) [] (now (noted .entry)) (now (view .entry))) v begun) (now (proposals .entry)) ⌝ }
 {
     spreads_low(plan, noted, view, v, proposals);
@@ -209,12 +171,7 @@ fn spreads(plan: &PlanWords, noted: &NotedWords, view: &ViewWords, v: usize, pro
 }
 
 // Every vertex in order.
-pub(crate) fn spread_bounds(
-    plan: &PlanWords,
-    noted: &NotedWords,
-    view: &ViewWords,
-    proposals: &mut [u64],
-)
+pub(crate) fn spread_bounds(plan: &Plan, noted: &Noted, view: &View, proposals: &mut [u64])
     ensures { λ _. ⌜ ran Going (now (proposals .exit)) ≡ ranOf (iter (guarded (on spreads (words (now (plan .entry)) [] (now (noted .entry)) (now (view .entry))))) (verticesOf (now (plan .entry))) begun) (now (proposals .entry)) ⌝ }
 {
     let n = plan::num_vertices(plan) as usize;

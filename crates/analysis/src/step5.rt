@@ -6,16 +6,16 @@ use crate::left;
 use crate::right;
 use crate::step1::loose;
 use edge_table::Edges;
-use noting::NotedWords;
+use noting::Noted;
 use noting::lower_bound_lit;
 use noting::upper_bound_lit;
-use plan::PlanWords;
+use plan::Plan;
 use reasons::Verdict;
 use reasons::goes_on;
 use reasons::packed;
 use reasons::packed_lits;
 use reasons::put;
-use views::ViewWords;
+use views::View;
 use views::decided_region;
 use views::decided_region_weight;
 use views::region_lower_bound;
@@ -58,7 +58,7 @@ fn across(edges: &Edges, u: usize, g: usize) -> usize
     left(edges, g)
 }
 
-fn region_across(edges: &Edges, view: &ViewWords, u: usize, g: usize) -> usize
+fn region_across(edges: &Edges, view: &View, u: usize, g: usize) -> usize
     requires { ⌜ g < 128 ⌝ }
     ensures { λ r. ⌜ r ≡ decidedRegionOf (now (view .entry)) (across (placed [] (now (edges .entry))) u g) ⌝ }
 {
@@ -66,7 +66,7 @@ fn region_across(edges: &Edges, view: &ViewWords, u: usize, g: usize) -> usize
 }
 
 // Whether edge g leads from vertex u to another region, of a fixed size.
-fn leads_to_fixed(edges: &Edges, noted: &NotedWords, view: &ViewWords, u: usize, g: usize) -> bool
+fn leads_to_fixed(edges: &Edges, noted: &Noted, view: &View, u: usize, g: usize) -> bool
     requires { ⌜ g < 128 ⌝ }
     ensures { λ r. ⌜ r ≡ on leadsToFixed (words [] (now (edges .entry)) (now (noted .entry)) (now (view .entry))) u g ⌝ }
 {
@@ -80,7 +80,7 @@ fn leads_to_fixed(edges: &Edges, noted: &NotedWords, view: &ViewWords, u: usize,
 }
 
 // Whether edges g and h, undecided, lead from vertex u to two other regions.
-fn forks(edges: &Edges, noted: &NotedWords, view: &ViewWords, u: usize, g: usize, h: usize) -> bool
+fn forks(edges: &Edges, noted: &Noted, view: &View, u: usize, g: usize, h: usize) -> bool
     requires { ⌜ (g < 128) × (h < 128) ⌝ }
     ensures { λ r. ⌜ r ≡ on forks (words [] (now (edges .entry)) (now (noted .entry)) (now (view .entry))) u g h ⌝ }
 {
@@ -97,7 +97,7 @@ fn forks(edges: &Edges, noted: &NotedWords, view: &ViewWords, u: usize, g: usize
 }
 
 // Whether regions a and b have one and the same fixed size, less than they weigh together with `weight`.
-fn one_size(view: &ViewWords, a: usize, b: usize, weight: u32) -> bool
+fn one_size(view: &View, a: usize, b: usize, weight: u32) -> bool
     ensures { λ r. ⌜ r ≡ oneSize (lowerBoundOf (now (view .entry)) a) (upperBoundOf (now (view .entry)) a) (lowerBoundOf (now (view .entry)) b) (upperBoundOf (now (view .entry)) b) (decidedWeightOf (now (view .entry)) a + decidedWeightOf (now (view .entry)) b + weight) ⌝ }
 {
     let size = region_lower_bound(view, a);
@@ -114,14 +114,7 @@ fn one_size(view: &ViewWords, a: usize, b: usize, weight: u32) -> bool
     (size as u64) < both + weight as u64
 }
 
-fn same_size(
-    edges: &Edges,
-    noted: &NotedWords,
-    view: &ViewWords,
-    u: usize,
-    g: usize,
-    h: usize,
-) -> bool
+fn same_size(edges: &Edges, noted: &Noted, view: &View, u: usize, g: usize, h: usize) -> bool
     requires { ⌜ (g < 128) × (h < 128) ⌝ }
     ensures { λ r. ⌜ r ≡ on sameSize (words [] (now (edges .entry)) (now (noted .entry)) (now (view .entry))) u g h ⌝ }
 {
@@ -134,7 +127,7 @@ fn same_size(
 }
 
 // The bound literals of regions a and b.
-fn region_lits(noted: &NotedWords, view: &ViewWords, a: usize, b: usize) -> u64
+fn region_lits(noted: &Noted, view: &View, a: usize, b: usize) -> u64
     ensures { λ r. ⌜ r ≡ packedLits (lowerLitOf (now (noted .entry)) (lowerBoundAt (now (view .entry)) a)) (upperLitOf (now (noted .entry)) (upperBoundAt (now (view .entry)) a)) (lowerLitOf (now (noted .entry)) (lowerBoundAt (now (view .entry)) b)) (upperLitOf (now (noted .entry)) (upperBoundAt (now (view .entry)) b)) ⌝ }
 {
     packed_lits(
@@ -147,10 +140,10 @@ fn region_lits(noted: &NotedWords, view: &ViewWords, a: usize, b: usize) -> u64
 
 // Edges g and h at vertex u. A fixed size 0 has no vertex with a lower bound over 0 to name: refusal 13.
 fn parted(
-    plan: &PlanWords,
+    plan: &Plan,
     edges: &Edges,
-    noted: &NotedWords,
-    view: &ViewWords,
+    noted: &Noted,
+    view: &View,
     u: usize,
     g: usize,
     h: usize,
@@ -174,10 +167,10 @@ fn parted(
 
 // Edge g at vertex u, with every edge before it.
 fn part_from(
-    plan: &PlanWords,
+    plan: &Plan,
     edges: &Edges,
-    noted: &NotedWords,
-    view: &ViewWords,
+    noted: &Noted,
+    view: &View,
     u: usize,
     g: usize,
     proposals: &mut [u64],
@@ -199,10 +192,10 @@ fn part_from(
 
 // Every edge at vertex u.
 fn parts_at(
-    plan: &PlanWords,
+    plan: &Plan,
     edges: &Edges,
-    noted: &NotedWords,
-    view: &ViewWords,
+    noted: &Noted,
+    view: &View,
     u: usize,
     proposals: &mut [u64],
 ) -> Verdict
@@ -222,10 +215,10 @@ fn parts_at(
 
 // Every vertex in order, up to a refusal.
 pub(crate) fn disconnect_same_size(
-    plan: &PlanWords,
+    plan: &Plan,
     edges: &Edges,
-    noted: &NotedWords,
-    view: &ViewWords,
+    noted: &Noted,
+    view: &View,
     proposals: &mut [u64],
 ) -> Verdict
     requires { ⌜ edgesOf (now plan) ≤ 128 ⌝ }

@@ -6,13 +6,13 @@
 // The file stdin is tests/analysis/named and after it what `tests/analysis/generate 1 280` prints. The file stdout has the Rust's
 // answers and not this program's: `tests/analysis/oracle FOLDER <crates/analysis_cases/stdin`, where FOLDER has the Rust source.
 use builder::build::GraphDivisionOptions;
-use builder::build::PlanWords;
+use builder::build::Plan;
 use builder::input::EdgeNumbers;
 use builder::input::VertexNumbers;
 use edge_table::Edges;
-use noting::NotedWords;
-use plan::PlanWords;
-use reasons::ProposalWords;
+use noting::Noted;
+use plan::Plan;
+use reasons::Proposals;
 use reasons::Verdict;
 use text::Line;
 use text_writer::Written;
@@ -241,10 +241,10 @@ fn lit_number(n: i32) -> u16 {
 
 // Notes the first `count` literals.
 fn note_all(
-    plan: &PlanWords,
+    plan: &Plan,
     lits: &[i32; 2176],
     count: usize,
-    noted: &mut NotedWords,
+    noted: &mut Noted,
     log: &mut [u64; 4352],
 ) {
     noting::fresh(plan, noted);
@@ -262,7 +262,7 @@ fn note_all(
 }
 
 // The list of a conflict.
-fn put_conflict(plan: &PlanWords, edges: Edges, noted: &NotedWords, verdict: Verdict) {
+fn put_conflict(plan: &Plan, edges: Edges, noted: &Noted, verdict: Verdict) {
     let mut view = [0u32; 512];
     views::compute::compute_view(plan, edges, noted, &mut view);
     let mut chosen = [0u8; 64];
@@ -284,7 +284,7 @@ fn put_conflict(plan: &PlanWords, edges: Edges, noted: &NotedWords, verdict: Ver
     put_listed(b'X', &out, end);
 }
 
-fn put_verdict(plan: &PlanWords, edges: Edges, noted: &NotedWords, verdict: Verdict) {
+fn put_verdict(plan: &Plan, edges: Edges, noted: &Noted, verdict: Verdict) {
     match verdict {
         Verdict::Going => put(b"C\n"),
         Verdict::Crossed => put_refusal(12),
@@ -295,14 +295,7 @@ fn put_verdict(plan: &PlanWords, edges: Edges, noted: &NotedWords, verdict: Verd
 }
 
 // The line of the proposal of the literal at place p, if there is one.
-fn put_proposal(
-    plan: &PlanWords,
-    edges: Edges,
-    noted: &NotedWords,
-    first: u64,
-    second: u64,
-    p: usize,
-) {
+fn put_proposal(plan: &Plan, edges: Edges, noted: &Noted, first: u64, second: u64, p: usize) {
     if first == 0 {
         return;
     }
@@ -313,7 +306,7 @@ fn put_proposal(
     put_listed(b'P', &out, end);
 }
 
-fn put_proposals(plan: &PlanWords, edges: Edges, noted: &NotedWords, proposals: &ProposalWords) {
+fn put_proposals(plan: &Plan, edges: Edges, noted: &Noted, proposals: &Proposals) {
     let mut p = 0;
     while p < 4352 {
         put_proposal(
@@ -328,7 +321,7 @@ fn put_proposals(plan: &PlanWords, edges: Edges, noted: &NotedWords, proposals: 
     }
 }
 
-fn show_analysis(plan: &PlanWords, edges: Edges, lits: &[i32; 2176], count: usize) {
+fn show_analysis(plan: &Plan, edges: Edges, lits: &[i32; 2176], count: usize) {
     let mut noted = [0u32; 384];
     let mut log = [0u64; 4352];
     note_all(plan, lits, count, &mut noted, &mut log);
@@ -338,7 +331,7 @@ fn show_analysis(plan: &PlanWords, edges: Edges, lits: &[i32; 2176], count: usiz
     put_proposals(plan, edges, &noted, &proposals);
 }
 
-fn build<'a>(vertices: &'a VertexNumbers, edges: &'a EdgeNumbers, c: Counts) -> PlanWords {
+fn build<'a>(vertices: &'a VertexNumbers, edges: &'a EdgeNumbers, c: Counts) -> Plan {
     let options = GraphDivisionOptions {
         disallow_adjacent_same_size_regions: c.same_size,
         allow_extra_walls: c.extra_walls,

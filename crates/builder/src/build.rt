@@ -12,7 +12,7 @@ use crate::input::size;
 use crate::input::size_lit;
 use crate::input::weight;
 use edge_table::Edges;
-use plan::PlanWords;
+use plan::Plan;
 ghost use mathlib.Core.Path.{_≡_};
 ghost use Prim.Native.Nat.{ℕ, pred, _+_, _*_, _%_, _<_, _≤_, min};
 ghost use lib.ListN.{getD, set, replicate};
@@ -38,7 +38,7 @@ impl GraphDivisionOptions {
 
 // A plan's words, by value.
 pub struct PlanWords {
-    pub words: PlanWords,
+    pub words: Plan,
 }
 
 fn weight_number(vertices: &VertexNumbers, v: usize) -> u32
@@ -76,7 +76,7 @@ fn edge_lit_number(edges: &EdgeNumbers, g: usize) -> u32
     base::to_nat(edge_lit(edges, g))
 }
 
-fn fill_weights(vertices: &VertexNumbers, n: usize, plan: &mut PlanWords)
+fn fill_weights(vertices: &VertexNumbers, n: usize, plan: &mut Plan)
     requires { ⌜ n ≤ 64 ⌝ }
     ensures { λ _. ⌜ now (plan .exit) ≡ filled 8 n (λ v. toNat (weightAt (now (vertices .entry)) v)) (now (plan .entry)) ⌝ }
 {
@@ -87,7 +87,7 @@ fn fill_weights(vertices: &VertexNumbers, n: usize, plan: &mut PlanWords)
     }
 }
 
-fn fill_lens(vertices: &VertexNumbers, n: usize, plan: &mut PlanWords)
+fn fill_lens(vertices: &VertexNumbers, n: usize, plan: &mut Plan)
     requires { ⌜ (n ≤ 64) × ((v : ℕ) → v < n → lenAt (now vertices) v ≤ 32) ⌝ }
     ensures { λ _. ⌜ now (plan .exit) ≡ filled 72 n (lenAt (now (vertices .entry))) (now (plan .entry)) ⌝ }
 {
@@ -98,7 +98,7 @@ fn fill_lens(vertices: &VertexNumbers, n: usize, plan: &mut PlanWords)
     }
 }
 
-fn fill_domain(vertices: &VertexNumbers, v: usize, len: usize, plan: &mut PlanWords)
+fn fill_domain(vertices: &VertexNumbers, v: usize, len: usize, plan: &mut Plan)
     requires { ⌜ (v < 64) × (len ≤ 32) ⌝ }
     ensures { λ _. ⌜ now (plan .exit) ≡ filled (136 + 32 * v) len (λ j. toNat (sizeAt (now (vertices .entry)) v j)) (now (plan .entry)) ⌝ }
 {
@@ -109,7 +109,7 @@ fn fill_domain(vertices: &VertexNumbers, v: usize, len: usize, plan: &mut PlanWo
     }
 }
 
-fn fill_domains(vertices: &VertexNumbers, n: usize, plan: &mut PlanWords)
+fn fill_domains(vertices: &VertexNumbers, n: usize, plan: &mut Plan)
     requires { ⌜ (n ≤ 64) × ((v : ℕ) → v < n → lenAt (now vertices) v ≤ 32) ⌝ }
     ensures { λ _. ⌜ now (plan .exit) ≡ rows 136 (lenAt (now (vertices .entry))) (λ v j. toNat (sizeAt (now (vertices .entry)) v j)) n (now (plan .entry)) ⌝ }
 {
@@ -120,7 +120,7 @@ fn fill_domains(vertices: &VertexNumbers, n: usize, plan: &mut PlanWords)
     }
 }
 
-fn fill_dom_lits_of(vertices: &VertexNumbers, v: usize, count: usize, plan: &mut PlanWords)
+fn fill_dom_lits_of(vertices: &VertexNumbers, v: usize, count: usize, plan: &mut Plan)
     requires { ⌜ (v < 64) × (count ≤ 32) ⌝ }
     ensures { λ _. ⌜ now (plan .exit) ≡ filled (2184 + 32 * v) count (λ j. toNat (litAt (now (vertices .entry)) v j)) (now (plan .entry)) ⌝ }
 {
@@ -138,7 +138,7 @@ fn lit_count(vertices: &VertexNumbers, v: usize) -> usize
     less_one(domain_len(vertices, v))
 }
 
-fn fill_dom_lits(vertices: &VertexNumbers, n: usize, plan: &mut PlanWords)
+fn fill_dom_lits(vertices: &VertexNumbers, n: usize, plan: &mut Plan)
     requires { ⌜ (n ≤ 64) × ((v : ℕ) → v < n → lenAt (now vertices) v ≤ 32) ⌝ }
     ensures { λ _. ⌜ now (plan .exit) ≡ rows 2184 (λ v. pred (lenAt (now (vertices .entry)) v)) (λ v j. toNat (litAt (now (vertices .entry)) v j)) n (now (plan .entry)) ⌝ }
 {
@@ -149,7 +149,7 @@ fn fill_dom_lits(vertices: &VertexNumbers, n: usize, plan: &mut PlanWords)
     }
 }
 
-fn fill_edge_lits(edges: &EdgeNumbers, m: usize, plan: &mut PlanWords)
+fn fill_edge_lits(edges: &EdgeNumbers, m: usize, plan: &mut Plan)
     requires { ⌜ m ≤ 128 ⌝ }
     ensures { λ _. ⌜ now (plan .exit) ≡ filled 4232 m (λ g. toNat (edgeLitAt (now (edges .entry)) g)) (now (plan .entry)) ⌝ }
 {
@@ -160,7 +160,7 @@ fn fill_edge_lits(edges: &EdgeNumbers, m: usize, plan: &mut PlanWords)
     }
 }
 
-fn copy_index(index: &[u32; 10881], plan: &mut PlanWords)
+fn copy_index(index: &[u32; 10881], plan: &mut Plan)
     ensures { λ _. ⌜ now (plan .exit) ≡ filled 4360 10881 (λ i. getD (now (index .entry)) i 0) (now (plan .entry)) ⌝ }
 {
     let mut i = 0;
@@ -180,7 +180,7 @@ fn flag(on: bool) -> u32
 }
 
 // Arrays of zeros, made by functions of their own: a proof then has their name and not their 15241 entries.
-fn no_words() -> PlanWords
+fn no_words() -> Plan
     ensures { λ r. ⌜ r ≡ replicate 15241 0 ⌝ }
 {
     [0u32; 15241]
@@ -193,7 +193,7 @@ fn no_index() -> [u32; 10881]
 }
 
 // Counts and options.
-fn fill_header(n: usize, m: usize, options: GraphDivisionOptions, plan: &mut PlanWords)
+fn fill_header(n: usize, m: usize, options: GraphDivisionOptions, plan: &mut Plan)
     requires { ⌜ (n ≤ 64) × (m ≤ 128) ⌝ }
     ensures { λ _. ⌜ now (plan .exit) ≡ filled 0 4 (header n m (options .«disallow_adjacent_same_size_regions») (options .«allow_extra_walls»)) (now (plan .entry)) ⌝ }
 {
@@ -212,7 +212,7 @@ fn fill_given<'a>(
     edges: &'a EdgeNumbers,
     m: usize,
     options: GraphDivisionOptions,
-    plan: &mut PlanWords,
+    plan: &mut Plan,
 )
     requires { ⌜ (n ≤ 64) × (m ≤ 128) × ((v : ℕ) → v < n → lenAt (now vertices) v ≤ 32) × (now plan ≡ replicate 15241 0) ⌝ }
     ensures { λ _. ⌜ now (plan .exit) ≡ given (now (vertices .entry)) n (now (edges .entry)) m (options .«disallow_adjacent_same_size_regions») (options .«allow_extra_walls») ⌝ }
@@ -226,7 +226,7 @@ fn fill_given<'a>(
 }
 
 // How many variables and slots the index has.
-fn fill_totals(variables: usize, slots: usize, plan: &mut PlanWords)
+fn fill_totals(variables: usize, slots: usize, plan: &mut Plan)
     requires { ⌜ (variables ≤ 2176) × (slots ≤ 2176) ⌝ }
     ensures { λ _. ⌜ now (plan .exit) ≡ set (set (now (plan .entry)) 4 variables) 5 slots ⌝ }
 {
@@ -235,7 +235,7 @@ fn fill_totals(variables: usize, slots: usize, plan: &mut PlanWords)
 }
 
 // Adds the index to a plan's words.
-fn fill_index(plan: &mut PlanWords)
+fn fill_index(plan: &mut Plan)
     ensures { λ _. ⌜ now (plan .exit) ≡ withIndex (now (plan .entry)) ⌝ }
 {
     let mut index = no_index();

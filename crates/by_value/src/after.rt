@@ -2,14 +2,14 @@
 use graph_division::GraphDivision;
 use lent::Done;
 use lists::ReasonList;
-use noting::NotedWords;
+use noting::Noted;
 ghost use mathlib.Core.Path.{_≡_};
 ghost use Rattle.lent.specs.Lent.{stateAfter};
 
 // The state after a call on its parts.
 pub(crate) fn state_after(
     s: GraphDivision,
-    noted: NotedWords,
+    noted: Noted,
     proposals: &[u64],
     left: ReasonList,
     done: Done,

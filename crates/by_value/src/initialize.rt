@@ -5,7 +5,7 @@ use graph_division::Outcome;
 use lent::Done;
 use lent::initialize::is_consistent;
 use lists::ReasonList;
-use noting::NotedWords;
+use noting::Noted;
 use undo_log::Cursor;
 ghost use mathlib.Core.Path.{_≡_};
 ghost use Rattle.graph_division.specs.Calls.{called};
@@ -15,7 +15,7 @@ ghost use Rattle.lent.specs.Lent.{begunAfter};
 // The state after an initialise: a consistent one is marked in it.
 fn begun_after(
     s: GraphDivision,
-    noted: NotedWords,
+    noted: Noted,
     words: &[u64],
     left: ReasonList,
     done: Done,

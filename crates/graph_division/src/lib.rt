@@ -4,8 +4,8 @@ use builder::input::EdgeNumbers;
 use builder::input::VertexNumbers;
 use edge_table::EdgeTable;
 use lists::ReasonList;
-use noting::NotedWords;
-use plan::PlanWords;
+use noting::Noted;
+use plan::Plan;
 use recorded::Reasons;
 use undo_log::Cursor;
 ghost use mathlib.Core.Path.{_≡_};
@@ -14,11 +14,11 @@ ghost use Rattle.graph_division.specs.New.{built};
 
 pub struct GraphDivision {
     // The plan's words, read through the functions of crate `plan`.
-    pub plan: PlanWords,
+    pub plan: Plan,
     // The edges' ends.
     pub edges: EdgeTable,
     // Edge states and bounds, read through the functions of crate `noting`.
-    pub noted: NotedWords,
+    pub noted: Noted,
     // The reason recorded for each of the distinct literals.
     pub reasons: Reasons,
     // The list last left: the first `last_len` entries.
@@ -54,7 +54,7 @@ pub struct Built {
     pub state: GraphDivision,
 }
 
-fn no_notes() -> NotedWords
+fn no_notes() -> Noted
     ensures { λ r. ⌜ r ≡ replicate 384 0 ⌝ }
 {
     [0u32; 384]

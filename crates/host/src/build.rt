@@ -7,8 +7,8 @@ use builder::build::GraphDivisionOptions;
 use builder::input::EdgeNumbers;
 use builder::input::VertexNumbers;
 use edge_table::Edges;
-use noting::NotedWords;
-use plan::PlanWords;
+use noting::Noted;
+use plan::Plan;
 ghost use mathlib.Core.Path.{_≡_};
 ghost use mathlib.Core.Bool.{not, false};
 ghost use Prim.Native.Nat.{ℕ, _+_, _*_, _≤_, _<_};
@@ -74,7 +74,7 @@ fn store_plan(state: &mut [u8], plan: &[u32])
 }
 
 // And the noted ones.
-fn store_words<'a>(state: &mut [u8], plan: &'a PlanWords, noted: &'a NotedWords)
+fn store_words<'a>(state: &mut [u8], plan: &'a Plan, noted: &'a Noted)
     requires { ⌜ 133440 ≤ length (now state) ⌝ }
     ensures { λ _. ⌜ (now (state .exit) ≡ putNoted (now (noted .entry)) (putWords 0 (now (plan .entry)) 15241 (now (state .entry))))
         × ((i : ℕ) → i < 15241 → wordAt (now (state .exit)) (4 * i) ≡ getD (now (plan .entry)) i 0) × (wordsIn (now (state .exit)) 61220 384 ≡ now (noted .entry)) ⌝ }

@@ -22,8 +22,8 @@ use crate::store::store_noted;
 use crate::store::store_reasons;
 use edge_table::Edges;
 use lent::Done;
-use noting::NotedWords;
-use plan::PlanWords;
+use noting::Noted;
+use plan::Plan;
 use undo_log::Cursor;
 ghost use mathlib.Core.Path.{_≡_};
 ghost use Prim.Native.Nat.{ℕ, _+_, _*_, _≤_, _<_};
@@ -40,7 +40,7 @@ ghost use Rattle.graph_division.specs.Calls.{undone};
 // The state's words that a call has changed.
 fn store_state(
     state: &mut [u8],
-    plan: &PlanWords,
+    plan: &Plan,
     noted: &[u32],
     proposals: &[u64],
     words: &[u32],
@@ -65,7 +65,7 @@ fn store_state(
 // What the call changed is written back, unless it is refused.
 pub(crate) fn finish(
     state: &mut [u8],
-    plan: &PlanWords,
+    plan: &Plan,
     noted: &[u32],
     proposals: &[u64],
     words: &[u32],
@@ -100,9 +100,9 @@ pub(crate) fn finish(
 // The literal is notified over the decoded words, where lits and records have as many entries as the list and the log.
 fn notify(
     state: &mut [u8],
-    plan: &PlanWords,
+    plan: &Plan,
     edges: Edges,
-    noted: &mut NotedWords,
+    noted: &mut Noted,
     lits: &mut [u32],
     records: &mut [u64],
     table: &mut [u8],
@@ -195,9 +195,9 @@ pub(crate) fn propagate(
 // The newest notification is taken back over the decoded words.
 fn take_back<'a>(
     state: &mut [u8],
-    plan: &'a PlanWords,
+    plan: &'a Plan,
     edges: Edges,
-    noted: &mut NotedWords,
+    noted: &mut Noted,
     records: &'a [u64],
     cursor: &mut [u8],
     before: Cursor,

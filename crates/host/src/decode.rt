@@ -5,9 +5,9 @@ use crate::bytes::read_words;
 use crate::bytes::word_at;
 use edge_table::Edges;
 use lists::ReasonList;
-use noting::NotedWords;
-use plan::PlanWords;
-use reasons::ProposalWords;
+use noting::Noted;
+use plan::Plan;
+use reasons::Proposals;
 use undo_log::Cursor;
 ghost use mathlib.Core.Path.{_≡_};
 ghost use mathlib.Core.List.{_∷_, []};
@@ -124,13 +124,13 @@ pub(crate) fn read_log(log: &[u8], cursor: Cursor, records: &mut [u64])
     read_longs(log, n, records);
 }
 
-pub(crate) fn no_plan() -> PlanWords
+pub(crate) fn no_plan() -> Plan
     ensures { λ r. ⌜ r ≡ replicate 15241 0 ⌝ }
 {
     [0u32; 15241]
 }
 
-pub(crate) fn no_notes() -> NotedWords
+pub(crate) fn no_notes() -> Noted
     ensures { λ r. ⌜ r ≡ replicate 384 0 ⌝ }
 {
     [0u32; 384]
@@ -154,7 +154,7 @@ pub(crate) fn no_records() -> [u64; 4352]
     [0u64; 4352]
 }
 
-pub(crate) fn no_words() -> ProposalWords
+pub(crate) fn no_words() -> Proposals
     ensures { λ r. ⌜ r ≡ replicate 8704 0 ⌝ }
 {
     [0u64; 8704]

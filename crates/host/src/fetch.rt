@@ -17,8 +17,8 @@ use crate::decode::room_of;
 use crate::store::store_list;
 use edge_table::Edges;
 use graph_division::Answer;
-use noting::NotedWords;
-use plan::PlanWords;
+use noting::Noted;
+use plan::Plan;
 use undo_log::Cursor;
 ghost use mathlib.Core.Path.{_≡_};
 ghost use Prim.Native.Nat.{ℕ, _+_, _*_, _≤_, _<_};
@@ -40,9 +40,9 @@ fn reason_word(state: &[u8], at: usize, p: usize) -> u64
 
 fn find_reason<'a>(
     state: &'a [u8],
-    plan: &'a PlanWords,
+    plan: &'a Plan,
     edges: Edges,
-    noted: &'a NotedWords,
+    noted: &'a Noted,
     records: &'a [u64],
     before: Cursor,
     lit: i32,
@@ -60,9 +60,9 @@ fn find_reason<'a>(
 
 fn find_last<'a>(
     state: &'a [u8],
-    plan: &'a PlanWords,
+    plan: &'a Plan,
     edges: Edges,
-    noted: &'a NotedWords,
+    noted: &'a Noted,
     records: &'a [u64],
     before: Cursor,
     out: &mut [u32],
@@ -87,9 +87,9 @@ fn give(buffer: &mut [u8], out: &[u32], answer: Answer) -> i32
 
 fn give_reason<'a>(
     state: &'a [u8],
-    plan: &'a PlanWords,
+    plan: &'a Plan,
     edges: Edges,
-    noted: &'a NotedWords,
+    noted: &'a Noted,
     records: &'a [u64],
     before: Cursor,
     lit: i32,
@@ -105,9 +105,9 @@ fn give_reason<'a>(
 
 fn give_last<'a>(
     state: &'a [u8],
-    plan: &'a PlanWords,
+    plan: &'a Plan,
     edges: Edges,
-    noted: &'a NotedWords,
+    noted: &'a Noted,
     records: &'a [u64],
     before: Cursor,
     out: &mut [u32],

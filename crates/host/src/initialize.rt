@@ -17,8 +17,8 @@ use crate::decode::room_of;
 use edge_table::Edges;
 use graph_division::Answer;
 use lent::initialize::is_consistent;
-use noting::NotedWords;
-use plan::PlanWords;
+use noting::Noted;
+use plan::Plan;
 use undo_log::Cursor;
 ghost use mathlib.Core.Path.{_≡_};
 ghost use mathlib.Core.Bool.{true, false, not};
@@ -57,9 +57,9 @@ fn store_initialized(state: &mut [u8], answer: Answer)
 // The initialise over the decoded words, where lits and records have as many entries as the list and the log, and last is the list last left.
 fn begin(
     state: &mut [u8],
-    plan: &PlanWords,
+    plan: &Plan,
     edges: Edges,
-    noted: &mut NotedWords,
+    noted: &mut Noted,
     last: &mut [u32],
     lits: &mut [u32],
     records: &mut [u64],

@@ -5,7 +5,7 @@ use crate::bytes::write_halves;
 use crate::bytes::write_longs;
 use crate::bytes::write_words;
 use crate::decode::capped;
-use plan::PlanWords;
+use plan::Plan;
 use undo_log::Cursor;
 ghost use mathlib.Core.Path.{_≡_};
 ghost use Prim.Native.Nat.{ℕ, _+_, _-_, _*_, _<_, _≤_};
@@ -25,7 +25,7 @@ fn store_reason(state: &mut [u8], proposals: &[u64], p: usize)
     }
 }
 
-pub(crate) fn store_reasons(state: &mut [u8], plan: &PlanWords, proposals: &[u64])
+pub(crate) fn store_reasons(state: &mut [u8], plan: &Plan, proposals: &[u64])
     requires { ⌜ (133440 ≤ length (now state)) × (length (now proposals) ≡ 8704) ⌝ }
     ensures { λ _. ⌜ now (state .exit) ≡ putReasons (now (plan .entry)) (now (proposals .entry)) (now (state .entry)) ⌝ }
 {

@@ -2,8 +2,8 @@
 use crate::Judgement;
 use edge_table::Edges;
 use lists::conflict::conflict_lits;
-use noting::NotedWords;
-use plan::PlanWords;
+use noting::Noted;
+use plan::Plan;
 use reasons::Verdict;
 use views::cells::separate_ranges;
 use views::compute::compute_view;
@@ -24,9 +24,9 @@ fn judge_list(r: Listed) -> Judgement
 
 // A conflict whose separate ranges are those of the first `count` of `chosen`.
 fn judge_chosen(
-    plan: &PlanWords,
+    plan: &Plan,
     edges: Edges,
-    noted: &NotedWords,
+    noted: &Noted,
     found: Verdict,
     chosen: &[u8; 64],
     count: usize,
@@ -40,9 +40,9 @@ fn judge_chosen(
 
 // A conflict without separate ranges.
 pub(crate) fn judge_conflict(
-    plan: &PlanWords,
+    plan: &Plan,
     edges: Edges,
-    noted: &NotedWords,
+    noted: &Noted,
     found: Verdict,
     left: &mut [u32],
 ) -> Judgement
@@ -54,9 +54,9 @@ pub(crate) fn judge_conflict(
 
 // Separate ranges of a potential region that need more than it weighs.
 pub(crate) fn judge_crowded(
-    plan: &PlanWords,
+    plan: &Plan,
     edges: Edges,
-    noted: &NotedWords,
+    noted: &Noted,
     region: usize,
     left: &mut [u32],
 ) -> Judgement

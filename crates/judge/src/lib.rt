@@ -6,8 +6,8 @@ pub mod proposal;
 use conflict::judge_conflict;
 use conflict::judge_crowded;
 use edge_table::Edges;
-use noting::NotedWords;
-use plan::PlanWords;
+use noting::Noted;
+use plan::Plan;
 use proposal::judge_proposals;
 use reasons::Verdict;
 ghost use mathlib.Core.Path.{_≡_};
@@ -22,7 +22,7 @@ pub enum Judgement {
 }
 
 // Room for the words of all distinct literals, and for any list.
-fn has_room(plan: &PlanWords, proposals: &[u64], left: &[u32]) -> bool
+fn has_room(plan: &Plan, proposals: &[u64], left: &[u32]) -> bool
     ensures { λ r. ⌜ r ≡ hasRoom (now (plan .entry)) (now (proposals .entry)) (now (left .entry)) ⌝ }
 {
     let words = 4 * (plan::num_variables(plan) as usize);
@@ -38,9 +38,9 @@ fn has_room(plan: &PlanWords, proposals: &[u64], left: &[u32]) -> bool
 
 // What the analysis found, by its verdict.
 fn judge_found(
-    plan: &PlanWords,
+    plan: &Plan,
     edges: Edges,
-    noted: &NotedWords,
+    noted: &Noted,
     table: &[u8],
     found: Verdict,
     proposals: &[u64],
@@ -68,9 +68,9 @@ fn judge_found(
 
 // Analyzes what is noted and judges it. The proposals' words are those of this analysis after it.
 pub fn judge(
-    plan: &PlanWords,
+    plan: &Plan,
     edges: Edges,
-    noted: &NotedWords,
+    noted: &Noted,
     table: &[u8],
     proposals: &mut [u64],
     left: &mut [u32],

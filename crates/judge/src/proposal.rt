@@ -4,8 +4,8 @@ use crate::Judgement;
 use edge_table::Edges;
 use lists::and_word;
 use lists::reason_lits;
-use noting::NotedWords;
-use plan::PlanWords;
+use noting::Noted;
+use plan::Plan;
 use reasons::reason::Reason;
 use reasons::reason::reason_of;
 use sweep::first_false;
@@ -46,7 +46,7 @@ fn negation(lit: u32) -> u32
 }
 
 // The negation of the literal at place p; a word of the list has 32 bits.
-fn negation_at(plan: &PlanWords, p: usize) -> u32
+fn negation_at(plan: &Plan, p: usize) -> u32
     ensures { λ r. ⌜ r ≡ negationAt (now (plan .entry)) p ⌝ }
 {
     negation((plan::unique_lit(plan, p) % 4294967296) as u32)
@@ -54,9 +54,9 @@ fn negation_at(plan: &PlanWords, p: usize) -> u32
 
 // The reason's list, then the negation.
 fn false_lits(
-    plan: &PlanWords,
+    plan: &Plan,
     edges: Edges,
-    noted: &NotedWords,
+    noted: &Noted,
     proposals: &[u64],
     p: usize,
     left: &mut [u32],
@@ -86,9 +86,9 @@ fn judge_current(table: &[u8], r: Listed, left: &[u32]) -> Judgement
 
 // The false proposal at place p.
 fn judge_false(
-    plan: &PlanWords,
+    plan: &Plan,
     edges: Edges,
-    noted: &NotedWords,
+    noted: &Noted,
     table: &[u8],
     proposals: &[u64],
     p: usize,
@@ -102,9 +102,9 @@ fn judge_false(
 }
 
 pub(crate) fn judge_proposals(
-    plan: &PlanWords,
+    plan: &Plan,
     edges: Edges,
-    noted: &NotedWords,
+    noted: &Noted,
     table: &[u8],
     proposals: &[u64],
     left: &mut [u32],

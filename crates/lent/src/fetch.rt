@@ -1,8 +1,8 @@
 // The Rust's `calc_reason`, with a literal and without one. A fetch changes nothing but the buffer that it is lent.
 use edge_table::Edges;
 use graph_division::Answer;
-use noting::NotedWords;
-use plan::PlanWords;
+use noting::Noted;
+use plan::Plan;
 use reasons::reason::Reason;
 use undo_log::Cursor;
 use walks::Listed;
@@ -103,7 +103,7 @@ fn give(list: &[u32], listed: Listed, buffer: &mut [u32]) -> Answer
 }
 
 // The place of the literal among the distinct literals.
-pub fn place_of(plan: &PlanWords, lit: u16) -> usize
+pub fn place_of(plan: &Plan, lit: u16) -> usize
     ensures { λ r. ⌜ r ≡ placeOfLit (now (plan .entry)) lit ⌝ }
 {
     let k = noting::note::place_in(plan, (lit / 2) as u32) % 2147483648;
@@ -111,13 +111,7 @@ pub fn place_of(plan: &PlanWords, lit: u16) -> usize
 }
 
 // A reason's list, made of the edges connected and disconnected now.
-fn calc(
-    plan: &PlanWords,
-    edges: Edges,
-    noted: &NotedWords,
-    reason: Reason,
-    buffer: &mut [u32],
-) -> Answer
+fn calc(plan: &Plan, edges: Edges, noted: &Noted, reason: Reason, buffer: &mut [u32]) -> Answer
     ensures { λ r. ⌜ ((rs : Reasons) (last : List ℕ) (len : ℕ) (b : Bool) →
         fetched r (now (buffer .exit)) ≡ giving (stateOf (now (plan .entry)) edges (now (noted .entry)) rs last len b) reason (now (buffer .entry))) ⌝ }
 {
@@ -131,9 +125,9 @@ fn calc(
 
 // A literal's reason: the list of what an analysis recorded for it, which the caller reads at the literal's place.
 pub fn calc_reason<'a>(
-    plan: &'a PlanWords,
+    plan: &'a Plan,
     edges: Edges,
-    noted: &'a NotedWords,
+    noted: &'a Noted,
     log: &'a [u64],
     cursor: Cursor,
     lit: i32,
@@ -157,9 +151,9 @@ pub fn calc_reason<'a>(
 
 // The list last left, which stands in `last`, up to `len`: empty before any analysis and after a consistent notification.
 pub fn calc_last<'a>(
-    plan: &'a PlanWords,
+    plan: &'a Plan,
     edges: Edges,
-    noted: &'a NotedWords,
+    noted: &'a Noted,
     log: &'a [u64],
     cursor: Cursor,
     last: &'a [u32],

@@ -10,8 +10,8 @@ use judge::Judgement;
 use notifications::Progress;
 use notifications::go_through;
 use notifications::lit_at;
-use noting::NotedWords;
-use plan::PlanWords;
+use noting::Noted;
+use plan::Plan;
 use undo_log::Cursor;
 ghost use mathlib.Core.Path.{_≡_};
 ghost use mathlib.Core.Bool.{Bool};
@@ -27,9 +27,9 @@ ghost use Rattle.lent.specs.Lent.{stateOf, Parts, isConsistent, begunOf,
 
 // The literal at place p is noted in the words and in the log, where it is true in the table on entry.
 fn note_at(
-    plan: &PlanWords,
+    plan: &Plan,
     entry: &[u8],
-    noted: &mut NotedWords,
+    noted: &mut Noted,
     log: &mut [u64],
     cursor: Cursor,
     p: usize,
@@ -44,9 +44,9 @@ fn note_at(
 
 // Those of the places below `past`.
 fn note_up_to(
-    plan: &PlanWords,
+    plan: &Plan,
     entry: &[u8],
-    noted: &mut NotedWords,
+    noted: &mut Noted,
     log: &mut [u64],
     cursor: Cursor,
     past: usize,
@@ -70,9 +70,9 @@ fn no_handed() -> [u32; 8704]
 
 // What was tried out is taken over into the noted words and the log, or taken back.
 fn finish(
-    plan: &PlanWords,
+    plan: &Plan,
     entry: &[u8],
-    noted: &mut NotedWords,
+    noted: &mut Noted,
     table: &mut [u8],
     list: &mut [u32],
     log: &mut [u64],
@@ -121,9 +121,9 @@ fn finish(
 
 // All is tried out, on a copy of the noted words and on the table in place.
 fn begin(
-    plan: &PlanWords,
+    plan: &Plan,
     edges: Edges,
-    noted: &mut NotedWords,
+    noted: &mut Noted,
     words: &mut [u64],
     left: &mut [u32],
     table: &mut [u8],
@@ -162,9 +162,9 @@ fn begin(
 // in `left`, up to `last_len`, and `done` says whether an initialise was consistent before. The words are those of all its analyses, the
 // newest of each place, over what they held before: a caller lends zeros.
 pub fn initialize(
-    plan: &PlanWords,
+    plan: &Plan,
     edges: Edges,
-    noted: &mut NotedWords,
+    noted: &mut Noted,
     words: &mut [u64],
     left: &mut [u32],
     table: &mut [u8],

@@ -4,9 +4,9 @@ use edge_table::Edges;
 use graph_division::Answer;
 use judge::Judgement;
 use notifications::try_out;
-use noting::NotedWords;
+use noting::Noted;
 use noting::note::note;
-use plan::PlanWords;
+use plan::Plan;
 use undo_log::Cursor;
 ghost use mathlib.Core.Path.{_≡_};
 ghost use mathlib.Core.Bool.{Bool};
@@ -18,7 +18,7 @@ ghost use Rattle.graph_division.specs.Calls.{adding};
 ghost use Rattle.lent.specs.Lent.{stateOf, Parts, calledOf, settledOver, propagatedOver};
 
 // The literal is noted and nothing is analyzed.
-fn add(plan: &PlanWords, noted: &mut NotedWords, log: &mut [u64], cursor: Cursor, lit: u16) -> Done
+fn add(plan: &Plan, noted: &mut Noted, log: &mut [u64], cursor: Cursor, lit: u16) -> Done
     ensures { λ r. ⌜ ((ends : List (List ℕ)) (rs : Reasons) (last : List ℕ) (len : ℕ) (b : Bool) (proposals left t list : List ℕ) →
         calledOf (stateOf (now (plan .entry)) ends (now (noted .entry)) rs last len b) (now (noted .exit)) proposals left r t list (now (log .exit))
         ≡ adding (stateOf (now (plan .entry)) ends (now (noted .entry)) rs last len b) cursor lit t list (now (log .entry))) ⌝ }
@@ -34,9 +34,9 @@ fn add(plan: &PlanWords, noted: &mut NotedWords, log: &mut [u64], cursor: Cursor
 
 // The literal is tried out and analyzed; it is noted where the analysis is accepted.
 fn settle(
-    plan: &PlanWords,
+    plan: &Plan,
     edges: Edges,
-    noted: &mut NotedWords,
+    noted: &mut Noted,
     proposals: &mut [u64],
     left: &mut [u32],
     table: &mut [u8],
@@ -84,9 +84,9 @@ fn settle(
 // Notifies the literal. With a pending number other than 0 it is only noted. The proposals and the list left are those of the analysis
 // after it, over what they held before: a caller lends zeros.
 pub fn propagate(
-    plan: &PlanWords,
+    plan: &Plan,
     edges: Edges,
-    noted: &mut NotedWords,
+    noted: &mut Noted,
     proposals: &mut [u64],
     left: &mut [u32],
     table: &mut [u8],

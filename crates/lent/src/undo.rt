@@ -2,8 +2,8 @@
 use crate::Done;
 use edge_table::Edges;
 use graph_division::Answer;
-use noting::NotedWords;
-use plan::PlanWords;
+use noting::Noted;
+use plan::Plan;
 use undo_log::Cursor;
 ghost use mathlib.Core.Path.{_≡_};
 ghost use mathlib.Core.Bool.{false};
@@ -13,9 +13,9 @@ ghost use Rattle.lent.specs.Lent.{Parts};
 
 // Takes back the newest notification, which must be the literal's: 11 where it is not. There is no analysis, so nothing is to be recorded.
 pub fn undo<'a>(
-    plan: &'a PlanWords,
+    plan: &'a Plan,
     edges: Edges,
-    noted: &mut NotedWords,
+    noted: &mut Noted,
     log: &'a [u64],
     cursor: Cursor,
     lit: i32,

@@ -8,8 +8,8 @@ use crate::path;
 use crate::potential;
 use crate::wide;
 use edge_table::Edges;
-use noting::NotedWords;
-use plan::PlanWords;
+use noting::Noted;
+use plan::Plan;
 use reasons::Verdict;
 use walks::Listed;
 ghost use mathlib.Core.Path.{_≡_};
@@ -18,7 +18,7 @@ ghost use Rattle.walks.specs.Answers.{answerOf};
 ghost use Rattle.lists.specs.Conflicts.{numChosen, spanAfter, spansAfter, chosenOf, apartLits, conflictLits};
 
 // The bound literals of vertex v after a list.
-fn span(noted: &NotedWords, v: usize, r: Listed, out: &mut [u32]) -> Listed
+fn span(noted: &Noted, v: usize, r: Listed, out: &mut [u32]) -> Listed
     ensures { λ a. ⌜ answerOf a (now (out .exit)) ≡ spanAfter (now (noted .entry)) v (answerOf r (now (out .entry))) ⌝ }
 {
     let s = and_lit(r, noting::lower_bound_lit(noted, v), out);
@@ -35,7 +35,7 @@ fn num_chosen(count: usize) -> usize
 }
 
 // Those of the vertices chosen.
-fn spans(noted: &NotedWords, chosen: &[u8; 64], count: usize, r: Listed, out: &mut [u32]) -> Listed
+fn spans(noted: &Noted, chosen: &[u8; 64], count: usize, r: Listed, out: &mut [u32]) -> Listed
     ensures { λ a. ⌜ answerOf a (now (out .exit)) ≡ spansAfter (now (noted .entry)) (chosenOf (now (chosen .entry)) count) (answerOf r (now (out .entry))) ⌝ }
 {
     let n = num_chosen(count);
@@ -50,9 +50,9 @@ fn spans(noted: &NotedWords, chosen: &[u8; 64], count: usize, r: Listed, out: &m
 
 // Bounds of one region that do not meet.
 fn apart(
-    plan: &PlanWords,
+    plan: &Plan,
     edges: Edges,
-    noted: &NotedWords,
+    noted: &Noted,
     a: usize,
     b: usize,
     out: &mut [u32],
@@ -69,9 +69,9 @@ fn apart(
 // The list of a conflict. Of a potential region whose ranges need more than it weighs, the vertices of these ranges are the first
 // `count` of `chosen`. What is no conflict has no list.
 pub fn conflict_lits(
-    plan: &PlanWords,
+    plan: &Plan,
     edges: Edges,
-    noted: &NotedWords,
+    noted: &Noted,
     verdict: Verdict,
     chosen: &[u8; 64],
     count: usize,

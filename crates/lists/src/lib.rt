@@ -3,8 +3,8 @@
 pub mod conflict;
 
 use edge_table::Edges;
-use noting::NotedWords;
-use plan::PlanWords;
+use noting::Noted;
+use plan::Plan;
 use reasons::reason::Reason;
 use sat::OptLit;
 use walks::Listed;
@@ -26,7 +26,7 @@ struct Ends {
     v: usize,
 }
 
-fn shape_of(plan: &PlanWords) -> Shape
+fn shape_of(plan: &Plan) -> Shape
     ensures { λ r. ⌜ r ≡ shapeOf (now (plan .entry)) ⌝ }
 {
     Shape {
@@ -57,36 +57,22 @@ fn ends_of(edges: Edges, g: usize, flip: bool) -> Ends
     Ends { u: 0, v: 0 }
 }
 
-fn path(
-    plan: &PlanWords,
-    edges: Edges,
-    noted: &NotedWords,
-    p: Ends,
-    out: &mut [u32],
-    at: usize,
-) -> Listed
+fn path(plan: &Plan, edges: Edges, noted: &Noted, p: Ends, out: &mut [u32], at: usize) -> Listed
     ensures { λ r. ⌜ answerOf r (now (out .exit)) ≡ path (now (plan .entry)) edges (now (noted .entry)) p (outOf (now (out .entry)) at) ⌝ }
 {
     walks::reason_connected_path(edges, noted, plan, shape_of(plan), p.u, p.v, out, at)
 }
 
-fn decided(
-    plan: &PlanWords,
-    edges: Edges,
-    noted: &NotedWords,
-    u: usize,
-    out: &mut [u32],
-    at: usize,
-) -> Listed
+fn decided(plan: &Plan, edges: Edges, noted: &Noted, u: usize, out: &mut [u32], at: usize) -> Listed
     ensures { λ r. ⌜ answerOf r (now (out .exit)) ≡ decided (now (plan .entry)) edges (now (noted .entry)) u (outOf (now (out .entry)) at) ⌝ }
 {
     walks::reason_decided_region(edges, noted, plan, shape_of(plan), u, out, at)
 }
 
 fn potential(
-    plan: &PlanWords,
+    plan: &Plan,
     edges: Edges,
-    noted: &NotedWords,
+    noted: &Noted,
     u: usize,
     out: &mut [u32],
     at: usize,
@@ -138,9 +124,9 @@ fn and_lit(r: Listed, x: u32, out: &mut [u32]) -> Listed
 }
 
 fn two_paths(
-    plan: &PlanWords,
+    plan: &Plan,
     edges: Edges,
-    noted: &NotedWords,
+    noted: &Noted,
     p: Ends,
     q: Ends,
     out: &mut [u32],
@@ -156,9 +142,9 @@ fn two_paths(
 }
 
 fn two_regions(
-    plan: &PlanWords,
+    plan: &Plan,
     edges: Edges,
-    noted: &NotedWords,
+    noted: &Noted,
     u: usize,
     v: usize,
     out: &mut [u32],
@@ -174,14 +160,7 @@ fn two_regions(
 }
 
 // The path from one end of edge g to the other.
-fn inside(
-    plan: &PlanWords,
-    edges: Edges,
-    noted: &NotedWords,
-    g: usize,
-    out: &mut [u32],
-    at: usize,
-) -> Listed
+fn inside(plan: &Plan, edges: Edges, noted: &Noted, g: usize, out: &mut [u32], at: usize) -> Listed
     ensures { λ r. ⌜ answerOf r (now (out .exit)) ≡ inside (now (plan .entry)) edges (now (noted .entry)) g (outOf (now (out .entry)) at) ⌝ }
 {
     path(plan, edges, noted, ends_of(edges, g, false), out, at)
@@ -189,9 +168,9 @@ fn inside(
 
 // EdgeBetweenDifferentGroups.
 fn between(
-    plan: &PlanWords,
+    plan: &Plan,
     edges: Edges,
-    noted: &NotedWords,
+    noted: &Noted,
     h: u8,
     g: u8,
     flip: bool,
@@ -210,9 +189,9 @@ fn between(
 
 // TooLargeIfRegionsAreMerged.
 fn too_large(
-    plan: &PlanWords,
+    plan: &Plan,
     edges: Edges,
-    noted: &NotedWords,
+    noted: &Noted,
     g: u8,
     l: OptLit,
     out: &mut [u32],
@@ -227,9 +206,9 @@ fn too_large(
 
 // InconsistentBoundsIfRegionsAreMerged; no list for any other reason.
 fn mismatch(
-    plan: &PlanWords,
+    plan: &Plan,
     edges: Edges,
-    noted: &NotedWords,
+    noted: &Noted,
     reason: Reason,
     out: &mut [u32],
     at: usize,
@@ -260,9 +239,9 @@ fn mismatch(
 
 // BoundPropagationWithinRegion.
 fn spread(
-    plan: &PlanWords,
+    plan: &Plan,
     edges: Edges,
-    noted: &NotedWords,
+    noted: &Noted,
     k: u8,
     u: u8,
     l: OptLit,
@@ -281,9 +260,9 @@ fn spread(
 
 // Two regions and a third one.
 fn three_regions(
-    plan: &PlanWords,
+    plan: &Plan,
     edges: Edges,
-    noted: &NotedWords,
+    noted: &Noted,
     a: usize,
     b: usize,
     u: usize,
@@ -301,9 +280,9 @@ fn three_regions(
 
 // AdjacentSameSizeRegions; no list for any other reason.
 fn same_size(
-    plan: &PlanWords,
+    plan: &Plan,
     edges: Edges,
-    noted: &NotedWords,
+    noted: &Noted,
     reason: Reason,
     out: &mut [u32],
     at: usize,
@@ -340,9 +319,9 @@ fn same_size(
 // The Rust's `get_reason_lits`, where the edges and bounds are as noted. There is no list where a path is gone; if it is the second
 // of two, the literals of the first are written.
 pub fn reason_lits(
-    plan: &PlanWords,
+    plan: &Plan,
     edges: Edges,
-    noted: &NotedWords,
+    noted: &Noted,
     reason: Reason,
     out: &mut [u32],
     at: usize,

@@ -5,8 +5,8 @@ pub mod merge;
 use crate::merge::merge;
 use edge_table::Edges;
 use judge::Judgement;
-use noting::NotedWords;
-use plan::PlanWords;
+use noting::Noted;
+use plan::Plan;
 use undo_log::Cursor;
 ghost use mathlib.Core.Path.{_≡_};
 ghost use Prim.Native.Nat.{_<_};
@@ -25,14 +25,14 @@ pub struct Progress {
 }
 
 // The literal at place p; a literal has 16 bits.
-pub fn lit_at(plan: &PlanWords, p: usize) -> u16
+pub fn lit_at(plan: &Plan, p: usize) -> u16
     ensures { λ r. ⌜ r ≡ litAt (now (plan .entry)) p ⌝ }
 {
     (plan::unique_lit(plan, p) % 65536) as u16
 }
 
 // The words noted with literal `lit`, tried out with no log.
-pub fn try_out(plan: &PlanWords, noted: &mut NotedWords, lit: u16)
+pub fn try_out(plan: &Plan, noted: &mut Noted, lit: u16)
     ensures { λ _. ⌜ now (noted .exit) ≡ triedOut (now (plan .entry)) lit (now (noted .entry)) ⌝ }
 {
     let mut none = [0u64; 1];
@@ -45,9 +45,9 @@ pub fn try_out(plan: &PlanWords, noted: &mut NotedWords, lit: u16)
 
 // What is noted is analyzed and judged; an analysis that is not refused is kept, and a fine one handed on.
 fn join(
-    plan: &PlanWords,
+    plan: &Plan,
     edges: Edges,
-    noted: &NotedWords,
+    noted: &Noted,
     table: &mut [u8],
     list: &mut [u32],
     words: &mut [u64],
@@ -89,11 +89,11 @@ fn join(
 
 // The literal at place p is notified, unless its variable stood on entry: refusal 10.
 fn notify(
-    plan: &PlanWords,
+    plan: &Plan,
     edges: Edges,
     log: &[u64],
     used: usize,
-    noted: &mut NotedWords,
+    noted: &mut Noted,
     table: &mut [u8],
     list: &mut [u32],
     words: &mut [u64],
@@ -138,7 +138,7 @@ fn is_fine(j: Judgement) -> bool
 }
 
 // Whether it is the turn of the literal at place p: `entry` is the table on entry.
-fn is_due(plan: &PlanWords, entry: &[u8], j: Judgement, p: usize) -> bool
+fn is_due(plan: &Plan, entry: &[u8], j: Judgement, p: usize) -> bool
     ensures { λ r. ⌜ r ≡ isDue (now (plan .entry)) (now (entry .entry)) j p ⌝ }
 {
     if is_fine(j) {
@@ -149,12 +149,12 @@ fn is_due(plan: &PlanWords, entry: &[u8], j: Judgement, p: usize) -> bool
 
 // The literal at place p is notified where it is true in the table on entry, unless there was a conflict or a refusal.
 fn notify_at(
-    plan: &PlanWords,
+    plan: &Plan,
     edges: Edges,
     entry: &[u8],
     log: &[u64],
     used: usize,
-    noted: &mut NotedWords,
+    noted: &mut Noted,
     table: &mut [u8],
     list: &mut [u32],
     words: &mut [u64],
@@ -188,12 +188,12 @@ fn notify_at(
 
 // In rising order the plan's literals that are true in the table on entry.
 fn notify_all(
-    plan: &PlanWords,
+    plan: &Plan,
     edges: Edges,
     entry: &[u8],
     log: &[u64],
     used: usize,
-    noted: &mut NotedWords,
+    noted: &mut Noted,
     table: &mut [u8],
     list: &mut [u32],
     words: &mut [u64],
@@ -229,9 +229,9 @@ fn notify_all(
 
 // The last pass: what it proposes is kept, neither tested against the table nor handed on.
 fn analyze_once_more(
-    plan: &PlanWords,
+    plan: &Plan,
     edges: Edges,
-    noted: &NotedWords,
+    noted: &Noted,
     words: &mut [u64],
     proposals: &mut [u64],
     left: &mut [u32],
@@ -263,9 +263,9 @@ fn analyze_once_more(
 
 // The last pass, unless there was a conflict or a refusal before it.
 fn last_pass(
-    plan: &PlanWords,
+    plan: &Plan,
     edges: Edges,
-    noted: &NotedWords,
+    noted: &Noted,
     words: &mut [u64],
     proposals: &mut [u64],
     left: &mut [u32],
@@ -282,12 +282,12 @@ fn last_pass(
 
 // All notifications and the last pass, where the list last left has `len` entries.
 pub fn go_through(
-    plan: &PlanWords,
+    plan: &Plan,
     edges: Edges,
     entry: &[u8],
     log: &[u64],
     used: usize,
-    noted: &mut NotedWords,
+    noted: &mut Noted,
     table: &mut [u8],
     list: &mut [u32],
     words: &mut [u64],

@@ -1,5 +1,5 @@
 // What an analysis proposed is put beside what earlier ones did, two words for each place: the newest stays.
-use plan::PlanWords;
+use plan::Plan;
 ghost use mathlib.Core.Path.{_≡_};
 ghost use Prim.Native.Nat.{_*_, _+_, _<_};
 ghost use lib.ListN.{getD, set};
@@ -32,7 +32,7 @@ fn merge_at(proposals: &[u64], words: &mut [u64], p: usize)
     }
 }
 
-pub fn merge(plan: &PlanWords, proposals: &[u64], words: &mut [u64])
+pub fn merge(plan: &Plan, proposals: &[u64], words: &mut [u64])
     ensures { λ _. ⌜ now (words .exit) ≡ merged (now (plan .entry)) (now (proposals .entry)) (now (words .entry)) ⌝ }
 {
     let n = 2 * (plan::num_variables(plan) as usize);

@@ -1,5 +1,5 @@
 // Refusal 7's tests of the lent buffers.
-use plan::PlanWords;
+use plan::Plan;
 ghost use mathlib.Core.Path.{_≡_};
 ghost use Prim.Native.Nat.{ℕ, _≤_};
 ghost use lib.ListN.{length};
@@ -7,7 +7,7 @@ ghost use Rattle.base.specs.Lists.{some};
 ghost use Rattle.noting.specs.Buffers.{tableLen, codeBad, tableBad, listShort, reasonShort, logShort};
 
 // The largest variable and one, 0 with none.
-pub fn table_len(plan: &PlanWords) -> usize
+pub fn table_len(plan: &Plan) -> usize
     ensures { λ r. ⌜ r ≡ tableLen (now (plan .entry)) ⌝ }
 {
     let n = plan::num_variables(plan) as usize;
@@ -32,7 +32,7 @@ fn some_code_bad(table: &[u8]) -> bool
     bad
 }
 
-pub fn table_bad(plan: &PlanWords, table: &[u8]) -> bool
+pub fn table_bad(plan: &Plan, table: &[u8]) -> bool
     ensures { λ r. ⌜ r ≡ tableBad (now (plan .entry)) (now (table .entry)) ⌝ }
 {
     if table.len() < table_len(plan) {
@@ -41,19 +41,19 @@ pub fn table_bad(plan: &PlanWords, table: &[u8]) -> bool
     some_code_bad(table)
 }
 
-pub fn list_short(plan: &PlanWords, n: usize) -> bool
+pub fn list_short(plan: &Plan, n: usize) -> bool
     ensures { λ r. ⌜ r ≡ listShort (now (plan .entry)) n ⌝ }
 {
     n < 2 * (plan::num_variables(plan) as usize)
 }
 
-pub fn reason_short(plan: &PlanWords, n: usize) -> bool
+pub fn reason_short(plan: &Plan, n: usize) -> bool
     ensures { λ r. ⌜ r ≡ reasonShort (now (plan .entry)) n ⌝ }
 {
     n < plan::num_edges(plan) as usize + 2 * (plan::num_vertices(plan) as usize) + 4
 }
 
-pub fn log_short(plan: &PlanWords, n: usize) -> bool
+pub fn log_short(plan: &Plan, n: usize) -> bool
     ensures { λ r. ⌜ r ≡ logShort (now (plan .entry)) n ⌝ }
 {
     n < 2 * (plan::num_slots(plan) as usize)

@@ -6,7 +6,7 @@ pub mod replay;
 pub mod stands;
 pub mod undo;
 
-use plan::PlanWords;
+use plan::Plan;
 ghost use mathlib.Core.Path.{_≡_};
 ghost use Prim.Native.Nat.{ℕ, _+_, _≤_, _<_};
 ghost use Rattle.base.specs.Lists.{filled};
@@ -14,7 +14,7 @@ ghost use Rattle.noting.specs.Words.{edgeStateOf, boundAt, lowerOf, uppe
 
 pub const NOTED_WORDS: usize = 384;
 
-pub type NotedWords = [u32; NOTED_WORDS];
+pub type Noted = [u32; NOTED_WORDS];
 
 // An edge's states: the Rust's `EdgeState`.
 pub const UNDECIDED: u32 = 0;
@@ -26,7 +26,7 @@ pub const CONNECTED: u32 = 2;
 // The word of a bound that is due to no literal: undo_log::NO_LIT.
 pub const NO_BOUND_LIT: u32 = 65535;
 
-pub fn edge_state(noted: &NotedWords, g: usize) -> u32
+pub fn edge_state(noted: &Noted, g: usize) -> u32
     ensures { λ r. ⌜ r ≡ edgeStateOf (now (noted .entry)) g ⌝ }
 {
     if g < 128 {
@@ -35,7 +35,7 @@ pub fn edge_state(noted: &NotedWords, g: usize) -> u32
     0
 }
 
-fn bound_at(noted: &NotedWords, from: usize, past: u32, v: usize) -> u32
+fn bound_at(noted: &Noted, from: usize, past: u32, v: usize) -> u32
     requires { ⌜ from + 64 ≤ 384 ⌝ }
     ensures { λ r. ⌜ r ≡ boundAt from past (now (noted .entry)) v ⌝ }
 {
@@ -45,26 +45,26 @@ fn bound_at(noted: &NotedWords, from: usize, past: u32, v: usize) -> u32
     past
 }
 
-pub fn lower_bound(noted: &NotedWords, v: usize) -> u32
+pub fn lower_bound(noted: &Noted, v: usize) -> u32
     ensures { λ r. ⌜ r ≡ lowerOf (now (noted .entry)) v ⌝ }
 {
     bound_at(noted, 128, 0, v)
 }
 
-pub fn upper_bound(noted: &NotedWords, v: usize) -> u32
+pub fn upper_bound(noted: &Noted, v: usize) -> u32
     ensures { λ r. ⌜ r ≡ upperOf (now (noted .entry)) v ⌝ }
 {
     bound_at(noted, 192, 0, v)
 }
 
 // The literal that the lower bound is due to, or undo_log::NO_LIT.
-pub fn lower_bound_lit(noted: &NotedWords, v: usize) -> u32
+pub fn lower_bound_lit(noted: &Noted, v: usize) -> u32
     ensures { λ r. ⌜ r ≡ lowerLitOf (now (noted .entry)) v ⌝ }
 {
     bound_at(noted, 256, NO_BOUND_LIT, v)
 }
 
-pub fn upper_bound_lit(noted: &NotedWords, v: usize) -> u32
+pub fn upper_bound_lit(noted: &Noted, v: usize) -> u32
     ensures { λ r. ⌜ r ≡ upperLitOf (now (noted .entry)) v ⌝ }
 {
     bound_at(noted, 320, NO_BOUND_LIT, v)
@@ -79,7 +79,7 @@ fn capped(n: u32, most: u32) -> usize
     most as usize
 }
 
-fn first_size(plan: &PlanWords, v: usize) -> u32
+fn first_size(plan: &Plan, v: usize) -> u32
     ensures { λ r. ⌜ r ≡ firstSize (now (plan .entry)) v ⌝ }
 {
     if 0 < plan::domain_len(plan, v) {
@@ -88,7 +88,7 @@ fn first_size(plan: &PlanWords, v: usize) -> u32
     0
 }
 
-fn last_size(plan: &PlanWords, v: usize) -> u32
+fn last_size(plan: &Plan, v: usize) -> u32
     ensures { λ r. ⌜ r ≡ lastSize (now (plan .entry)) v ⌝ }
 {
     let len = plan::domain_len(plan, v);
@@ -99,7 +99,7 @@ fn last_size(plan: &PlanWords, v: usize) -> u32
 }
 
 // The n words from `from` on become x.
-fn fill(noted: &mut NotedWords, from: usize, n: usize, x: u32)
+fn fill(noted: &mut Noted, from: usize, n: usize, x: u32)
     requires { ⌜ from + n ≤ 384 ⌝ }
     ensures { λ r. ⌜ now (noted .exit) ≡ filled from n (λ v. x) (now (noted .entry)) ⌝ }
 {
@@ -110,7 +110,7 @@ fn fill(noted: &mut NotedWords, from: usize, n: usize, x: u32)
     }
 }
 
-fn fill_first(plan: &PlanWords, noted: &mut NotedWords, n: usize)
+fn fill_first(plan: &Plan, noted: &mut Noted, n: usize)
     requires { ⌜ n ≤ 64 ⌝ }
     ensures { λ r. ⌜ now (noted .exit) ≡ filled 128 n (firstSize (now (plan .entry))) (now (noted .entry)) ⌝ }
 {
@@ -122,7 +122,7 @@ fn fill_first(plan: &PlanWords, noted: &mut NotedWords, n: usize)
     }
 }
 
-fn fill_last(plan: &PlanWords, noted: &mut NotedWords, n: usize)
+fn fill_last(plan: &Plan, noted: &mut Noted, n: usize)
     requires { ⌜ n ≤ 64 ⌝ }
     ensures { λ r. ⌜ now (noted .exit) ≡ filled 192 n (lastSize (now (plan .entry))) (now (noted .entry)) ⌝ }
 {
@@ -135,7 +135,7 @@ fn fill_last(plan: &PlanWords, noted: &mut NotedWords, n: usize)
 }
 
 // Nothing noted. Words that the plan does not use stay as they are.
-pub fn fresh(plan: &PlanWords, noted: &mut NotedWords)
+pub fn fresh(plan: &Plan, noted: &mut Noted)
     ensures { λ r. ⌜ now (noted .exit) ≡ fresh (now (plan .entry)) (now (noted .entry)) ⌝ }
 {
     let vertices = capped(plan::num_vertices(plan), 64);

@@ -1,12 +1,12 @@
 // The Rust's `notify`: a literal is noted in the noted words and in the undo log.
 use crate::CONNECTED;
 use crate::DISCONNECTED;
-use crate::NotedWords;
+use crate::Noted;
 use crate::lower_bound;
 use crate::lower_bound_lit;
 use crate::upper_bound;
 use crate::upper_bound_lit;
-use plan::PlanWords;
+use plan::Plan;
 use undo_log::Cursor;
 use undo_log::EDGE;
 use undo_log::LEVEL_BOUNDARY;
@@ -41,7 +41,7 @@ pub struct Span {
     pub high: usize,
 }
 
-fn size_effect(plan: &PlanWords, noted: &NotedWords, holds: bool, v: usize, j: usize) -> Effect
+fn size_effect(plan: &Plan, noted: &Noted, holds: bool, v: usize, j: usize) -> Effect
     requires { ⌜ (v < 64) × (j < 32) ⌝ }
     ensures { λ r. ⌜ r ≡ sizeEffect (now (plan .entry)) (now (noted .entry)) holds v j ⌝ }
 {
@@ -93,7 +93,7 @@ fn edge_effect(holds: bool, g: usize) -> Effect
     }
 }
 
-pub(crate) fn effect_of(plan: &PlanWords, noted: &NotedWords, lit: u16, s: usize) -> Effect
+pub(crate) fn effect_of(plan: &Plan, noted: &Noted, lit: u16, s: usize) -> Effect
     ensures { λ r. ⌜ r ≡ effectOf (now (plan .entry)) (now (noted .entry)) lit s ⌝ }
 {
     let holds = plan::lit(plan, s) == lit as u32;
@@ -110,7 +110,7 @@ pub(crate) fn effect_of(plan: &PlanWords, noted: &NotedWords, lit: u16, s: usize
     }
 }
 
-pub(crate) fn undo_record(noted: &NotedWords, e: Effect) -> Record
+pub(crate) fn undo_record(noted: &Noted, e: Effect) -> Record
     ensures { λ r. ⌜ r ≡ undoRecord (now (noted .entry)) e ⌝ }
 {
     let v = e.index as usize;
@@ -140,7 +140,7 @@ pub(crate) fn undo_record(noted: &NotedWords, e: Effect) -> Record
     }
 }
 
-fn set_bound(noted: &mut NotedWords, from: usize, v: usize, x: u32, lit: u16)
+fn set_bound(noted: &mut Noted, from: usize, v: usize, x: u32, lit: u16)
     requires { ⌜ from ≤ 192 ⌝ }
     ensures { λ r. ⌜ now (noted .exit) ≡ boundSet from v x lit (now (noted .entry)) ⌝ }
 {
@@ -150,7 +150,7 @@ fn set_bound(noted: &mut NotedWords, from: usize, v: usize, x: u32, lit: u16)
     }
 }
 
-fn set_edge(noted: &mut NotedWords, g: usize, x: u32)
+fn set_edge(noted: &mut Noted, g: usize, x: u32)
     ensures { λ r. ⌜ now (noted .exit) ≡ edgeSet g x (now (noted .entry)) ⌝ }
 {
     if g < 128 {
@@ -159,7 +159,7 @@ fn set_edge(noted: &mut NotedWords, g: usize, x: u32)
 }
 
 // An effect that is due to a literal; undoing one is an effect too.
-pub fn apply(noted: &mut NotedWords, e: Effect, lit: u16)
+pub fn apply(noted: &mut Noted, e: Effect, lit: u16)
     ensures { λ r. ⌜ now (noted .exit) ≡ applied e lit (now (noted .entry)) ⌝ }
 {
     let i = e.index as usize;
@@ -189,8 +189,8 @@ fn push(log: &mut [u64], cursor: Cursor, r: Record) -> Cursor
 
 // One slot of the literal's variable is noted.
 fn note_slot(
-    plan: &PlanWords,
-    noted: &mut NotedWords,
+    plan: &Plan,
+    noted: &mut Noted,
     log: &mut [u64],
     cursor: Cursor,
     lit: u16,
@@ -209,8 +209,8 @@ fn note_slot(
 }
 
 fn note_occurrence(
-    plan: &PlanWords,
-    noted: &mut NotedWords,
+    plan: &Plan,
+    noted: &mut Noted,
     log: &mut [u64],
     cursor: Cursor,
     lit: u16,
@@ -223,8 +223,8 @@ fn note_occurrence(
 }
 
 fn note_occurrences(
-    plan: &PlanWords,
-    noted: &mut NotedWords,
+    plan: &Plan,
+    noted: &mut Noted,
     log: &mut [u64],
     cursor: Cursor,
     lit: u16,
@@ -265,7 +265,7 @@ fn push_level(log: &mut [u64], cursor: Cursor, lit: u16) -> Cursor
 }
 
 // One halving of a part of the distinct variables.
-fn halve(plan: &PlanWords, x: u32, p: Span) -> Span
+fn halve(plan: &Plan, x: u32, p: Span) -> Span
     requires { ⌜ (p .low ≤ 4294967296) × (p .high ≤ 4294967296) ⌝ }
     ensures { λ r. ⌜ r ≡ halved (now (plan .entry)) x 0 p ⌝ }
 {
@@ -281,7 +281,7 @@ fn halve(plan: &PlanWords, x: u32, p: Span) -> Span
     p
 }
 
-fn halve_all(plan: &PlanWords, x: u32) -> usize
+fn halve_all(plan: &Plan, x: u32) -> usize
     ensures { λ r. ⌜ (r ≡ searchedIn (now (plan .entry)) x) × (r ≤ 4294967296) ⌝ }
 {
     let mut p = Span {
@@ -306,13 +306,13 @@ fn less(a: u32, b: u32) -> usize
     0
 }
 
-fn place_from_first(plan: &PlanWords, x: u32) -> usize
+fn place_from_first(plan: &Plan, x: u32) -> usize
     ensures { λ r. ⌜ (r ≡ placeFromFirst (now (plan .entry)) x) × (r ≤ 4294967296) ⌝ }
 {
     less(x, plan::variable_at(plan, 0))
 }
 
-fn place_from_last(plan: &PlanWords, x: u32) -> usize
+fn place_from_last(plan: &Plan, x: u32) -> usize
     ensures { λ r. ⌜ (r ≡ placeFromLast (now (plan .entry)) x) × (r ≤ 4294967296) ⌝ }
 {
     let last = less(plan::num_variables(plan), 1);
@@ -324,7 +324,7 @@ fn place_from_last(plan: &PlanWords, x: u32) -> usize
 }
 
 // Whether distinct variable k is x.
-pub(crate) fn is_variable(plan: &PlanWords, k: usize, x: u32) -> bool
+pub(crate) fn is_variable(plan: &Plan, k: usize, x: u32) -> bool
     ensures { λ r. ⌜ r ≡ isAt (now (plan .entry)) k x ⌝ }
 {
     if k < plan::num_variables(plan) as usize {
@@ -335,7 +335,7 @@ pub(crate) fn is_variable(plan: &PlanWords, k: usize, x: u32) -> bool
 
 // Variable x's place among the distinct variables, if it is one of them: looked up where the variables are a run of numbers or two,
 // else searched by halving.
-pub(crate) fn search(plan: &PlanWords, x: u32) -> usize
+pub(crate) fn search(plan: &Plan, x: u32) -> usize
     ensures { λ r. ⌜ (r ≡ placeIn (now (plan .entry)) x) × (r ≤ 4294967296) ⌝ }
 {
     let a = place_from_first(plan, x);
@@ -349,21 +349,21 @@ pub(crate) fn search(plan: &PlanWords, x: u32) -> usize
     halve_all(plan, x)
 }
 
-pub fn place_in(plan: &PlanWords, x: u32) -> usize
+pub fn place_in(plan: &Plan, x: u32) -> usize
     ensures { λ r. ⌜ r ≡ placeIn (now (plan .entry)) x ⌝ }
 {
     search(plan, x)
 }
 
 // Whether variable x is one of the plan's: refusal 9 where it is not.
-pub fn known(plan: &PlanWords, x: u32) -> bool
+pub fn known(plan: &Plan, x: u32) -> bool
     ensures { λ r. ⌜ r ≡ known (now (plan .entry)) x ⌝ }
 {
     is_variable(plan, place_in(plan, x), x)
 }
 
 // How many occurrences distinct variable k has.
-pub(crate) fn num_occurrences(plan: &PlanWords, k: usize) -> usize
+pub(crate) fn num_occurrences(plan: &Plan, k: usize) -> usize
     requires { ⌜ k ≤ 4294967296 ⌝ }
     ensures { λ r. ⌜ (r ≡ startAt (now (plan .entry)) (k + 1) - startAt (now (plan .entry)) k) × (r < 4294967296) ⌝ }
 {
@@ -377,8 +377,8 @@ pub(crate) fn num_occurrences(plan: &PlanWords, k: usize) -> usize
 
 // Every occurrence of the literal's variable, which is distinct variable k, is noted.
 fn note_at(
-    plan: &PlanWords,
-    noted: &mut NotedWords,
+    plan: &Plan,
+    noted: &mut Noted,
     log: &mut [u64],
     cursor: Cursor,
     lit: u16,
@@ -393,13 +393,7 @@ fn note_at(
 }
 
 // `notify`: the literal stands from here on. A literal that the plan does not have changes no edge and no bound.
-pub fn note(
-    plan: &PlanWords,
-    noted: &mut NotedWords,
-    log: &mut [u64],
-    cursor: Cursor,
-    lit: u16,
-) -> Cursor
+pub fn note(plan: &Plan, noted: &mut Noted, log: &mut [u64], cursor: Cursor, lit: u16) -> Cursor
     ensures { λ c. ⌜ noting (now (noted .exit)) (now (log .exit)) c ≡ note (now (plan .entry)) lit (noting (now (noted .entry)) (now (log .entry)) cursor) ⌝ }
 {
     let c = push_level(log, cursor, lit);

@@ -1,6 +1,6 @@
 // The last part of refusal 7: the log's literals are noted afresh, oldest first, into working words, and each record that
 // noting would push is compared with the one in the log. Linear in the log and in the standing literals' occurrences.
-use crate::NotedWords;
+use crate::Noted;
 use crate::edge_state;
 use crate::fresh;
 use crate::lower_bound;
@@ -15,7 +15,7 @@ use crate::note::undo_record;
 use crate::undo::record_at;
 use crate::upper_bound;
 use crate::upper_bound_lit;
-use plan::PlanWords;
+use plan::Plan;
 use undo_log::Cursor;
 use undo_log::LEVEL_BOUNDARY;
 use undo_log::Record;
@@ -56,8 +56,8 @@ fn holds_at(log: &[u64], used: usize, at: usize, r: Record) -> bool
 }
 
 fn follow_slot(
-    plan: &PlanWords,
-    noted: &mut NotedWords,
+    plan: &Plan,
+    noted: &mut Noted,
     log: &[u64],
     used: usize,
     lit: u16,
@@ -86,8 +86,8 @@ fn follow_slot(
 }
 
 fn follow_occurrence(
-    plan: &PlanWords,
-    noted: &mut NotedWords,
+    plan: &Plan,
+    noted: &mut Noted,
     log: &[u64],
     used: usize,
     lit: u16,
@@ -102,8 +102,8 @@ fn follow_occurrence(
 
 // Every occurrence of the literal's variable, which is distinct variable k.
 fn follow_at(
-    plan: &PlanWords,
-    noted: &mut NotedWords,
+    plan: &Plan,
+    noted: &mut Noted,
     log: &[u64],
     used: usize,
     lit: u16,
@@ -143,7 +143,7 @@ fn mark(marks: &mut [u8; 2176], k: usize)
 
 // Whether a notification starts there whose literal is known, and neither it nor its negation stood before. The literal's variable has
 // been searched: k is what was found.
-fn opens(plan: &PlanWords, marks: &[u8; 2176], log: &[u64], at: usize, k: usize) -> bool
+fn opens(plan: &Plan, marks: &[u8; 2176], log: &[u64], at: usize, k: usize) -> bool
     requires { ⌜ k ≡ placeIn (now plan) (litAt (now log) at / 2) ⌝ }
     ensures { λ r. ⌜ r ≡ opens (now (plan .entry)) (now (marks .entry)) (now (log .entry)) at ⌝ }
 {
@@ -168,8 +168,8 @@ fn opens(plan: &PlanWords, marks: &[u8; 2176], log: &[u64], at: usize, k: usize)
 
 // One notification of the log; past the cursor, nothing.
 fn replay_level(
-    plan: &PlanWords,
-    noted: &mut NotedWords,
+    plan: &Plan,
+    noted: &mut Noted,
     marks: &mut [u8; 2176],
     log: &[u64],
     used: usize,
@@ -197,13 +197,7 @@ fn replay_level(
     p
 }
 
-fn replay(
-    plan: &PlanWords,
-    noted: &mut NotedWords,
-    marks: &mut [u8; 2176],
-    log: &[u64],
-    used: usize,
-) -> Place
+fn replay(plan: &Plan, noted: &mut Noted, marks: &mut [u8; 2176], log: &[u64], used: usize) -> Place
     ensures { λ r. ⌜ replayed (now (marks .exit)) (now (noted .exit)) r ≡ replay (now (plan .entry)) (now (log .entry)) used (replayed (now (marks .entry)) (now (noted .entry)) (place true 0)) ⌝ }
 {
     let mut p = Place { ok: true, at: 0 };
@@ -215,13 +209,13 @@ fn replay(
     p
 }
 
-fn edge_differs(a: &NotedWords, b: &NotedWords, g: usize) -> bool
+fn edge_differs(a: &Noted, b: &Noted, g: usize) -> bool
     ensures { λ r. ⌜ r ≡ edgeDiffers (now (a .entry)) (now (b .entry)) g ⌝ }
 {
     edge_state(a, g) != edge_state(b, g)
 }
 
-fn vertex_differs(a: &NotedWords, b: &NotedWords, v: usize) -> bool
+fn vertex_differs(a: &Noted, b: &Noted, v: usize) -> bool
     ensures { λ r. ⌜ r ≡ vertexDiffers (now (a .entry)) (now (b .entry)) v ⌝ }
 {
     if lower_bound(a, v) != lower_bound(b, v) {
@@ -236,7 +230,7 @@ fn vertex_differs(a: &NotedWords, b: &NotedWords, v: usize) -> bool
     upper_bound_lit(a, v) != upper_bound_lit(b, v)
 }
 
-fn some_edge_differs(a: &NotedWords, b: &NotedWords, n: usize) -> bool
+fn some_edge_differs(a: &Noted, b: &Noted, n: usize) -> bool
     ensures { λ r. ⌜ r ≡ some (edgeDiffers (now (a .entry)) (now (b .entry))) n ⌝ }
 {
     let mut g = 0;
@@ -249,7 +243,7 @@ fn some_edge_differs(a: &NotedWords, b: &NotedWords, n: usize) -> bool
     false
 }
 
-fn some_vertex_differs(a: &NotedWords, b: &NotedWords, n: usize) -> bool
+fn some_vertex_differs(a: &Noted, b: &Noted, n: usize) -> bool
     ensures { λ r. ⌜ r ≡ some (vertexDiffers (now (a .entry)) (now (b .entry))) n ⌝ }
 {
     let mut v = 0;
@@ -262,7 +256,7 @@ fn some_vertex_differs(a: &NotedWords, b: &NotedWords, n: usize) -> bool
     false
 }
 
-fn noted_differs(plan: &PlanWords, a: &NotedWords, b: &NotedWords) -> bool
+fn noted_differs(plan: &Plan, a: &Noted, b: &Noted) -> bool
     ensures { λ r. ⌜ r ≡ notedDiffers (now (plan .entry)) (now (a .entry)) (now (b .entry)) ⌝ }
 {
     if some_edge_differs(a, b, plan::num_edges(plan) as usize) {
@@ -288,7 +282,7 @@ fn num_standing(log: &[u64], n: usize) -> usize
 }
 
 // Whether noting the log's literals afresh gives another log or other noted words.
-fn differs(plan: &PlanWords, noted: &NotedWords, log: &[u64], used: usize) -> bool
+fn differs(plan: &Plan, noted: &Noted, log: &[u64], used: usize) -> bool
     ensures { λ r. ⌜ r ≡ (not (afresh (now (plan .entry)) (now (log .entry)) used .follow .place .ok) || notedDiffers (now (plan .entry)) (afresh (now (plan .entry)) (now (log .entry)) used .follow .noted) (now (noted .entry))) ⌝ }
 {
     let mut work = [0u32; 384];
@@ -302,7 +296,7 @@ fn differs(plan: &PlanWords, noted: &NotedWords, log: &[u64], used: usize) -> bo
 }
 
 // The last part of refusal 7.
-pub fn log_bad(plan: &PlanWords, noted: &NotedWords, log: &[u64], cursor: Cursor) -> bool
+pub fn log_bad(plan: &Plan, noted: &Noted, log: &[u64], cursor: Cursor) -> bool
     ensures { λ r. ⌜ r ≡ logBad (now (plan .entry)) (now (noted .entry)) (now (log .entry)) cursor ⌝ }
 {
     let used = cursor.used;

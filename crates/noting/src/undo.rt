@@ -1,5 +1,5 @@
 // The Rust's `undo_internal`: the records of the newest notification are taken back.
-use crate::NotedWords;
+use crate::Noted;
 use crate::UNDECIDED;
 use crate::note::Effect;
 use crate::note::apply;
@@ -25,7 +25,7 @@ pub fn record_at(log: &[u64], i: usize) -> Record
 }
 
 // An edge becomes undecided whatever it was; a bound and its literal as recorded.
-fn restore(noted: &mut NotedWords, r: Record)
+fn restore(noted: &mut Noted, r: Record)
     ensures { λ _. ⌜ now (noted .exit) ≡ restored r (now (noted .entry)) ⌝ }
 {
     if r.kind == EDGE {
@@ -46,7 +46,7 @@ fn restore(noted: &mut NotedWords, r: Record)
 }
 
 // How many of the first n records are left.
-fn take_back(noted: &mut NotedWords, log: &[u64], n: usize) -> usize
+fn take_back(noted: &mut Noted, log: &[u64], n: usize) -> usize
     ensures { λ m. ⌜ (now (noted .exit) ≡ undone (recordsOf (now (log .entry)) n) (now (noted .entry))) × (m ≡ kept (recordsOf (now (log .entry)) n)) ⌝ }
 {
     let mut left = n;
@@ -62,7 +62,7 @@ fn take_back(noted: &mut NotedWords, log: &[u64], n: usize) -> usize
 }
 
 // The newest notification is undone. The popped records stay in the log as they are.
-pub fn undo(noted: &mut NotedWords, log: &[u64], cursor: Cursor) -> Cursor
+pub fn undo(noted: &mut Noted, log: &[u64], cursor: Cursor) -> Cursor
     ensures { λ c. ⌜ noting (now (noted .exit)) (now (log .entry)) c ≡ undo (noting (now (noted .entry)) (now (log .entry)) cursor) ⌝ }
 {
     let used = take_back(noted, log, cursor.used);

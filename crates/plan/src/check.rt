@@ -1,6 +1,6 @@
 // The plan's own test. Every call begins with it, so that a corrupted state is refused and never reaches an index; it is
 // linear in what the plan uses.
-use crate::PlanWords;
+use crate::Plan;
 use crate::domain;
 use crate::domain_len;
 use crate::lit;
@@ -24,7 +24,7 @@ ghost use Rattle.base.specs.Lists.{some};
 ghost use Rattle.plan.specs.Words.{word, verticesOf, edgesOf, variablesOf, slotsOf, domainLenOf, startAt};
 ghost use Rattle.plan.specs.Check.{countsBad, usedSlot, entryBad, vertexBad, edgeBad, occurrenceBad, variableOrderBad, variableBad, slotCount, startsBad, planBad, Counts};
 
-fn counts_bad(plan: &PlanWords) -> bool
+fn counts_bad(plan: &Plan) -> bool
     ensures { λ r. ⌜ r ≡ countsBad (now (plan .entry)) ⌝ }
 {
     if 64 < num_vertices(plan) {
@@ -46,7 +46,7 @@ fn counts_bad(plan: &PlanWords) -> bool
 }
 
 // Whether a slot holds a literal.
-pub fn used_slot(plan: &PlanWords, s: usize) -> bool
+pub fn used_slot(plan: &Plan, s: usize) -> bool
     ensures { λ r. ⌜ r ≡ usedSlot (now (plan .entry)) s ⌝ }
 {
     if s < 2048 {
@@ -59,7 +59,7 @@ pub fn used_slot(plan: &PlanWords, s: usize) -> bool
     s - 2048 < num_edges(plan) as usize
 }
 
-fn entry_bad(plan: &PlanWords, v: usize, j: usize) -> bool
+fn entry_bad(plan: &Plan, v: usize, j: usize) -> bool
     ensures { λ r. ⌜ r ≡ entryBad (now (plan .entry)) v j ⌝ }
 {
     if 1000000 < domain(plan, v, j) {
@@ -71,7 +71,7 @@ fn entry_bad(plan: &PlanWords, v: usize, j: usize) -> bool
     domain(plan, v, j) <= domain(plan, v, j - 1)
 }
 
-fn some_entry_bad(plan: &PlanWords, v: usize, len: usize) -> bool
+fn some_entry_bad(plan: &Plan, v: usize, len: usize) -> bool
     ensures { λ r. ⌜ r ≡ some (entryBad (now (plan .entry)) v) len ⌝ }
 {
     let mut j = 0;
@@ -94,7 +94,7 @@ fn less_one(k: usize) -> usize
     k - 1
 }
 
-fn vertex_bad(plan: &PlanWords, v: usize) -> bool
+fn vertex_bad(plan: &Plan, v: usize) -> bool
     requires { ⌜ v < 64 ⌝ }
     ensures { λ r. ⌜ r ≡ vertexBad (now (plan .entry)) v ⌝ }
 {
@@ -108,7 +108,7 @@ fn vertex_bad(plan: &PlanWords, v: usize) -> bool
     some_entry_bad(plan, v, len)
 }
 
-fn some_vertex_bad(plan: &PlanWords, n: usize) -> bool
+fn some_vertex_bad(plan: &Plan, n: usize) -> bool
     requires { ⌜ n ≤ 64 ⌝ }
     ensures { λ r. ⌜ r ≡ some (vertexBad (now (plan .entry))) n ⌝ }
 {
@@ -128,7 +128,7 @@ fn wide(x: u8) -> u32
     x as u32
 }
 
-fn edge_bad<'a>(plan: &'a PlanWords, edges: &'a Edges, g: usize) -> bool
+fn edge_bad<'a>(plan: &'a Plan, edges: &'a Edges, g: usize) -> bool
     requires { ⌜ g < 128 ⌝ }
     ensures { λ r. ⌜ r ≡ edgeBad (now (plan .entry)) (now (edges .entry)) g ⌝ }
 {
@@ -139,7 +139,7 @@ fn edge_bad<'a>(plan: &'a PlanWords, edges: &'a Edges, g: usize) -> bool
     n <= wide(edges[g][1])
 }
 
-fn some_edge_bad<'a>(plan: &'a PlanWords, edges: &'a Edges, m: usize) -> bool
+fn some_edge_bad<'a>(plan: &'a Plan, edges: &'a Edges, m: usize) -> bool
     requires { ⌜ m ≤ 128 ⌝ }
     ensures { λ r. ⌜ r ≡ some (edgeBad (now (plan .entry)) (now (edges .entry))) m ⌝ }
 {
@@ -153,7 +153,7 @@ fn some_edge_bad<'a>(plan: &'a PlanWords, edges: &'a Edges, m: usize) -> bool
     false
 }
 
-fn occurrence_bad(plan: &PlanWords, k: usize, i: usize) -> bool
+fn occurrence_bad(plan: &Plan, k: usize, i: usize) -> bool
     requires { ⌜ k < 2176 ⌝ }
     ensures { λ r. ⌜ r ≡ occurrenceBad (now (plan .entry)) k i ⌝ }
 {
@@ -177,14 +177,14 @@ fn occurrence_bad(plan: &PlanWords, k: usize, i: usize) -> bool
     true
 }
 
-fn occurrence_bad_from(plan: &PlanWords, k: usize, from: usize, i: usize) -> bool
+fn occurrence_bad_from(plan: &Plan, k: usize, from: usize, i: usize) -> bool
     requires { ⌜ (k < 2176) × (from + i ≤ 2176) ⌝ }
     ensures { λ r. ⌜ r ≡ occurrenceBad (now (plan .entry)) k (from + i) ⌝ }
 {
     occurrence_bad(plan, k, from + i)
 }
 
-fn some_occurrence_bad(plan: &PlanWords, k: usize, from: usize, n: usize) -> bool
+fn some_occurrence_bad(plan: &Plan, k: usize, from: usize, n: usize) -> bool
     requires { ⌜ (k < 2176) × (from + n ≤ 2176) ⌝ }
     ensures { λ r. ⌜ r ≡ some (λ i. occurrenceBad (now (plan .entry)) k (from + i)) n ⌝ }
 {
@@ -199,7 +199,7 @@ fn some_occurrence_bad(plan: &PlanWords, k: usize, from: usize, n: usize) -> boo
 }
 
 // Whether distinct variable k is out of range or not over the one before it.
-fn variable_order_bad(plan: &PlanWords, k: usize) -> bool
+fn variable_order_bad(plan: &Plan, k: usize) -> bool
     ensures { λ r. ⌜ r ≡ variableOrderBad (now (plan .entry)) k ⌝ }
 {
     if 4095 < variable_at(plan, k) {
@@ -211,7 +211,7 @@ fn variable_order_bad(plan: &PlanWords, k: usize) -> bool
     variable_at(plan, k) <= variable_at(plan, k - 1)
 }
 
-fn variable_bad(plan: &PlanWords, k: usize) -> bool
+fn variable_bad(plan: &Plan, k: usize) -> bool
     requires { ⌜ (k < 2176) × (slotsOf (now plan) ≤ 2176) ⌝ }
     ensures { λ r. ⌜ r ≡ variableBad (now (plan .entry)) k ⌝ }
 {
@@ -229,7 +229,7 @@ fn variable_bad(plan: &PlanWords, k: usize) -> bool
     some_occurrence_bad(plan, k, from, end - from)
 }
 
-fn some_variable_bad(plan: &PlanWords, n: usize) -> bool
+fn some_variable_bad(plan: &Plan, n: usize) -> bool
     requires { ⌜ (n ≤ 2176) × (slotsOf (now plan) ≤ 2176) ⌝ }
     ensures { λ r. ⌜ r ≡ some (variableBad (now (plan .entry))) n ⌝ }
 {
@@ -243,7 +243,7 @@ fn some_variable_bad(plan: &PlanWords, n: usize) -> bool
     false
 }
 
-fn add_slots(plan: &PlanWords, v: usize, n: usize) -> usize
+fn add_slots(plan: &Plan, v: usize, n: usize) -> usize
     requires { ⌜ n + pred (domainLenOf (now plan) v) < 1000000 ⌝ }
     ensures { λ r. ⌜ r ≡ n + pred (domainLenOf (now (plan .entry)) v) ⌝ }
 {
@@ -251,7 +251,7 @@ fn add_slots(plan: &PlanWords, v: usize, n: usize) -> usize
 }
 
 // How many slots are in use.
-fn slot_count(plan: &PlanWords) -> usize
+fn slot_count(plan: &Plan) -> usize
     requires { ⌜ Counts (now plan) ⌝ }
     ensures { λ r. ⌜ r ≡ slotCount (now (plan .entry)) ⌝ }
 {
@@ -265,7 +265,7 @@ fn slot_count(plan: &PlanWords) -> usize
     n
 }
 
-fn starts_bad(plan: &PlanWords) -> bool
+fn starts_bad(plan: &Plan) -> bool
     requires { ⌜ Counts (now plan) ⌝ }
     ensures { λ r. ⌜ r ≡ startsBad (now (plan .entry)) ⌝ }
 {
@@ -280,7 +280,7 @@ fn starts_bad(plan: &PlanWords) -> bool
 }
 
 // Whether the words and the edge table are a plan that the calls can work on.
-pub fn plan_ok<'a>(plan: &'a PlanWords, edges: &'a Edges) -> bool
+pub fn plan_ok<'a>(plan: &'a Plan, edges: &'a Edges) -> bool
     ensures { λ r. ⌜ r ≡ not (planBad (now (plan .entry)) (now (edges .entry))) ⌝ }
 {
     if counts_bad(plan) {

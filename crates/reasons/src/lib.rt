@@ -8,7 +8,7 @@ ghost use Rattle.reasons.specs.Verdicts.{goesOn};
 // Two words for each place of a literal.
 pub const PROPOSAL_WORDS: usize = 8704;
 
-pub type ProposalWords = [u64; PROPOSAL_WORDS];
+pub type Proposals = [u64; PROPOSAL_WORDS];
 
 // Where an analysis stands. Everything but Going ends it.
 pub enum Verdict {

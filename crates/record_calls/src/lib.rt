@@ -8,14 +8,14 @@ pub mod undo;
 use graph_division::Answer;
 use graph_division::GraphDivision;
 use graph_division::Outcome;
-use plan::PlanWords;
+use plan::Plan;
 use undo_log::Cursor;
 ghost use mathlib.Core.Path.{_≡_};
 ghost use Rattle.graph_division.specs.Calls.{refuse};
 ghost use Rattle.record_calls.specs.Reach.{reaches};
 
 // Whether a log of `len` records can be loaded: the flat calls see one of 4352 words, so its length is tested here.
-pub(crate) fn reaches(plan: &PlanWords, len: usize, cursor: Cursor) -> bool
+pub(crate) fn reaches(plan: &Plan, len: usize, cursor: Cursor) -> bool
     ensures { λ r. ⌜ r ≡ reaches (now (plan .entry)) len cursor ⌝ }
 {
     if noting::buffers::log_short(plan, len) {

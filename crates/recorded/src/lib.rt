@@ -1,5 +1,5 @@
 // The reasons recorded for the distinct literals: the Rust's `propagation_reasons`, an array of records that hold the enum.
-use plan::PlanWords;
+use plan::Plan;
 use reasons::reason::Reason;
 ghost use mathlib.Core.Path.{_≡_};
 ghost use Prim.Native.Nat.{_*_, _<_};
@@ -71,7 +71,7 @@ fn capped(n: usize) -> usize
 }
 
 // What an analysis has proposed is recorded.
-pub fn record(plan: &PlanWords, proposals: &[u64], reasons: Reasons) -> Reasons
+pub fn record(plan: &Plan, proposals: &[u64], reasons: Reasons) -> Reasons
     ensures { λ r. ⌜ r ≡ recorded (now (plan .entry)) (now (proposals .entry)) reasons ⌝ }
 {
     let n = capped(2 * (plan::num_variables(plan) as usize));

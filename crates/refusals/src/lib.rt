@@ -1,7 +1,7 @@
 // The tests that a call makes before it works: refusals 7 to 11 in this order, each on any input. The answer is the
 // refusal's number, 0 where none applies. The plan's own test comes first: what fails it reaches no other test.
 use edge_table::Edges;
-use noting::NotedWords;
+use noting::Noted;
 use noting::buffers::list_short;
 use noting::buffers::log_short;
 use noting::buffers::reason_short;
@@ -10,7 +10,7 @@ use noting::note::known;
 use noting::replay::log_bad;
 use noting::stands::not_newest;
 use noting::stands::variable_stands;
-use plan::PlanWords;
+use plan::Plan;
 use plan::check::plan_ok;
 use undo_log::Cursor;
 ghost use mathlib.Core.Path.{_≡_};
@@ -19,9 +19,9 @@ ghost use Rattle.refusals.specs.Refusals.{stateBad, tableStateBad, litNu
 
 // The part of 7 that every call tests: the plan, the log's length, and that log, cursor and noted words are as noting gives.
 pub fn state_bad<'a>(
-    plan: &'a PlanWords,
+    plan: &'a Plan,
     edges: &'a Edges,
-    noted: &'a NotedWords,
+    noted: &'a Noted,
     log: &'a [u64],
     cursor: Cursor,
 ) -> bool
@@ -38,9 +38,9 @@ pub fn state_bad<'a>(
 
 // 7 of a call that is lent a table and a list.
 fn table_state_bad<'a>(
-    plan: &'a PlanWords,
+    plan: &'a Plan,
     edges: &'a Edges,
-    noted: &'a NotedWords,
+    noted: &'a Noted,
     table: &'a [u8],
     list_len: usize,
     log: &'a [u64],
@@ -67,7 +67,7 @@ pub fn lit_number(lit: i32) -> u16
     0
 }
 
-fn unknown_lit(plan: &PlanWords, lit: i32) -> bool
+fn unknown_lit(plan: &Plan, lit: i32) -> bool
     ensures { λ r. ⌜ r ≡ unknownLit (now (plan .entry)) lit ⌝ }
 {
     if base::in_range(lit, 8191) {
@@ -81,7 +81,7 @@ fn unknown_lit(plan: &PlanWords, lit: i32) -> bool
 }
 
 // 9 for a literal that is none or that the plan does not have, of a fetch by literal too.
-pub fn literal_refusal(plan: &PlanWords, lit: i32) -> u32
+pub fn literal_refusal(plan: &Plan, lit: i32) -> u32
     ensures { λ r. ⌜ r ≡ literalRefusal (now (plan .entry)) lit ⌝ }
 {
     if unknown_lit(plan, lit) {
@@ -92,9 +92,9 @@ pub fn literal_refusal(plan: &PlanWords, lit: i32) -> u32
 
 // 7 and 8. Initialize tests 10 later, literal by literal.
 pub fn initialize_refusal<'a>(
-    plan: &'a PlanWords,
+    plan: &'a Plan,
     edges: &'a Edges,
-    noted: &'a NotedWords,
+    noted: &'a Noted,
     table: &'a [u8],
     list_len: usize,
     log: &'a [u64],
@@ -114,9 +114,9 @@ pub fn initialize_refusal<'a>(
 
 // 7, 9 and 10.
 pub fn propagate_refusal<'a>(
-    plan: &'a PlanWords,
+    plan: &'a Plan,
     edges: &'a Edges,
-    noted: &'a NotedWords,
+    noted: &'a Noted,
     table: &'a [u8],
     list_len: usize,
     log: &'a [u64],
@@ -141,9 +141,9 @@ pub fn propagate_refusal<'a>(
 
 // 7, 9 and 11.
 pub fn undo_refusal<'a>(
-    plan: &'a PlanWords,
+    plan: &'a Plan,
     edges: &'a Edges,
-    noted: &'a NotedWords,
+    noted: &'a Noted,
     log: &'a [u64],
     cursor: Cursor,
     lit: i32,
@@ -166,9 +166,9 @@ pub fn undo_refusal<'a>(
 
 // 7 of a fetch, whose reason buffer has `reason_len` entries.
 pub fn fetch_refusal<'a>(
-    plan: &'a PlanWords,
+    plan: &'a Plan,
     edges: &'a Edges,
-    noted: &'a NotedWords,
+    noted: &'a Noted,
     reason_len: usize,
     log: &'a [u64],
     cursor: Cursor,

@@ -2,7 +2,7 @@
 // of the plan's distinct literals, which rise; specs/Sweep.antt says what each function does.
 pub mod table;
 
-use plan::PlanWords;
+use plan::Plan;
 ghost use mathlib.Core.Path.{_≡_};
 ghost use Rattle.walks.specs.Written.{outOf, pushed};
 ghost use Rattle.plan.specs.Words.{uniqueLitAt};
@@ -24,7 +24,7 @@ fn clear_words(proposals: &mut [u64], n: usize)
 }
 
 // No place is proposed any more; the words past the last place's stay.
-pub fn clear(plan: &PlanWords, proposals: &mut [u64])
+pub fn clear(plan: &Plan, proposals: &mut [u64])
     ensures { λ _. ⌜ now (proposals .exit) ≡ cleared (now (plan .entry)) (now (proposals .entry)) ⌝ }
 {
     let n = 4 * (plan::num_variables(plan) as usize);
@@ -45,7 +45,7 @@ pub fn proposed(proposals: &[u64], p: usize) -> bool
     false
 }
 
-fn false_at(plan: &PlanWords, proposals: &[u64], table: &[u8], p: usize) -> bool
+fn false_at(plan: &Plan, proposals: &[u64], table: &[u8], p: usize) -> bool
     ensures { λ r. ⌜ r ≡ falseAt (now (plan .entry)) (now (proposals .entry)) (now (table .entry)) p ⌝ }
 {
     if proposed(proposals, p) {
@@ -55,7 +55,7 @@ fn false_at(plan: &PlanWords, proposals: &[u64], table: &[u8], p: usize) -> bool
 }
 
 // The lowest place that is proposed and whose literal is false, or the place past the last.
-pub fn first_false(plan: &PlanWords, proposals: &[u64], table: &[u8]) -> usize
+pub fn first_false(plan: &Plan, proposals: &[u64], table: &[u8]) -> usize
     ensures { λ r. ⌜ r ≡ firstFalseAt (now (plan .entry)) (now (proposals .entry)) (now (table .entry)) ⌝ }
 {
     let n = 2 * (plan::num_variables(plan) as usize);
@@ -91,7 +91,7 @@ fn hand_on_lit(table: &mut [u8], list: &mut [u32], at: usize, lit: u64) -> usize
 }
 
 fn hand_on_place(
-    plan: &PlanWords,
+    plan: &Plan,
     proposals: &[u64],
     table: &mut [u8],
     list: &mut [u32],
@@ -109,7 +109,7 @@ fn hand_on_place(
 // Each proposed literal that is unset when its turn comes, in rising order: its entry becomes 3 or 4, and it goes to the list
 // from `at` on. The answer is the place past the last.
 pub fn hand_on(
-    plan: &PlanWords,
+    plan: &Plan,
     proposals: &[u64],
     table: &mut [u8],
     list: &mut [u32],

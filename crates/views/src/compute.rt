@@ -1,8 +1,8 @@
 // The view's words from the noted ones. Document 01's analysis begins with it: the regions, their weights and their bounds.
-use crate::ViewWords;
+use crate::View;
 use edge_table::Edges;
-use noting::NotedWords;
-use plan::PlanWords;
+use noting::Noted;
+use plan::Plan;
 use regions::compute_regions;
 use regions::limits::region_bounds;
 use regions::weights::region_weights;
@@ -27,7 +27,7 @@ struct Bounds {
 }
 
 // The weight of each vertex.
-fn weight_words(plan: &PlanWords) -> [u32; 64]
+fn weight_words(plan: &Plan) -> [u32; 64]
     ensures { λ r. ⌜ r ≡ weightWords (now (plan .entry)) ⌝ }
 {
     let mut words = [0u32; 64];
@@ -40,7 +40,7 @@ fn weight_words(plan: &PlanWords) -> [u32; 64]
     words
 }
 
-fn compute(plan: &PlanWords, edges: Edges, noted: &NotedWords, potential: bool) -> Regions
+fn compute(plan: &Plan, edges: Edges, noted: &Noted, potential: bool) -> Regions
     ensures { λ r. ⌜ r ≡ regionsFrom (now (plan .entry)) edges (now (noted .entry)) potential ⌝ }
 {
     let vertices = plan::num_vertices(plan) as usize;
@@ -65,13 +65,7 @@ fn compute(plan: &PlanWords, edges: Edges, noted: &NotedWords, potential: bool) 
 }
 
 // The bounds stand from word `first` on.
-fn bound(
-    labels: &[u8; 64],
-    noted: &NotedWords,
-    first: usize,
-    vertices: usize,
-    upper: bool,
-) -> Bounds
+fn bound(labels: &[u8; 64], noted: &Noted, first: usize, vertices: usize, upper: bool) -> Bounds
     ensures { λ r. ⌜ r ≡ boundsFrom (now (labels .entry)) (now (noted .entry)) first vertices upper ⌝ }
 {
     let mut bounds = [0u32; 64];
@@ -98,7 +92,7 @@ fn word_of(x: u8) -> u32
     x as u32
 }
 
-fn copy_bytes(bytes: &[u8; 64], view: &mut ViewWords, from: usize)
+fn copy_bytes(bytes: &[u8; 64], view: &mut View, from: usize)
     requires { ⌜ from + 64 ≤ 512 ⌝ }
     ensures { λ r. ⌜ now (view .exit) ≡ filled from 64 (word (now (bytes .entry))) (now (view .entry)) ⌝ }
 {
@@ -109,7 +103,7 @@ fn copy_bytes(bytes: &[u8; 64], view: &mut ViewWords, from: usize)
     }
 }
 
-fn copy_words(words: &[u32; 64], view: &mut ViewWords, from: usize)
+fn copy_words(words: &[u32; 64], view: &mut View, from: usize)
     requires { ⌜ from + 64 ≤ 512 ⌝ }
     ensures { λ r. ⌜ now (view .exit) ≡ filled from 64 (word (now (words .entry))) (now (view .entry)) ⌝ }
 {
@@ -121,7 +115,7 @@ fn copy_words(words: &[u32; 64], view: &mut ViewWords, from: usize)
 }
 
 // Labels from word `from` on, weights from word `from + 128` on.
-fn store_regions(r: Regions, view: &mut ViewWords, from: usize)
+fn store_regions(r: Regions, view: &mut View, from: usize)
     requires { ⌜ from + 192 ≤ 512 ⌝ }
     ensures { λ z. ⌜ now (view .exit) ≡ withRegions from r (now (view .entry)) ⌝ }
 {
@@ -130,7 +124,7 @@ fn store_regions(r: Regions, view: &mut ViewWords, from: usize)
 }
 
 // Bounds from word `from` on, the vertices that have them from word `from + 64` on.
-fn store_bounds(b: Bounds, view: &mut ViewWords, from: usize)
+fn store_bounds(b: Bounds, view: &mut View, from: usize)
     requires { ⌜ from + 128 ≤ 512 ⌝ }
     ensures { λ z. ⌜ now (view .exit) ≡ withBounds from b (now (view .entry)) ⌝ }
 {
@@ -140,12 +134,7 @@ fn store_bounds(b: Bounds, view: &mut ViewWords, from: usize)
 
 // The regions of the noted words, their weights and bounds. The answer is false, and the view stays, where there are none: a count is
 // past its limit, an edge's end is no vertex, or a weight is over 1,000,000.
-pub fn compute_view(
-    plan: &PlanWords,
-    edges: Edges,
-    noted: &NotedWords,
-    view: &mut ViewWords,
-) -> bool
+pub fn compute_view(plan: &Plan, edges: Edges, noted: &Noted, view: &mut View) -> bool
     ensures { λ r. ⌜ computedOf r (now (view .exit)) ≡ computeView (now (plan .entry)) edges (now (noted .entry)) (now (view .entry)) ⌝ }
 {
     let vertices = plan::num_vertices(plan) as usize;

@@ -1,8 +1,8 @@
 // Step 4's ties: of the vertices of a decided region, in the order of the search from its label, the first with the greatest lower bound
 // and the first with the least upper bound.
 use edge_table::Edges;
-use noting::NotedWords;
-use plan::PlanWords;
+use noting::Noted;
+use plan::Plan;
 use walks::Listed;
 use walks::Shape;
 use walks::region_vertices;
@@ -28,7 +28,7 @@ struct Members {
     list: [u32; 64],
 }
 
-fn list_members(plan: &PlanWords, edges: Edges, noted: &NotedWords, region: usize) -> Members
+fn list_members(plan: &Plan, edges: Edges, noted: &Noted, region: usize) -> Members
     ensures { λ r. ⌜ (r .known ≡ reaches (now (plan .entry)) edges (now (noted .entry)) region) × (r .known ≡ true → (r .count ≤ 64) × (takenOf (r .list) (r .count) ≡ membersFrom (now (plan .entry)) edges (now (noted .entry)) region)) ⌝ }
 {
     let shape = Shape {
@@ -59,7 +59,7 @@ fn vertex(x: u32) -> usize
 }
 
 // The first that has the greatest lower bound, or `region` where none has a greater one than it.
-fn highest_lower(noted: &NotedWords, list: &[u32; 64], count: usize, region: usize) -> usize
+fn highest_lower(noted: &Noted, list: &[u32; 64], count: usize, region: usize) -> usize
     requires { ⌜ count ≤ 64 ⌝ }
     ensures { λ r. ⌜ r ≡ best (higher (stateOf (now (noted .entry)))) region (takenOf (now (list .entry)) count) ⌝ }
 {
@@ -76,7 +76,7 @@ fn highest_lower(noted: &NotedWords, list: &[u32; 64], count: usize, region: usi
 }
 
 // The first that has the least upper bound.
-fn lowest_upper(noted: &NotedWords, list: &[u32; 64], count: usize, region: usize) -> usize
+fn lowest_upper(noted: &Noted, list: &[u32; 64], count: usize, region: usize) -> usize
     requires { ⌜ count ≤ 64 ⌝ }
     ensures { λ r. ⌜ r ≡ best (lesser (stateOf (now (noted .entry)))) region (takenOf (now (list .entry)) count) ⌝ }
 {
@@ -93,12 +93,7 @@ fn lowest_upper(noted: &NotedWords, list: &[u32; 64], count: usize, region: usiz
 }
 
 // The vertices that step 4 names where the bounds of a region do not meet.
-pub fn extreme_vertices(
-    plan: &PlanWords,
-    edges: Edges,
-    noted: &NotedWords,
-    region: usize,
-) -> Extremes
+pub fn extreme_vertices(plan: &Plan, edges: Edges, noted: &Noted, region: usize) -> Extremes
     ensures { λ r. ⌜ r ≡ extremes (now (plan .entry)) edges (now (noted .entry)) region ⌝ }
 {
     let m = list_members(plan, edges, noted, region);
