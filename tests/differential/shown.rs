@@ -1,13 +1,13 @@
-// shown YARD DIFFERENCES.md: runs each input that docs/DIFFERENCES.md lists on the Rust as it is, and on the program `yard`,
-// and compares both answers with what the list says. The cases stand in blocks of code, parted by empty lines:
-//   in    lines of a session, parted by ` | `; a `·` is a tab; `LINE × N` is the line N times; what begins with `..` goes on
-//         the line before
+// shown YARD DIFFERENCES.md: runs each input that docs/DIFFERENCES.md lists on the Rust as it is, and on the program
+// `yard`, and compares both answers with what the list says. The cases stand in blocks of code, parted by empty lines:
+//   in    lines of a session, parted by ` | `; a `·` is a tab; `LINE × N` is the line N times; what begins with `..`
+//         goes on the line before
 //   here  what yard writes; `-` is nothing
-//   Rust  what the Rust answers: C, X, L and R as yard writes them, `builds` where no call follows, `panics`, with which the
-//         case ends. Words after it: `watches` and the literals that add_watch got, `asks` and those that enqueue got,
-//         `extra` and what require_extra_constraints answers.
-// The Rust is called without document 01's tests. The table is kept as yard keeps it: N marks an unset variable, U unsets its own.
-// The last line is 'N passed, M failed', one for each answer of a case.
+//   Rust  what the Rust answers: C, X, L and R as yard writes them, `builds` where no call follows, `panics`, with
+//         which the case ends. Words after it: `watches` and the literals that add_watch got, `asks` and those that
+//         enqueue got, `extra` and what require_extra_constraints answers.
+// The Rust is called without document 01's tests. The table is kept as yard keeps it: N marks an unset variable, U
+// unsets its own. The last line is 'N passed, M failed', one for each answer of a case.
 #![allow(dead_code)]
 use std::io::{Read, Write};
 use std::panic::{catch_unwind, AssertUnwindSafe};
@@ -153,7 +153,10 @@ fn rust(lines: &[String], words: &[String]) -> Vec<String> {
         match w.split('\t').next().unwrap() {
             "watches" => out.push(say("watches", &s.watches)),
             "asks" => out.push(say("asks", &s.asks)),
-            "extra" => out.push(format!("extra\t{}", if options(lines).require_extra_constraints() { "yes" } else { "no" })),
+            "extra" => {
+                let extra = options(lines).require_extra_constraints();
+                out.push(format!("extra\t{}", if extra { "yes" } else { "no" }));
+            }
             _ => (),
         }
     }
@@ -162,7 +165,8 @@ fn rust(lines: &[String], words: &[String]) -> Vec<String> {
 
 fn yard(program: &str, lines: &[String]) -> Vec<String> {
     let text: String = lines.iter().map(|l| format!("{l}\n")).collect();
-    let mut child = Command::new(program).stdin(Stdio::piped()).stdout(Stdio::piped()).spawn().expect("the program yard");
+    let mut yard = Command::new(program);
+    let mut child = yard.stdin(Stdio::piped()).stdout(Stdio::piped()).spawn().expect("the program yard");
     child.stdin.take().unwrap().write_all(text.as_bytes()).expect("the session");
     let mut out = String::new();
     child.stdout.take().unwrap().read_to_string(&mut out).expect("the answers");
@@ -172,12 +176,15 @@ fn yard(program: &str, lines: &[String]) -> Vec<String> {
 
 // The lines of one key of a case.
 fn field(case: &[&str], key: &str) -> Vec<String> {
-    let mut out = vec![];
+    let mut out: Vec<String> = vec![];
     for l in case.iter().filter_map(|l| l.strip_prefix(key)) {
         for part in l.split(" | ").map(|p| p.trim().replace('·', "\t")) {
             match part.split_once(" × ") {
                 _ if part.starts_with("..") => out.last_mut().expect("a line to go on").push_str(&part[2..]),
-                Some((line, n)) => out.extend(std::iter::repeat_n(line.to_string(), n.parse().expect("how many times"))),
+                Some((line, n)) => {
+                    let times = n.parse().expect("how many times");
+                    out.extend(std::iter::repeat_n(line.to_string(), times));
+                }
                 None => out.push(part),
             }
         }
@@ -203,7 +210,8 @@ fn main() {
             continue;
         }
         let (here, there) = (field(case, "here "), field(case, "Rust "));
-        for (who, said, found) in [("yard", &here, yard(&args[0], &input)), ("the Rust", &there, rust(&input, &there))] {
+        let found = [yard(&args[0], &input), rust(&input, &there)];
+        for ((who, said), found) in [("yard", &here), ("the Rust", &there)].into_iter().zip(found) {
             if *said == found {
                 passed += 1;
             } else {
