@@ -403,14 +403,20 @@ struct Times {
     ratio: f64,
 }
 
-fn medians(rounds: usize, mut round: impl FnMut() -> (f64, f64, usize)) -> Times {
-    let all: Vec<(f64, f64, usize)> = (0..rounds).map(|_| round()).collect();
-    let each = |f: &dyn Fn(&(f64, f64, usize)) -> f64| median(all.iter().map(f).collect());
+// Of one round: the Rust's time, ours, and how many calls they were.
+type Sums = (f64, f64, usize);
+
+fn medians(rounds: &[Sums]) -> Times {
+    let each = |f: &dyn Fn(&Sums) -> f64| median(rounds.iter().map(f).collect());
     Times { ours: each(&|t| t.1 / t.2 as f64), rust: each(&|t| t.0 / t.2 as f64), ratio: each(&|t| t.1 / t.0) }
 }
 
-// Both sides replay the calls in turns; the sums of the times, and how many calls they were.
-fn replay(a: &mut Rust, b: &mut Host, ops: &[Op]) -> (f64, f64, usize) {
+fn repeated(rounds: usize, mut round: impl FnMut() -> Sums) -> Times {
+    medians(&(0..rounds).map(|_| round()).collect::<Vec<_>>())
+}
+
+// Both sides replay the calls in turns.
+fn replay(a: &mut Rust, b: &mut Host, ops: &[Op]) -> Sums {
     let mut sums = (0.0, 0.0, calls_in(ops));
     for part in ops.chunks(200) {
         let mut answers = [Vec::with_capacity(200), Vec::with_capacity(200)];
@@ -425,13 +431,13 @@ fn replay(a: &mut Rust, b: &mut Host, ops: &[Op]) -> (f64, f64, usize) {
     sums
 }
 
-fn add(x: (f64, f64, usize), y: (f64, f64, usize)) -> (f64, f64, usize) {
+fn add(x: Sums, y: Sums) -> Sums {
     (x.0 + y.0, x.1 + y.1, x.2 + y.2)
 }
 
 fn timed(plans: &[Plan], rounds: usize, make: impl Fn(&Plan) -> Work) -> Times {
     let made: Vec<Work> = plans.iter().map(make).collect();
-    medians(rounds, || {
+    repeated(rounds, || {
         let mut sums = (0.0, 0.0, 0);
         for (plan, (before, ops)) in plans.iter().zip(&made) {
             // One call alone is too short a time.
@@ -451,54 +457,59 @@ fn timed(plans: &[Plan], rounds: usize, make: impl Fn(&Plan) -> Work) -> Times {
 fn building(plans: &[Plan], rounds: usize) -> Times {
     let given: Vec<(Parts, Given)> = plans.iter().map(|p| (p.parts(), p.given())).collect();
     let mut state = vec![0; STATE_LEN];
-    medians(rounds, || {
+    repeated(rounds, || {
         let mut sums = (0.0, 0.0, 0);
         for (parts, given) in &given {
             let bytes = given.bytes();
             let start = now();
-            black_box(parts.build());
+            for _ in 0..8 {
+                black_box(parts.build());
+            }
             let between = now();
-            assert_eq!(given.build_into(&bytes, &mut state), 0, "building");
-            sums = add(sums, (between - start, now() - between, 1));
+            for _ in 0..8 {
+                assert_eq!(given.build_into(&bytes, &mut state), 0, "building");
+            }
+            sums = add(sums, (between - start, now() - between, 8));
         }
         sums
     })
 }
 
-// The times with more and more literals standing, all of one division and all only noted: (standing, note and undo,
-// fetch). What is fetched was recorded by notifications that are undone again, and needs no path: it stays to be had.
-fn standing(plan: &Plan, rounds: usize) -> Vec<(usize, Times, Times)> {
+// Both sides with the first `many` literals of the division standing, all only noted, and literals whose reasons can
+// be fetched: recorded by notifications that are undone again, and such as need no path, so that 16 never comes.
+fn noted(plan: &Plan, many: usize) -> (Rust, Host, Vec<i32>) {
     let (mut a, mut b) = (plan.rust(), plan.host());
     let (before, _) = half(plan);
-    for &op in &before {
+    let notified = |op: &Op| if let Op::Propagate(l) = op { Some(Op::Undo(*l)) } else { None };
+    let undone = before.iter().rev().filter_map(notified);
+    for op in before.iter().copied().chain(undone) {
         assert_eq!(apply(&mut a, op), apply(&mut b, op), "a call before");
     }
-    for &op in before.iter().rev() {
-        if let Op::Propagate(l) = op {
-            assert_eq!(apply(&mut a, Op::Undo(l)), apply(&mut b, Op::Undo(l)), "an undo before");
-        }
-    }
-    let recorded = |l: &i32| a.d.has_reason(Lit(*l));
-    let all = (0..2 * plan.variables() as i32).filter(recorded).collect::<Vec<_>>();
-    let lists: Vec<i32> = all.into_iter().filter(|&l| b.reason(l) >= 0).take(16).collect();
+    let mut lists: Vec<i32> = (0..2 * plan.variables() as i32).filter(|&l| a.d.has_reason(Lit(l))).collect();
+    lists.retain(|&l| b.reason(l) >= 0);
+    lists.truncate(16);
     assert!(!lists.is_empty(), "nothing is recorded");
-    let many = plan.variables() - 1;
-    let mut done = 0;
-    let mut out = vec![];
-    for eighth in 0..=8 {
-        let want = many * eighth / 8;
-        for &l in &plan.truth[done..want] {
-            assert_eq!(apply(&mut a, Op::Note(l)), apply(&mut b, Op::Note(l)), "a noted literal");
-        }
-        done = want;
-        let l = plan.truth[want];
-        let pairs: Vec<Op> = (0..50).flat_map(|_| [Op::Note(l), Op::Undo(l)]).collect();
-        let note = medians(rounds, || replay(&mut a, &mut b, &pairs));
-        let fetched: Vec<Op> = (0..5).flat_map(|_| lists.iter().map(|&l| Op::Reason(l))).collect();
-        let fetch = medians(rounds, || replay(&mut a, &mut b, &fetched));
-        out.push((want, note, fetch));
+    for &l in &plan.truth[..many] {
+        assert_eq!(apply(&mut a, Op::Note(l)), apply(&mut b, Op::Note(l)), "a noted literal");
     }
-    out
+    (a, b, lists)
+}
+
+// The times with more and more literals standing: how many, note only and undo, fetch. A round has all of them.
+fn standing(plan: &Plan, rounds: usize) -> Vec<(usize, Times, Times)> {
+    let numbers: Vec<usize> = (0..=8).map(|eighth| (plan.variables() - 1) * eighth / 8).collect();
+    let mut sides: Vec<(Rust, Host, Vec<i32>)> = numbers.iter().map(|&many| noted(plan, many)).collect();
+    let mut made = vec![(vec![], vec![]); numbers.len()];
+    for _ in 0..rounds {
+        for ((a, b, lists), (&many, kept)) in sides.iter_mut().zip(numbers.iter().zip(&mut made)) {
+            let l = plan.truth[many];
+            let pairs: Vec<Op> = (0..50).flat_map(|_| [Op::Note(l), Op::Undo(l)]).collect();
+            kept.0.push(replay(a, b, &pairs));
+            let fetched: Vec<Op> = lists.iter().cycle().take(100).map(|&l| Op::Reason(l)).collect();
+            kept.1.push(replay(a, b, &fetched));
+        }
+    }
+    numbers.iter().zip(made).map(|(&many, (note, fetch))| (many, medians(&note), medians(&fetch))).collect()
 }
 
 // The slope of the line nearest to the points: nanoseconds a standing literal and call.
@@ -580,10 +591,11 @@ fn stacks(plan: &Plan) -> [usize; 5] {
     most.map(|x| x.saturating_sub(none))
 }
 
-fn row(out: &mut Vec<String>, calls: &str, size: &str, t: Times, stack: usize, grows: Option<f64>, wanted: &str) {
+fn row(out: &mut Vec<String>, calls: &str, size: &str, t: Times, stack: &[usize], grows: Option<f64>, wanted: &str) {
     let mut s = format!("| {calls} | {size} | {:.2} | {:.2} | {:.2} ", t.ours, t.rust, t.ratio);
+    let used = stack.iter().map(|x| format!("{:.0}", *x as f64 / 1000.0)).collect::<Vec<_>>().join(", ");
     let grown = grows.map_or("-".to_string(), |g| format!("{g:.1}"));
-    write!(s, "| {:.0} | {grown} | {wanted} |", stack as f64 / 1024.0).unwrap();
+    write!(s, "| {used} | {grown} | {wanted} |").unwrap();
     out.push(s);
 }
 
@@ -593,7 +605,7 @@ fn bench(rounds: usize, figures: &str) {
     for (name, n, m, k) in [("S", 10, 15, 6), ("M", 30, 45, 6), ("L", 64, 128, 6), ("X", 64, 128, 32)] {
         let mut r = Rng(7);
         let plans: Vec<Plan> = (0..3).map(|_| Plan::new(&mut r, n, m, k)).collect();
-        println!("{name}: {n} vertices, {m} edges, {} literals", plans[0].variables());
+        eprintln!("{name}: {n} vertices, {m} edges, {} literals", plans[0].variables());
         let [build, init, notify, undo, fetch] = stacks(&plans[0]);
         let grown = standing(&plans[0], rounds);
         for (many, note, fetch) in &grown {
@@ -602,25 +614,24 @@ fn bench(rounds: usize, figures: &str) {
         }
         let noting = slope(&grown.iter().map(|p| (p.0 as f64, p.1.ours)).collect::<Vec<_>>());
         let fetching = slope(&grown.iter().map(|p| (p.0 as f64, p.2.ours)).collect::<Vec<_>>());
-        let pair = notify.max(undo);
+        let pair = [notify, undo];
         let t = timed(&plans, rounds, notify_undo);
-        row(&mut rows[0], "notify, then undo", name, t, pair, None, "0.8");
+        row(&mut rows[0], "notify, then undo", name, t, &pair, None, "0.8");
         let t = timed(&plans, rounds, search);
-        row(&mut rows[1], "a search", name, t, pair.max(fetch), None, "1.0");
+        row(&mut rows[1], "a search", name, t, &[notify, undo, fetch], None, "1.0");
         let t = timed(&plans, rounds, initialise);
-        row(&mut rows[2], "initialise", name, t, init, None, "0.6");
+        row(&mut rows[2], "initialise", name, t, &[init], None, "0.6");
         let t = timed(&plans, rounds, fetches);
-        row(&mut rows[3], "fetch", name, t, fetch, Some(fetching), "3");
+        row(&mut rows[3], "fetch", name, t, &[fetch], Some(fetching), "3");
         let t = timed(&plans, rounds, fetches_all);
-        row(&mut rows[4], "fetch, all standing", name, t, fetch, Some(fetching), "3");
+        row(&mut rows[4], "fetch, all standing", name, t, &[fetch], None, "3");
         let t = timed(&plans, rounds, note_undo);
-        row(&mut rows[5], "note only, then undo", name, t, pair, Some(noting), "-");
+        row(&mut rows[5], "note only, then undo", name, t, &pair, Some(noting), "-");
         let t = building(&plans, rounds);
-        row(&mut rows[6], "building", name, t, build, None, "100 µs");
-        println!("  stack of a notification {notify}, an undo {undo}, a fetch {fetch} bytes");
+        row(&mut rows[6], "building", name, t, &[build], None, "100 µs");
     }
     std::fs::write(figures, points).expect("the file of figures");
-    println!("\n| Calls | Yard | Ours, µs | Rust, µs | Ratio | Stack, KB | Growth, ns | Wanted |");
+    println!("| Calls | Yard | Ours, µs | Rust, µs | Ratio | Stack, KB | Growth, ns | Wanted |");
     println!("|---|---|---|---|---|---|---|---|");
     println!("{}", rows.concat().join("\n"));
 }

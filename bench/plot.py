@@ -9,9 +9,9 @@ LEFT, TOP, RIGHT, BOTTOM = 62, 46, 16, 46
 GAP = 50
 PLANS = [("L", "L: 64 vertices, 128 edges, 448 literals"), ("X", "X: 64 vertices, 128 edges, 2112 literals")]
 LINES = [
-    (0, "note only, undo: ours", "#b03a2e", ""),
+    (0, "note only, undo: ours", "#b03a2e", "none"),
     (2, "fetch: ours", "#b03a2e", "5 4"),
-    (1, "note only, undo: Rust", "#1f618d", ""),
+    (1, "note only, undo: Rust", "#1f618d", "none"),
     (3, "fetch: Rust", "#1f618d", "5 4"),
 ]
 

@@ -76,8 +76,8 @@ impl Given {
         unsafe { zuntjev_build(vp, vs.len(), n, ep, es.len(), m, same_size, extra_walls, s, len) }
     }
 
-    // A built state, with a table of `variables` entries, a list of `lits` literals, and log and reason buffer as short
-    // as they may be.
+    // A built state, with a table of `variables` entries, a list of `lits` literals, and log and reason buffer as
+    // short as they may be.
     pub fn build(&self, variables: usize, lits: usize) -> Host {
         let mut state = vec![0; STATE_LEN];
         assert_eq!(self.build_into(&self.bytes(), &mut state), 0, "building");
