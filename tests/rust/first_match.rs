@@ -1,5 +1,6 @@
-// Stands in for the one search that is changed in the copy of the Rust source: the first entry of a sorted list with this pair, the
-// lowest edge.
+// Stands in for the one search that is changed in the copy of the Rust source: the first entry of a sorted list with
+// this pair, the lowest edge, found by halving as the Rust's own search does.
 fn first_match(groups: &[((usize, usize), usize)], pair: &(usize, usize)) -> Result<usize, ()> {
-    groups.iter().position(|x| x.0 == *pair).ok_or(())
+    let i = groups.partition_point(|x| x.0 < *pair);
+    if groups.get(i).is_some_and(|x| x.0 == *pair) { Ok(i) } else { Err(()) }
 }

@@ -1,11 +1,28 @@
 // The C host (include/zuntjev.h), with the buffers that it is lent: what a driver that links libhost.a needs of it.
 extern "C" {
-    fn zuntjev_build(vertices: *const u8, vn: usize, n: usize, edges: *const u8, en: usize, m: usize, same_size: i32, extra_walls: i32, state: *mut u8, state_len: usize) -> i32;
-    fn zuntjev_initialize(state: *mut u8, sn: usize, table: *mut u8, tn: usize, list: *mut u8, ln: usize, log: *mut u8, gn: usize, cursor: *mut u8, cn: usize) -> i32;
-    fn zuntjev_propagate(state: *mut u8, sn: usize, table: *mut u8, tn: usize, list: *mut u8, ln: usize, log: *mut u8, gn: usize, cursor: *mut u8, cn: usize, lit: i32, pending: i32) -> i32;
-    fn zuntjev_undo(state: *mut u8, sn: usize, log: *const u8, gn: usize, cursor: *mut u8, cn: usize, lit: i32) -> i32;
-    fn zuntjev_calc_reason(state: *const u8, sn: usize, log: *const u8, gn: usize, cursor: *const u8, cn: usize, lit: i32, buffer: *mut u8, bn: usize) -> i32;
-    fn zuntjev_calc_last(state: *const u8, sn: usize, log: *const u8, gn: usize, cursor: *const u8, cn: usize, buffer: *mut u8, bn: usize) -> i32;
+    fn zuntjev_build(
+        vertices: *const u8, vertices_len: usize, n: usize, edges: *const u8, edges_len: usize, m: usize,
+        same_size: i32, extra_walls: i32, state: *mut u8, state_len: usize,
+    ) -> i32;
+    fn zuntjev_initialize(
+        state: *mut u8, state_len: usize, table: *mut u8, table_len: usize, list: *mut u8, list_len: usize,
+        log: *mut u8, log_len: usize, cursor: *mut u8, cursor_len: usize,
+    ) -> i32;
+    fn zuntjev_propagate(
+        state: *mut u8, state_len: usize, table: *mut u8, table_len: usize, list: *mut u8, list_len: usize,
+        log: *mut u8, log_len: usize, cursor: *mut u8, cursor_len: usize, lit: i32, pending: i32,
+    ) -> i32;
+    fn zuntjev_undo(
+        state: *mut u8, state_len: usize, log: *const u8, log_len: usize, cursor: *mut u8, cursor_len: usize, lit: i32,
+    ) -> i32;
+    fn zuntjev_calc_reason(
+        state: *const u8, state_len: usize, log: *const u8, log_len: usize, cursor: *const u8, cursor_len: usize,
+        lit: i32, buffer: *mut u8, buffer_len: usize,
+    ) -> i32;
+    fn zuntjev_calc_last(
+        state: *const u8, state_len: usize, log: *const u8, log_len: usize, cursor: *const u8, cursor_len: usize,
+        buffer: *mut u8, buffer_len: usize,
+    ) -> i32;
 }
 
 pub const STATE_LEN: usize = 133440;
@@ -37,49 +54,72 @@ impl Given {
         self.edges.len() + self.vertices.iter().map(|v| v.1.len().saturating_sub(1)).sum::<usize>()
     }
 
-    // A built state, with a table of `variables` entries, a list of `lits` literals, and log and reason buffer as short as they may be.
-    pub fn build(&self, variables: usize, lits: usize) -> Host {
-        let (n, m) = (self.vertices.len(), self.edges.len());
-        let mut vs = vec![0i32; 67 * n];
+    // The plan's numbers as bytes: those of the vertices, those of the edges.
+    pub fn bytes(&self) -> (Vec<u8>, Vec<u8>) {
+        let mut vs = vec![0i32; 67 * self.vertices.len()];
         for (v, (weight, sizes, dom_lits)) in self.vertices.iter().enumerate() {
             let at = 67 * v;
             vs[at..at + 3].copy_from_slice(&[*weight, sizes.len() as i32, dom_lits.len() as i32]);
             vs[at + 3..at + 3 + sizes.len()].copy_from_slice(sizes);
             vs[at + 35..at + 35 + dom_lits.len()].copy_from_slice(dom_lits);
         }
-        let vs: Vec<u8> = vs.iter().flat_map(|x| x.to_le_bytes()).collect();
-        let es: Vec<u8> = self.edges.iter().flatten().flat_map(|x| x.to_le_bytes()).collect();
+        let es = self.edges.iter().flatten().flat_map(|x| x.to_le_bytes()).collect();
+        (vs.iter().flat_map(|x| x.to_le_bytes()).collect(), es)
+    }
+
+    // The call alone, on what `bytes` gave.
+    pub fn build_into(&self, (vs, es): &(Vec<u8>, Vec<u8>), state: &mut [u8]) -> i32 {
+        let (n, m) = (self.vertices.len(), self.edges.len());
+        let (same_size, extra_walls) = (self.same_size as i32, self.extra_walls as i32);
+        let (vp, ep) = (vs.as_ptr(), es.as_ptr());
+        let (s, len) = (state.as_mut_ptr(), state.len());
+        unsafe { zuntjev_build(vp, vs.len(), n, ep, es.len(), m, same_size, extra_walls, s, len) }
+    }
+
+    // A built state, with a table of `variables` entries, a list of `lits` literals, and log and reason buffer as
+    // short as they may be.
+    pub fn build(&self, variables: usize, lits: usize) -> Host {
         let mut state = vec![0; STATE_LEN];
-        let built = unsafe { zuntjev_build(vs.as_ptr(), vs.len(), n, es.as_ptr(), es.len(), m, self.same_size as i32, self.extra_walls as i32, state.as_mut_ptr(), state.len()) };
-        assert_eq!(built, 0, "building");
-        Host { state, table: vec![0; variables], list: vec![0; 2 * lits], log: vec![0; 16 * self.slots()], cursor: vec![0; 8], buffer: vec![0; 2 * (m + 2 * n + 4)] }
+        assert_eq!(self.build_into(&self.bytes(), &mut state), 0, "building");
+        Host {
+            state,
+            table: vec![0; variables],
+            list: vec![0; 2 * lits],
+            log: vec![0; 16 * self.slots()],
+            cursor: vec![0; 8],
+            buffer: vec![0; 2 * (self.edges.len() + 2 * self.vertices.len() + 4)],
+        }
     }
 }
 
 impl Host {
     pub fn initialize(&mut self) -> i32 {
-        let Host { state, table, list, log, cursor, .. } = self;
-        unsafe { zuntjev_initialize(state.as_mut_ptr(), state.len(), table.as_mut_ptr(), table.len(), list.as_mut_ptr(), list.len(), log.as_mut_ptr(), log.len(), cursor.as_mut_ptr(), cursor.len()) }
+        let Host { state: s, table: t, list: l, log: g, cursor: c, .. } = self;
+        let (sp, tp, lp, gp, cp) = (s.as_mut_ptr(), t.as_mut_ptr(), l.as_mut_ptr(), g.as_mut_ptr(), c.as_mut_ptr());
+        unsafe { zuntjev_initialize(sp, s.len(), tp, t.len(), lp, l.len(), gp, g.len(), cp, c.len()) }
     }
 
     pub fn propagate(&mut self, lit: i32, pending: i32) -> i32 {
-        let Host { state, table, list, log, cursor, .. } = self;
-        unsafe { zuntjev_propagate(state.as_mut_ptr(), state.len(), table.as_mut_ptr(), table.len(), list.as_mut_ptr(), list.len(), log.as_mut_ptr(), log.len(), cursor.as_mut_ptr(), cursor.len(), lit, pending) }
+        let Host { state: s, table: t, list: l, log: g, cursor: c, .. } = self;
+        let (sp, tp, lp, gp, cp) = (s.as_mut_ptr(), t.as_mut_ptr(), l.as_mut_ptr(), g.as_mut_ptr(), c.as_mut_ptr());
+        unsafe { zuntjev_propagate(sp, s.len(), tp, t.len(), lp, l.len(), gp, g.len(), cp, c.len(), lit, pending) }
     }
 
     pub fn undo(&mut self, lit: i32) -> i32 {
-        let Host { state, log, cursor, .. } = self;
-        unsafe { zuntjev_undo(state.as_mut_ptr(), state.len(), log.as_ptr(), log.len(), cursor.as_mut_ptr(), cursor.len(), lit) }
+        let Host { state: s, log: g, cursor: c, .. } = self;
+        unsafe { zuntjev_undo(s.as_mut_ptr(), s.len(), g.as_ptr(), g.len(), c.as_mut_ptr(), c.len(), lit) }
     }
 
     pub fn reason(&mut self, lit: i32) -> i32 {
-        let Host { state, log, cursor, buffer, .. } = self;
-        unsafe { zuntjev_calc_reason(state.as_ptr(), state.len(), log.as_ptr(), log.len(), cursor.as_ptr(), cursor.len(), lit, buffer.as_mut_ptr(), buffer.len()) }
+        let Host { state: s, log: g, cursor: c, buffer: b, .. } = self;
+        let (sp, gp, cp, bp) = (s.as_ptr(), g.as_ptr(), c.as_ptr(), b.as_mut_ptr());
+        unsafe { zuntjev_calc_reason(sp, s.len(), gp, g.len(), cp, c.len(), lit, bp, b.len()) }
     }
 
     pub fn last(&mut self) -> i32 {
-        let Host { state, log, cursor, buffer, .. } = self;
-        unsafe { zuntjev_calc_last(state.as_ptr(), state.len(), log.as_ptr(), log.len(), cursor.as_ptr(), cursor.len(), buffer.as_mut_ptr(), buffer.len()) }
+        let Host { state: s, log: g, cursor: c, buffer: b, .. } = self;
+        let (sp, gp, cp, bp) = (s.as_ptr(), g.as_ptr(), c.as_ptr(), b.as_mut_ptr());
+        unsafe { zuntjev_calc_last(sp, s.len(), gp, g.len(), cp, c.len(), bp, b.len()) }
     }
 }
 
