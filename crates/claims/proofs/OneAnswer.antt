@@ -3,23 +3,32 @@ use mathlib.Core.Path.{_≡_, refl, sym, ap, ap₂, subst, _∙_}
 use mathlib.Core.Bool.{Bool, true, false, not, false≢true}
 use mathlib.Core.List.{List, [], _∷_}
 use Prim.Native.Nat.{ℕ}
-use lib.ListN.{length, take}
+use lib.ListN.{length, take, drop, take-append-drop}
+use borrow.Author.Tests.{eq-eqb}
 use lib.Seq.{sets, take-length}
-use Rattle.base.proofs.Loop.{pick-ind}
+use Rattle.base.proofs.Loop.{pick-ind, tested}
+use Rattle.base.proofs.Tests.{or-none}
+use Rattle.noting.specs.Buffers.{logShort}
+use Rattle.as_noted.specs.AsNoted.{AsNoted}
+use Rattle.as_noted.proofs.Afresh.{as-noted}
 use Rattle.division.specs.Plan.{Plan}
 use Rattle.calls.specs.Calls as calls
 use Rattle.calls.specs.Calls.{World}
 use Rattle.calls.specs.Marks.{Marked}
+use Rattle.calls.specs.Refusals.{roomOf, Applies}
 use Rattle.calls.proofs.Claim.{listIn}
 use Rattle.calls.proofs.Marks.{call-marked}
-use Rattle.calls.proofs.Queries.{Answered, denied, given, answer-judged}
+use Rattle.calls.proofs.Refusals.{acceptances}
+use Rattle.calls.proofs.Queries.{not-false, Answered, denied, given, answer-judged}
 use Rattle.calls.proofs.View.{Did, away, added, agreed, clashed, took, asked, began, beganLast, beganClash, did}
-use Rattle.graph_division.specs.Answers.{valuesOf}
+use Rattle.graph_division.specs.Answers.{numberOf, valuesOf}
 use Rattle.graph_division.specs.Outcomes.{answerFor, answerOf}
-use Rattle.graph_division.specs.Runs.{Request, initialize, propagate, undo, ask, tableOf, listOf, Kept, Reply, reply, callOf}
-use Rattle.simulation.proofs.Running.{valuesFor}
+use Rattle.graph_division.specs.Runs.{Request, initialize, propagate, undo, ask, tableOf, listOf, tailOf, Kept, logFor, Reply, reply, keeping, roomFor, callOf}
+use Rattle.simulation.proofs.Represents.{Represents}
+use Rattle.simulation.proofs.Running.{valuesFor, with-tail}
 use Rattle.claims.specs.Whole.{literalsOf, writtenBy, writtenOf, Whole}
-use Rattle.claims.proofs.Replying.{At, reply-at}
+use Rattle.claims.specs.Conditions.{accepted}
+use Rattle.claims.proofs.Replying.{accepted-is, At, reply-at}
 use Rattle.claims.proofs.Past.{reply-log}
 
 pub table-same : (k : Kept) (q : Request) → calls.tableOf (callOf k q) ≡ tableOf q
@@ -103,12 +112,46 @@ unfolding calls.call calls.onAsk calls.tell calls.accepted
 ask-told d w room q = pick-ind (λ (a : calls.Answer). calls.accepted a ≡ true → a ≡ calls.reason (listIn a)) (not room) (calls.refused 7) (calls.answerTo d w q)
     (λ _ e. absurd (false≢true e)) (λ _ e. told d w q (answer-judged d w q) e)
 
+-- ---- the log of a call that is accepted is long enough
+room-long : (k : Kept) (q : Request) → roomOf (callOf k q) ≡ true → logShort (k .state .plan) (length (logFor k (tailOf q))) ≡ false
+unfolding callOf roomOf roomFor tailOf
+room-long k (initialize t list tail) e = or-none _ _ (not-false _ e) .0
+room-long k (propagate lit pending t list tail) e = or-none _ _ (not-false _ e) .0
+room-long k (undo lit tail) e = not-false _ e
+room-long k (ask q b tail) e = or-none _ _ (not-false _ e) .0
+
+accepted-room : (d : Plan) (w : World) (c : calls.Call) → calls.accepted (calls.call d c w .answer) ≡ true → roomOf c ≡ true
+accepted-room d w c e = tested (roomOf c) (λ t. t) (λ f. absurd (acceptances d w c .0 e 7 (Applies.noRoom c f)))
+
 module _ (D : Plan) (k : Kept) (w : World) (a : At D k w) (q : Request) where
   abbrev o : calls.Outcome
   o = calls.call D (callOf k q) w
 
   written-is : valuesFor q o ≡ writtenOf o
   written-is = values-to k q o ∙ did-written D w (did D w (callOf k q))
+
+  -- what is kept after it, with the log that it leaves, stands for the world
+  reply-represents : accepted (reply k q .answer) ≡ true → Represents (reply k q .state) (reply k q .log) (reply k q .cursor) (o .world)
+  unfolding keeping
+  reply-represents e =
+      let r = reply-at D k w a q in
+      let y = reply k q in
+      let room = accepted-room D w (callOf k q) (sym (accepted-is D w (callOf k q)) ∙ ap accepted (sym (r .answer)) ∙ e) in
+      let long : logShort (y .state .plan) (length (y .log)) ≡ false =
+      ap₂ logShort (r .plan) (reply-log k q .long) ∙ room-long k q room in
+      let whole = take-append-drop (y .cursor .used) (y .log) in
+      subst (λ (m : List ℕ). Represents (y .state) m (y .cursor) (o .world)) whole
+      (with-tail (keeping y) (o .world) (r .keeps) (drop (y .cursor .used) (y .log)) (ap (λ (m : List ℕ). logShort (y .state .plan) (length m)) whole ∙ long))
+
+  reply-noted : numberOf (reply k q .answer) ≡ 0 →
+      AsNoted (reply k q .state .plan) (reply k q .state .noted) (reply k q .log) (reply k q .cursor) (o .world .standing)
+  unfolding accepted
+  reply-noted e =
+      let y = reply k q in
+      let r = reply-represents (eq-eqb _ 0 e) in
+      let v = r .valid in
+      subst (AsNoted (y .state .plan) (y .state .noted) (y .log) (y .cursor)) (sym (r .standing))
+      (as-noted (y .state .plan) (y .state .edges .ends) (r .proper) (y .state .noted) (y .log) (y .cursor) (v .words) (v .long) .0 (v .passes))
 
   pub one-answer : Whole k q o
   unfolding answerOf
@@ -124,6 +167,7 @@ module _ (D : Plan) (k : Kept) (w : World) (a : At D k w) (q : Request) where
         marked = subst (Marked (tableOf q) (o .handed)) (sym (r .table))
             (subst (λ (t : List ℕ). Marked t (o .handed) (o .table)) (table-same k q) (call-marked D w (callOf k q)));
         log = reply-log k q;
+        noted = reply-noted;
       }
 
   -- the literals of a consistent answer, and of one that gives a list

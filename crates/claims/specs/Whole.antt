@@ -7,7 +7,8 @@ use lib.Seq.{sets}
 use Rattle.undo_log.specs.declared.Cursor.{Cursor}
 use Rattle.calls.specs.Calls as calls
 use Rattle.calls.specs.Marks.{Marked}
-use Rattle.graph_division.specs.Answers.{valuesOf}
+use Rattle.as_noted.specs.AsNoted.{AsNoted}
+use Rattle.graph_division.specs.Answers.{numberOf, valuesOf}
 use Rattle.graph_division.specs.Outcomes.{answerOf}
 use Rattle.graph_division.specs.Runs.{Request, tableOf, listOf, tailOf, Kept, logFor, Reply, reply}
 
@@ -45,3 +46,6 @@ pub record Whole (k : Kept) (q : Request) (o : calls.Outcome) : Type 0 where
   pub marked : Marked (tableOf q) (o .handed) (reply k q .table)
   -- "Entries past those a call writes, log records past the cursor included, keep what they held."
   pub log : Logs (k .cursor) (logFor k (tailOf q)) (reply k q .cursor) (reply k q .log)
+  -- and up to it, where it is accepted: log, cursor, gates and bounds are what noting the literals that stand then gives
+  pub noted : numberOf (reply k q .answer) ≡ 0 →
+      AsNoted (reply k q .state .plan) (reply k q .state .noted) (reply k q .log) (reply k q .cursor) (o .world .standing)
