@@ -3,9 +3,9 @@
  *
  * Every function is total: any bytes may be lent. A plan that no build gives, noted words, a log and a cursor that do not belong
  * together, and a table with a code over 4 are refused with 7, and a refused call leaves all bytes as they were. The recorded
- * reasons and the list last left are NOT tested (but for a list's length over 260): keep the state's bytes whole. All integers are
- * little-endian. A buffer is a pointer and a length in bytes; the pointer is never null, also where the length is 0. Buffers of one
- * call must not overlap.
+ * reasons and the list last left are NOT tested (but a list longer than a reason buffer must hold is refused with 7, so that no
+ * fetch answers more literals than its buffer has entries): keep the state's bytes whole. All integers are little-endian. A buffer
+ * is a pointer and a length in bytes; the pointer is never null, also where the length is 0. Buffers of one call must not overlap.
  *
  * The state's bytes:
  *        0  the plan's words, 15241 of 4 bytes

@@ -236,7 +236,7 @@ module _ (D : Plan) where
       stands-then before q = ap (λ (w : World). w .standing) (sym (run-more before q)) ∙ standing-after (before ++ (q ∷ []))
 
       -- what is handed on is the plan's, and the table is long enough for it
-      handed-known : (before : List Request) (q : Request) (l : ℕ) → In (outcome before q .handed) l → knows D l ≡ true
+      pub handed-known : (before : List Request) (q : Request) (l : ℕ) → In (outcome before q .handed) l → knows D l ≡ true
       handed-known before q l m =
           let c = callOf (after start before) q in
           let v = outcome before q .world in

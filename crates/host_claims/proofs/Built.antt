@@ -4,7 +4,7 @@
 use mathlib.Core.Path.{_≡_, refl, sym, ap, ap₂, subst, _∙_}
 use mathlib.Core.Bool.{Bool, true, false, not, true≢false}
 use mathlib.Core.List.{List, []}
-use Prim.Native.Nat.{ℕ, zero, suc, _<_}
+use Prim.Native.Nat.{ℕ, zero, suc, _≤_}
 use native.Mathlib.Omega.{arith}
 use lib.Dec.{eqb, ltb}
 use lib.IntN.{ℤ, pos, negsuc, negℤ}
@@ -15,6 +15,7 @@ use Rattle.base.specs.Range.{inRange}
 use Rattle.base.proofs.Loop.{pick-yes, pick-no, tested}
 use Rattle.noting.specs.Words.{capped}
 use Rattle.division.specs.Plan.{Plan}
+use Rattle.division.specs.Noting.{In}
 use Rattle.plan.specs.Plan.{planOf}
 use Rattle.builder.specs.Input.{refusal}
 use Rattle.builder.specs.Given.{Given}
@@ -22,7 +23,7 @@ use Rattle.calls.specs.Calls as calls
 use Rattle.graph_division.specs.New.{built}
 use Rattle.graph_division.specs.Runs.{Request, Kept, kept, after, callOf, callsOf}
 use Rattle.simulation.proofs.Running.{fresh}
-use Rattle.claims.specs.Conditions.{Condition1, Condition2, Condition3}
+use Rattle.claims.specs.Conditions.{outcomeTo, Condition1, Condition2, Condition3}
 use Rattle.claims.proofs.Built as claims
 use Rattle.byte_calls.specs.Bytes.{wordAt}
 use Rattle.byte_calls.specs.Codes.{fitted}
@@ -33,6 +34,7 @@ use Rattle.byte_calls.specs.Build.{isOn, buildRefused, BuiltIn}
 use Rattle.byte_calls.proofs.Building.{not-refused}
 use Rattle.host_claims.specs.HostRuns.{keptIn, Said, HostMade, AllHostMade, HostAnswers, HostConditions}
 use Rattle.host_claims.proofs.Runs.{host-made, host-runs, host-fits}
+use Rattle.host_claims.proofs.Reading.{host-reads}
 
 -- built by the host, with a cursor of zeros
 start-is : (vs : List ℤ) (n : ℕ) (es : List ℤ) (m : ℕ) (a b : ℤ) (before state log : List ℕ) → buildRefused vs n es m before ≡ false → BuiltIn vs n es m a b before state →
@@ -108,12 +110,21 @@ module _ (vs : List ℤ) (n : ℕ) (es : List ℤ) (m : ℕ) (a b : ℤ) (before
       AllHostMade start qs k → HostMade k q list x k′ → HostAnswers (after start qs) q list x
   answered {q = q} {list = list} {x = x} all made = subst (λ (h : Kept). HostAnswers h q list x) (host-runs all) (host-made made .answers)
 
+  second-condition : Condition2 start (planOf (stateIn state .plan) (stateIn state .edges .ends))
+  second-condition = of-start Condition2 (claims.condition-2 vs n es m (isOn a) (isOn b) accepted)
+
+  small : (qs : List Request) (q : Request) (l : ℕ) → In (outcomeTo (planOf (stateIn state .plan) (stateIn state .edges .ends)) start qs q .handed) l → l ≤ 8191
+  small = of-start (λ k d. (qs : List Request) (q : Request) (l : ℕ) → In (outcomeTo d k qs q .handed) l → l ≤ 8191)
+      (claims.handed-small vs n es m (isOn a) (isOn b) accepted)
+
   conditions : HostConditions a b start (planOf (stateIn state .plan) (stateIn state .edges .ends))
   conditions = record {
     answers = answered;
     fits = λ {qs} {k} {k′} {q} all made. host-fits _ (first-condition .answers qs q) (answered all made) made;
+    reads = λ {qs} {k} {k′} {q} all made c.
+        host-reads _ (first-condition .answers qs q) (answered all made) made c (small qs q) (second-condition .handed qs q c);
     condition-1 = first-condition;
-    condition-2 = of-start Condition2 (claims.condition-2 vs n es m (isOn a) (isOn b) accepted);
+    condition-2 = second-condition;
     condition-3 = λ e f. of-start Condition3 (off-condition vs n es m (isOn a) (isOn b) (ap isOn e ∙ off) (ap isOn f ∙ off) accepted);
   }
 

@@ -1,3 +1,4 @@
 pub mod Replies
 pub mod Runs
+pub mod Reading
 pub mod Built

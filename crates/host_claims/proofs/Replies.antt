@@ -206,15 +206,11 @@ module _ (state t list log cursor after : List ℕ) (hs : Bytes state) (hl : Byt
       (subst (λ (b : Bool). Leaves b (yi .outcome) state after) long-enough s))
 
 -- the fetches, of bytes that are long enough
-asked-reason : (state log cursor : List ℕ) → 133440 ≤ length state → 8 ≤ length cursor → (lit : ℤ) (buffer : List ℕ) →
-    hostAsked state log cursor (reasonFor lit) buffer ≡ givenIn (asked (stateIn state) (cursorIn cursor) (logIn (cursorIn cursor) log) (reasonFor lit) (bufferIn buffer)) buffer
-unfolding hostAsked hostReason asked
-asked-reason state log cursor ls lc lit buffer = pick-no _ _ (enough state cursor ls lc)
-
-asked-last : (state log cursor : List ℕ) → 133440 ≤ length state → 8 ≤ length cursor → (buffer : List ℕ) →
-    hostAsked state log cursor lastLeft buffer ≡ givenIn (asked (stateIn state) (cursorIn cursor) (logIn (cursorIn cursor) log) lastLeft (bufferIn buffer)) buffer
-unfolding hostAsked hostLast asked
-asked-last state log cursor ls lc buffer = pick-no _ _ (enough state cursor ls lc)
+pub asked-given : (state log cursor : List ℕ) → tooShort state cursor ≡ false → (q : Query) (buffer : List ℕ) →
+    hostAsked state log cursor q buffer ≡ givenIn (asked (stateIn state) (cursorIn cursor) (logIn (cursorIn cursor) log) q (bufferIn buffer)) buffer
+unfolding hostAsked hostReason hostLast asked
+asked-given state log cursor e (reasonFor lit) buffer = pick-no _ _ e
+asked-given state log cursor e lastLeft buffer = pick-no _ _ e
 
 module _ (state log cursor : List ℕ) (hc : Bytes cursor) (ls : 133440 ≤ length state) (lc : 8 ≤ length cursor) where
   abbrev k₁ : Kept
@@ -274,16 +270,9 @@ module _ (state log cursor : List ℕ) (hc : Bytes cursor) (ls : 133440 ≤ leng
     unfolding reply
     ask-words = ap (λ (m : List ℕ). repliedFetched k₁ (logFor k₁ (tailIn cursor log)) (asked (stateIn state) c₁ m q (bufferIn buffer))) (whole state cursor log)
 
-    asked-bytes : hostAsked state log cursor q buffer ≡ givenIn (asked (stateIn state) c₁ (logIn c₁ log) q (bufferIn buffer)) buffer
-    asked-bytes = by q
-      where
-        by : (x : Query) → hostAsked state log cursor x buffer ≡ givenIn (asked (stateIn state) c₁ (logIn c₁ log) x (bufferIn buffer)) buffer
-        by (reasonFor lit) = asked-reason state log cursor ls lc lit buffer
-        by lastLeft = asked-last state log cursor ls lc buffer
-
     pub ask-replies : hostAsked state log cursor q buffer ≡ back (codeOf (reply k₁ q₂ .answer)) (putList (reply k₁ q₂ .list) (givenBy (reply k₁ q₂ .answer)) buffer)
     unfolding givenIn repliedFetched
-    ask-replies = asked-bytes ∙ ap (λ (z : Reply). back (codeOf (z .answer)) (putList (z .list) (givenBy (z .answer)) buffer)) (sym ask-words)
+    ask-replies = asked-given state log cursor (enough state cursor ls lc) q buffer ∙ ap (λ (z : Reply). back (codeOf (z .answer)) (putList (z .list) (givenBy (z .answer)) buffer)) (sym ask-words)
 
     pub ask-table : [] ≡ reply k₁ q₂ .table
     unfolding repliedFetched

@@ -3,33 +3,46 @@
 --     host-runs      where a list of calls leads
 --     host-fits      a number of literals is no more than the list or the reason buffer has entries
 --     short-refused  a state or a cursor that is shorter than its layout
+--     fetch-fits     the number of a fetch on any bytes whatever, a damaged state's included
 use mathlib.Core.Path.{_≡_, refl, sym, ap, ap₂, subst, _∙_}
 use mathlib.Core.Bool.{Bool, true, false, _||_}
 use mathlib.Core.List.{List, [], _∷_}
-use Prim.Native.Nat.{ℕ, zero, suc, _*_, _/_, _≤_, zero-le}
+use Prim.Native.Nat.{ℕ, zero, suc, _+_, _*_, _/_, _≤_, zero-le}
 use native.Mathlib.Omega.{arith}
 use lib.IntN.{ℤ, pos, negsuc, negℤ}
+use borrow.Author.Tests.{eqb-true, ltb-false}
 use lib.ListN.{length, take, length-take, replicate, length-replicate}
 use lib.Seq.{length-sets, length-take-le, take-length}
 use Rattle.base.specs.Iter.{iter}
-use Rattle.base.proofs.Loop.{pick-yes}
+use Rattle.base.proofs.Loop.{pick-yes, pick-ind, tested}
+use Rattle.base.proofs.Tests.{or-none}
+use Rattle.undo_log.specs.declared.Cursor.{Cursor}
+use Rattle.plan.specs.Words.{verticesOf, edgesOf}
+use Rattle.noting.specs.Buffers.{reasonShort}
+use Rattle.walks.specs.declared.Listed.{Listed}
+use Rattle.walks.specs.declared.Listed.the-variants.{Past, Missing}
+use Rattle.refusals.specs.Refusals.{stateBad, fetchRefusal}
+use Rattle.refusals.proofs.Accepted.{pick-zero}
 use Rattle.noting.specs.Words.{capped}
 use Rattle.calls.specs.Calls as calls
 use Rattle.graph_division.specs.declared.Outcome.{Outcome}
+use Rattle.graph_division.specs.declared.GraphDivision.{GraphDivision}
 use Rattle.graph_division.specs.declared.Answer.{Answer}
+use Rattle.graph_division.specs.declared.Answer.the-variants.{Consistent, Conflict, Noted, Undone, Reason, Refused}
+use Rattle.graph_division.specs.Calls.{Fetched, reasonOver, copied, reasonGiven, giving, reasonFetched, lastFetched}
 use Rattle.graph_division.specs.Answers.{valuesOf}
 use Rattle.graph_division.specs.Outcomes.{answerFor, answerOf}
-use Rattle.graph_division.specs.Runs.{Query, reasonFor, lastLeft, Request, initialize, propagate, undo, ask, listOf, Kept, Reply, replied, reply, keeping, after}
+use Rattle.graph_division.specs.Runs.{Query, reasonFor, lastLeft, Request, initialize, propagate, undo, ask, listOf, Kept, Reply, replied, asked, reply, keeping, after}
 use Rattle.claims.specs.Whole.{writtenBy, writtenOf, Whole}
 use Rattle.byte_calls.specs.Bytes.{putHalves}
 use Rattle.byte_calls.specs.Codes.{fitted, codeOf, isRefused, givenBy}
-use Rattle.byte_calls.specs.Layout.{listIn, bufferIn}
+use Rattle.byte_calls.specs.Layout.{stateIn, cursorIn, logIn, listIn, bufferIn}
 use Rattle.byte_calls.specs.Stores.{putList}
-use Rattle.byte_calls.specs.Host.{Left, left, tooShort, hostInitialized, hostPropagated, Back, back, hostUndone, hostReason, hostLast}
+use Rattle.byte_calls.specs.Host.{Left, left, tooShort, hostInitialized, hostPropagated, Back, back, hostUndone, givenIn, hostReason, hostLast}
 use Rattle.byte_calls.proofs.Filling.{capped-most, capped-less}
 use Rattle.byte_calls.proofs.Leaving.{list-room}
 use Rattle.host_claims.specs.HostRuns.{keptIn, tailIn, LentFor, Said, said, hostAsked, HostMade, initializes, propagates, undoes, asks, AllHostMade, none, next, HostAnswers, ShortRefused}
-use Rattle.host_claims.proofs.Replies.{HostReplies, initialize-replies, propagate-replies, undo-code, undo-keeps, ask-replies, ask-table, ask-keeps}
+use Rattle.host_claims.proofs.Replies.{HostReplies, initialize-replies, propagate-replies, undo-code, undo-keeps, ask-replies, ask-table, ask-keeps, asked-given}
 
 -- one call: it answers as its request is replied to where h is kept, and what it keeps is what is kept of that reply
 pub record Made (h : Kept) (q : Request) (list : List ℕ) (x : Said) (k′ : Kept) : Type 0 where
@@ -145,7 +158,7 @@ buffer-room b =
     let e = length-take-le m (replicate {A = ℕ} 260 0) (omega (arith, capped-most (length b / 2) 260, length-replicate {A = ℕ} 260 0)) in
     omega (arith, e, capped-less (length b / 2) 260)
 
-made-room : {k k′ : Kept} {q : Request} {list : List ℕ} {x : Said} → HostMade k q list x k′ → 2 * length (listOf q) ≤ length list
+pub made-room : {k k′ : Kept} {q : Request} {list : List ℕ} {x : Said} → HostMade k q list x k′ → 2 * length (listOf q) ≤ length list
 unfolding listOf
 made-room (initializes r state t list log cursor state′ t′ list′ log′ cursor′ p e s) = list-room list
 made-room (propagates r lit pending state t list log cursor state′ t′ list′ log′ cursor′ p e s) = list-room list
@@ -159,13 +172,10 @@ host-fits {h} {q = q} o w a m n e =
     omega (arith, z, answer-fits h q o w, made-room m)
 
 -- ---- bytes that are too short
-short-reason : (state log cursor : List ℕ) (lit : ℤ) (b : List ℕ) → tooShort state cursor ≡ true → hostAsked state log cursor (reasonFor lit) b ≡ back (negsuc 6) b
-unfolding hostAsked hostReason
-short-reason state log cursor lit b e = pick-yes _ _ e
-
-short-last : (state log cursor b : List ℕ) → tooShort state cursor ≡ true → hostAsked state log cursor lastLeft b ≡ back (negsuc 6) b
-unfolding hostAsked hostLast
-short-last state log cursor b e = pick-yes _ _ e
+short-asked : (state log cursor : List ℕ) → tooShort state cursor ≡ true → (q : Query) (b : List ℕ) → hostAsked state log cursor q b ≡ back (negsuc 6) b
+unfolding hostAsked hostReason hostLast
+short-asked state log cursor e (reasonFor lit) b = pick-yes _ _ e
+short-asked state log cursor e lastLeft b = pick-yes _ _ e
 
 pub short-refused : (state log cursor : List ℕ) → tooShort state cursor ≡ true → ShortRefused state log cursor
 unfolding hostInitialized hostPropagated hostUndone
@@ -173,10 +183,64 @@ short-refused state log cursor e = record {
   on-initialize = λ t list. pick-yes _ _ e;
   on-propagate = λ lit pending t list. pick-yes _ _ e;
   on-undo = λ lit. pick-yes _ _ e;
-  on-ask = λ q b. by q b;
+  on-ask = short-asked state log cursor e;
   states = λ y state′ s. s .same (ap (λ (b : Bool). b || isRefused (y .answer)) e);
 }
-  where
-    by : (q : Query) (b : List ℕ) → hostAsked state log cursor q b ≡ back (negsuc 6) b
-    by (reasonFor lit) b = short-reason state log cursor lit b e
-    by lastLeft b = short-last state log cursor b e
+
+-- ---- a fetch on any bytes
+up-code : (a : Answer) → up (codeOf a) ≤ givenBy a
+unfolding up codeOf givenBy
+up-code (Consistent n) = fitted-less n
+up-code Conflict = zero-le
+up-code Noted = zero-le
+up-code Undone = zero-le
+up-code (Reason n) = fitted-less n
+up-code (Refused n) = let z = up-negated (fitted n) in omega (arith, z)
+
+abbrev Within : List ℕ → Fetched → Type 0
+Within b x = givenBy (x .answer) ≤ length b
+
+copied-within : (ws l : List ℕ) (n : ℕ) (b : List ℕ) → reasonShort ws (length b) ≡ false → Within b (copied ws l n b)
+unfolding copied reasonOver reasonShort givenBy
+copied-within ws l n b e = pick-ind (Within b) _ _ _ (λ _. zero-le) (λ u.
+    let x = ltb-false (edgesOf ws + 2 * verticesOf ws + 4) n u in
+    let y = ltb-false (length b) (edgesOf ws + 2 * verticesOf ws + 4) e in
+    let z : n ≤ length b = omega arith in z)
+
+given-within : (ws l : List ℕ) (x : Listed) (b : List ℕ) → reasonShort ws (length b) ≡ false → Within b (reasonGiven ws l x b)
+unfolding reasonGiven givenBy
+given-within ws l (Past n) b e = copied-within ws l n b e
+given-within ws l Missing b e = zero-le
+
+room-for : (ws : List ℕ) (ends : List (List ℕ)) (noted log : List ℕ) (n : ℕ) (c : Cursor) → fetchRefusal ws ends noted n log c ≡ 0 → reasonShort ws n ≡ false
+unfolding fetchRefusal
+room-for ws ends noted log n c e =
+    or-none (stateBad ws ends noted log c) (reasonShort ws n) (pick-zero (stateBad ws ends noted log c || reasonShort ws n) 7 0 (omega arith) e .0) .1
+
+-- whatever the state, the log and the cursor are
+pub asked-within : (s : GraphDivision) (c : Cursor) (log : List ℕ) (q : Query) (b : List ℕ) → givenBy (asked s c log q b .answer) ≤ length b
+unfolding asked reasonFetched lastFetched giving givenBy
+asked-within s c log (reasonFor lit) b =
+    pick-ind (Within b) _ _ _
+    (λ t. pick-ind (Within b) _ _ _
+    (λ _. pick-ind (Within b) _ _ _ (λ _. zero-le) (λ _. given-within (s .plan) _ _ b (room-for (s .plan) (s .edges .ends) (s .noted) log (length b) c (eqb-true _ 0 t))))
+    (λ _. zero-le))
+    (λ _. zero-le)
+asked-within s c log lastLeft b =
+    pick-ind (Within b) _ _ _
+    (λ t. copied-within (s .plan) _ _ b (room-for (s .plan) (s .edges .ends) (s .noted) log (length b) c (eqb-true _ 0 t)))
+    (λ _. zero-le)
+
+given-code : (x : Fetched) (buffer : List ℕ) → givenIn x buffer .code ≡ codeOf (x .answer)
+unfolding givenIn
+given-code x buffer = refl
+
+-- a fetch's number, on any bytes whatever, is no more than its buffer has entries
+pub fetch-fits : (state log cursor : List ℕ) (q : Query) (buffer : List ℕ) (n : ℕ) → hostAsked state log cursor q buffer .code ≡ pos n → 2 * n ≤ length buffer
+unfolding up
+fetch-fits state log cursor q buffer n e = tested (tooShort state cursor)
+    (λ t. let z : n ≡ 0 = up-is (negsuc 6) n (sym (ap (λ (z : Back). z .code) (short-asked state log cursor t q buffer)) ∙ e) in omega arith)
+    (λ t.
+    let x = asked (stateIn state) (cursorIn cursor) (logIn (cursorIn cursor) log) q (bufferIn buffer) in
+    let z = up-is (codeOf (x .answer)) n (sym (ap (λ (z : Back). z .code) (asked-given state log cursor t q buffer) ∙ given-code x buffer) ∙ e) in
+    omega (arith, z, up-code (x .answer), asked-within (stateIn state) (cursorIn cursor) (logIn (cursorIn cursor) log) q (bufferIn buffer), buffer-room buffer))

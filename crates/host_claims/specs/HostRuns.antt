@@ -1,14 +1,17 @@
 -- Any list of the C host's calls on bytes, refused ones included, each as its contract in crate byte_calls has it, and the conditions of the
 -- order of them.
 use mathlib.Core.Path.{_≡_}
+use mathlib.Core.Bool.{true}
 use mathlib.Core.List.{List, [], _∷_}
-use Prim.Native.Nat.{ℕ, _*_, _<_, _≤_}
+use Prim.Native.Nat.{ℕ, _+_, _*_, _<_, _≤_}
 use lib.IntN.{ℤ, pos, negsuc}
 use lib.ListN.{length, getD, take, drop}
+use Rattle.base.specs.Lists.{tab}
 use Rattle.division.specs.Plan.{Plan}
 use Rattle.graph_division.specs.declared.Outcome.{Outcome}
 use Rattle.graph_division.specs.Runs.{Query, reasonFor, lastLeft, Request, initialize, propagate, undo, ask, Kept, kept, reply, after}
-use Rattle.claims.specs.Conditions.{Condition1, Condition2, Condition3}
+use Rattle.claims.specs.Whole.{literalsOf}
+use Rattle.claims.specs.Conditions.{isConsistent, Condition1, Condition2, Condition3}
 use Rattle.byte_calls.specs.Codes.{codeOf, givenBy}
 use Rattle.byte_calls.specs.Layout.{stateIn, cursorIn, logIn, listIn, bufferIn}
 use Rattle.byte_calls.specs.Stores.{putList}
@@ -82,6 +85,10 @@ pub record HostAnswers (k : Kept) (q : Request) (list : List ℕ) (x : Said) : T
   pub table : x .table ≡ reply k q .table
   pub literals : x .list ≡ putList (reply k q .list) (givenBy (reply k q .answer)) list
 
+-- the first n literals that stand in the bytes, two each, the lower byte first
+unfoldable pub literalsAt : List ℕ → ℕ → List ℕ
+literalsAt b n = tab (λ i. getD b (2 * i) 0 + 256 * getD b (2 * i + 1) 0) n
+
 -- a call that is lent a state or a cursor shorter than its layout: 7, and every byte stays
 pub record ShortRefused (state log cursor : List ℕ) : Type 0 where
   pub on-initialize : (t list : List ℕ) → hostInitialized state t list log cursor ≡ left (negsuc 6) t list log cursor
@@ -98,6 +105,10 @@ pub record HostConditions (sameSize extraWalls : ℤ) (start : Kept) (d : Plan) 
   -- and a number of literals is no more than the list or the reason buffer has entries
   pub fits : {qs : List Request} {k k′ : Kept} {q : Request} {list : List ℕ} {x : Said} →
       AllHostMade start qs k → HostMade k q list x k′ → (n : ℕ) → x .code ≡ pos n → 2 * n ≤ length list
+  -- the literals that a consistent answer hands on are read from the list's bytes, as many as its number says
+  pub reads : {qs : List Request} {k k′ : Kept} {q : Request} {list : List ℕ} {x : Said} →
+      AllHostMade start qs k → HostMade k q list x k′ → isConsistent (reply (after start qs) q .answer) ≡ true →
+      (n : ℕ) → x .code ≡ pos n → literalsAt (x .list) n ≡ literalsOf (reply (after start qs) q)
   -- of these replies the conditions speak
   pub condition-1 : Condition1 start d
   pub condition-2 : Condition2 start d
