@@ -49,7 +49,7 @@ use Rattle.graph_division.specs.Outcomes.{answerOf}
 use Rattle.simulation.proofs.Represents.{planIn}
 use Rattle.simulation.proofs.Running.{RepresentsKept, Replies}
 use Rattle.claims.proofs.Refusing.{refused-unchanged}
-use Rattle.claims.proofs.Replying.{conflict-back, refused-is, accepted-is, consistent-is, At, reply-at, next-at, after-at}
+use Rattle.claims.proofs.Replying.{conflict-back, refused-range, refused-is, accepted-is, consistent-is, At, reply-at, next-at, after-at}
 use Rattle.claims.proofs.OneAnswer.{table-same, ask-told, one-answer, consistent-literals, reason-literals}
 
 -- ---- a literal that the table shows as handed on is one of those that the definition hands on
@@ -206,6 +206,10 @@ module _ (D : Plan) where
 
     accepted-as : (before : List Request) (q : Request) → accepted (reply (after start before) q .answer) ≡ calls.accepted (outcome before q .answer)
     accepted-as before q = ap accepted (answer-of before q) ∙ accepted-is D (world before) (callOf (after start before) q)
+
+    -- a refusal's number is one of the table's
+    pub refusal-range : (before : List Request) (q : Request) (m : ℕ) → reply (after start before) q .answer ≡ Refused m → (0 < m) × (m ≤ 16)
+    refusal-range before q m e = refused-range D (world before) (callOf (after start before) q) m (sym (answer-of before q) ∙ e)
 
     pub condition-1 : Condition1 start D
     unfolding accepted

@@ -3,7 +3,7 @@ use mathlib.Core.Path.{_≡_, refl, sym, ap, ap₂, subst, _∙_}
 use mathlib.Core.Logic.{_↔_}
 use mathlib.Core.Bool.{Bool, true, false, true≢false, false≢true}
 use mathlib.Core.List.{List, [], _∷_, _++_}
-use Prim.Native.Nat.{ℕ, _<_}
+use Prim.Native.Nat.{ℕ, _<_, _≤_}
 use native.Mathlib.Omega.{arith}
 use lib.ListN.{length}
 use borrow.Author.Tests.{ne-eqb}
@@ -67,32 +67,32 @@ consistent-to calls.undone n e = absurd (false≢true e)
 consistent-to (calls.refused m) n e = absurd (false≢true e)
 consistent-to (calls.reason ls) n e = absurd (false≢true e)
 
--- no refusal has number 0
-query-number : {d : Plan} {w : World} {q : calls.Query} {n : ℕ} → AppliesTo d w q n → 0 < n
-query-number (AppliesTo.unknownReason l k) = omega arith
-query-number (AppliesTo.noReason l e) = omega arith
-query-number (AppliesTo.pathGone l r e g) = omega arith
+-- a refusal's number is one of the table's, and never 0
+query-range : {d : Plan} {w : World} {q : calls.Query} {n : ℕ} → AppliesTo d w q n → (0 < n) × (n ≤ 16)
+query-range (AppliesTo.unknownReason l k) = (omega arith, omega arith)
+query-range (AppliesTo.noReason l e) = (omega arith, omega arith)
+query-range (AppliesTo.pathGone l r e g) = (omega arith, omega arith)
 
-stops-number : {d : Plan} {ls t : List ℕ} {n : ℕ} → Stops d ls t n → 0 < n
-stops-number (Stops.at12 x) = omega arith
-stops-number (Stops.at13 x) = omega arith
-stops-number (Stops.at14 x) = omega arith
+stops-range : {d : Plan} {ls t : List ℕ} {n : ℕ} → Stops d ls t n → (0 < n) × (n ≤ 16)
+stops-range (Stops.at12 x) = (omega arith, omega arith)
+stops-range (Stops.at13 x) = (omega arith, omega arith)
+stops-range (Stops.at14 x) = (omega arith, omega arith)
 
-applies-number : {d : Plan} {w : World} {c : calls.Call} {n : ℕ} → Applies d w c n → 0 < n
-applies-number (Applies.noRoom c e) = omega arith
-applies-number (Applies.badInitialize room t x) = omega arith
-applies-number (Applies.badPropagate room t l pending x) = omega arith
-applies-number (Applies.again room t e) = omega arith
-applies-number (Applies.unknownPropagate room t l pending x) = omega arith
-applies-number (Applies.unknownUndo room l x) = omega arith
-applies-number (Applies.stands room t l pending x) = omega arith
-applies-number (Applies.standsLater room t a l ls s x) = omega arith
-applies-number (Applies.notNewest room l x) = omega arith
-applies-number (Applies.stops room t l n x) = stops-number x
-applies-number (Applies.stopsLater room t a l ls n s x y) = stops-number y
-applies-number (Applies.crossedLast room t a s x) = omega arith
-applies-number (Applies.zeroLast room t a s x) = omega arith
-applies-number (Applies.ofQuery room q n x) = query-number x
+applies-range : {d : Plan} {w : World} {c : calls.Call} {n : ℕ} → Applies d w c n → (0 < n) × (n ≤ 16)
+applies-range (Applies.noRoom c e) = (omega arith, omega arith)
+applies-range (Applies.badInitialize room t x) = (omega arith, omega arith)
+applies-range (Applies.badPropagate room t l pending x) = (omega arith, omega arith)
+applies-range (Applies.again room t e) = (omega arith, omega arith)
+applies-range (Applies.unknownPropagate room t l pending x) = (omega arith, omega arith)
+applies-range (Applies.unknownUndo room l x) = (omega arith, omega arith)
+applies-range (Applies.stands room t l pending x) = (omega arith, omega arith)
+applies-range (Applies.standsLater room t a l ls s x) = (omega arith, omega arith)
+applies-range (Applies.notNewest room l x) = (omega arith, omega arith)
+applies-range (Applies.stops room t l n x) = stops-range x
+applies-range (Applies.stopsLater room t a l ls n s x y) = stops-range y
+applies-range (Applies.crossedLast room t a s x) = (omega arith, omega arith)
+applies-range (Applies.zeroLast room t a s x) = (omega arith, omega arith)
+applies-range (Applies.ofQuery room q n x) = query-range x
 
 accepted-for : (a : calls.Answer) (n : ℕ) → (a ≡ calls.refused 0 → ⊥) → accepted (answerFor a n) ≡ calls.accepted a
 unfolding accepted calls.accepted answerFor numberOf
@@ -108,6 +108,21 @@ pub conflict-back : (o : calls.Outcome) → answerOf o ≡ Conflict → o .answe
 unfolding answerOf
 conflict-back o e = conflict-for (o .answer) (length (o .handed)) e
 
+refused-for : (a : calls.Answer) (n m : ℕ) → answerFor a n ≡ Refused m → a ≡ calls.refused m
+unfolding answerFor kindOf amountOf
+refused-for calls.consistent n m e = let z : _≡_ {A = ℕ} 0 5 = ap kindOf e in absurd (omega arith)
+refused-for calls.conflicting n m e = let z : _≡_ {A = ℕ} 1 5 = ap kindOf e in absurd (omega arith)
+refused-for calls.noted n m e = let z : _≡_ {A = ℕ} 2 5 = ap kindOf e in absurd (omega arith)
+refused-for calls.undone n m e = let z : _≡_ {A = ℕ} 3 5 = ap kindOf e in absurd (omega arith)
+refused-for (calls.refused k) n m e = ap calls.refused (ap amountOf e)
+refused-for (calls.reason ls) n m e = let z : _≡_ {A = ℕ} 4 5 = ap kindOf e in absurd (omega arith)
+
+pub refused-range : (d : Plan) (w : World) (c : calls.Call) (m : ℕ) → answerOf (calls.call d c w) ≡ Refused m → (0 < m) × (m ≤ 16)
+unfolding answerOf
+refused-range d w c m e =
+    let o = calls.call d c w in
+    applies-range (refusals d w c m .0 (refused-for (o .answer) (length (o .handed)) m e) .applies)
+
 pub refused-is : (o : calls.Outcome) (n : ℕ) → 0 < n → (numberOf (answerOf o) ≡ n) ↔ (o .answer ≡ calls.refused n)
 unfolding answerOf answerFor numberOf
 refused-is o n h = (refused-to (o .answer) (length (o .handed)) n h, λ e. ap (λ (a : calls.Answer). numberOf (answerFor a (length (o .handed)))) e)
@@ -117,7 +132,7 @@ unfolding answerOf
 accepted-is d w c =
     let o = calls.call d c w in
     accepted-for (o .answer) (length (o .handed))
-    (λ e. let h = applies-number (refusals d w c 0 .0 e .applies) in omega arith)
+    (λ e. let (h, _) = applies-range (refusals d w c 0 .0 e .applies) in omega arith)
 
 pub consistent-is : (o : calls.Outcome) → (isConsistent (answerOf o) ≡ true) ↔ (o .answer ≡ calls.consistent)
 unfolding answerOf answerFor isConsistent

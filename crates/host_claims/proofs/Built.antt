@@ -4,7 +4,7 @@
 use mathlib.Core.Path.{_≡_, refl, sym, ap, ap₂, subst, _∙_}
 use mathlib.Core.Bool.{Bool, true, false, not, true≢false}
 use mathlib.Core.List.{List, []}
-use Prim.Native.Nat.{ℕ, zero, suc, _≤_}
+use Prim.Native.Nat.{ℕ, _<_, _≤_}
 use native.Mathlib.Omega.{arith}
 use lib.Dec.{eqb, ltb}
 use lib.IntN.{ℤ, pos, negsuc, negℤ}
@@ -20,10 +20,11 @@ use Rattle.plan.specs.Plan.{planOf}
 use Rattle.builder.specs.Input.{refusal}
 use Rattle.builder.specs.Given.{Given}
 use Rattle.calls.specs.Calls as calls
+use Rattle.graph_division.specs.declared.Answer.the-variants.{Refused}
 use Rattle.graph_division.specs.New.{built}
 use Rattle.graph_division.specs.Runs.{Request, Kept, kept, after, callOf, callsOf}
 use Rattle.simulation.proofs.Running.{fresh}
-use Rattle.claims.specs.Conditions.{outcomeTo, Condition1, Condition2, Condition3}
+use Rattle.claims.specs.Conditions.{replyTo, outcomeTo, Condition1, Condition2, Condition3}
 use Rattle.claims.proofs.Built as claims
 use Rattle.byte_calls.specs.Bytes.{wordAt}
 use Rattle.byte_calls.specs.Codes.{fitted}
@@ -33,8 +34,10 @@ use Rattle.byte_calls.specs.Host.{short, buildCode}
 use Rattle.byte_calls.specs.Build.{isOn, buildRefused, BuiltIn}
 use Rattle.byte_calls.proofs.Building.{not-refused}
 use Rattle.host_claims.specs.HostRuns.{keptIn, Said, HostMade, AllHostMade, HostAnswers, HostConditions}
+use Rattle.host_claims.proofs.Signed.{down, down-negated}
 use Rattle.host_claims.proofs.Runs.{host-made, host-runs, host-fits}
 use Rattle.host_claims.proofs.Reading.{host-reads}
+use Rattle.host_claims.proofs.Telling.{tells}
 
 -- built by the host, with a cursor of zeros
 start-is : (vs : List ℤ) (n : ℕ) (es : List ℤ) (m : ℕ) (a b : ℤ) (before state log : List ℕ) → buildRefused vs n es m before ≡ false → BuiltIn vs n es m a b before state →
@@ -43,15 +46,6 @@ unfolding cursorIn wordAt
 start-is vs n es m a b before state log r s = ap (λ x. kept x (record { used = 0; standing = 0 }) []) (s .is r)
 
 -- ---- `zuntjev_build` answered 0
-unfoldable down : ℤ → ℕ
-down (pos n) = 0
-down (negsuc n) = suc n
-
-down-negated : (n : ℕ) → down (negℤ (pos n)) ≡ n
-unfolding down
-down-negated zero = refl
-down-negated (suc n) = refl
-
 fitted-none : (n : ℕ) → fitted n ≡ 0 → n ≡ 0
 unfolding fitted capped
 fitted-none n e = tested (ltb n 2147483647)
@@ -117,9 +111,14 @@ module _ (vs : List ℤ) (n : ℕ) (es : List ℤ) (m : ℕ) (a b : ℤ) (before
   small = of-start (λ k d. (qs : List Request) (q : Request) (l : ℕ) → In (outcomeTo d k qs q .handed) l → l ≤ 8191)
       (claims.handed-small vs n es m (isOn a) (isOn b) accepted)
 
+  ranged : (qs : List Request) (q : Request) (i : ℕ) → replyTo start qs q .answer ≡ Refused i → (0 < i) × (i ≤ 16)
+  ranged = of-start (λ k d. (qs : List Request) (q : Request) (i : ℕ) → replyTo k qs q .answer ≡ Refused i → (0 < i) × (i ≤ 16))
+      (claims.refusal-range vs n es m (isOn a) (isOn b) accepted)
+
   conditions : HostConditions a b start (planOf (stateIn state .plan) (stateIn state .edges .ends))
   conditions = record {
     answers = answered;
+    tells = λ {qs} {k} {k′} {q} all made. tells _ _ (answered all made .code) (ranged qs q);
     fits = λ {qs} {k} {k′} {q} all made. host-fits _ (first-condition .answers qs q) (answered all made) made;
     reads = λ {qs} {k} {k′} {q} all made c.
         host-reads _ (first-condition .answers qs q) (answered all made) made c (small qs q) (second-condition .handed qs q c);

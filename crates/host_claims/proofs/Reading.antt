@@ -5,7 +5,7 @@ use mathlib.Core.Bool.{true, false}
 use mathlib.Core.List.{List, [], _∷_, List·Memᴰ·head, List·Memᴰ·tail}
 use Prim.Native.Nat.{ℕ, zero, suc, _+_, _*_, _/_, _<_, _≤_}
 use native.Mathlib.Omega.{arith}
-use lib.IntN.{ℤ, pos, negsuc}
+use lib.IntN.{pos}
 use lib.ListN.{length, getD, set, take, length-take, length-set, replicate, length-replicate, List·getD-eq-default}
 use lib.Seq.{sets, length-sets, getD-set-same, getD-set-other, getD-take}
 use borrow.Author.Tests.{lt-ltb}
@@ -29,6 +29,7 @@ use Rattle.byte_calls.specs.Stores.{putList}
 use Rattle.byte_calls.proofs.Filling.{capped-most}
 use Rattle.byte_calls.proofs.ReadBack.{halfAt, list-back}
 use Rattle.host_claims.specs.HostRuns.{Said, HostMade, initializes, propagates, undoes, asks, HostAnswers, literalsAt}
+use Rattle.host_claims.proofs.Signed.{up}
 use Rattle.host_claims.proofs.Runs.{made-room}
 
 -- a table of numbers is the list that it gives entry by entry
@@ -88,7 +89,7 @@ made-few (undoes r lit state log cursor state′ cursor′ p e s) = omega arith
 made-few (asks r q state log cursor buffer buffer′ p e) =
     omega (arith, length-take (capped (length buffer / 2) 260) (replicate {A = ℕ} 260 0), capped-most (length buffer / 2) 260)
 
-fitted-is : (n : ℕ) → n ≤ 4352 → fitted n ≡ n
+pub fitted-is : (n : ℕ) → n ≤ 4352 → fitted n ≡ n
 unfolding fitted capped
 fitted-is n h = pick-yes _ _ (lt-ltb n 2147483647 (omega arith))
 
@@ -99,10 +100,6 @@ unfolding literalsAt halfAt
 read-back h l list small s e k r = tab-is _ h (λ i b.
     list-back l list (length h) s r i b (omega arith)
     ∙ sym (getD-take (length h) l i 0 b) ∙ ap (λ (m : List ℕ). getD m i 0) e)
-
-unfoldable count : ℤ → ℕ
-count (pos n) = n
-count (negsuc n) = 0
 
 -- a call that is answered consistent, where h is handed on
 module _ {h k k′ : Kept} {q : Request} {list : List ℕ} {x : Said} (o : calls.Outcome) (w : Whole h q o) (a : HostAnswers h q list x) (m : HostMade k q list x k′)
@@ -132,9 +129,9 @@ module _ {h k k′ : Kept} {q : Request} {list : List ℕ} {x : Said} (o : calls
   fits = let z = ap length taken in omega (arith, z, length-take (length (o .handed)) (reply h q .list))
 
   code-is : (n : ℕ) → x .code ≡ pos n → n ≡ length (o .handed)
-  unfolding codeOf count
+  unfolding codeOf up
   code-is n e =
-      ap count (sym e ∙ a .code ∙ ap codeOf answer-is)
+      ap up (sym e ∙ a .code ∙ ap codeOf answer-is)
       ∙ fitted-is (length (o .handed)) (omega (arith, fits, list-long, made-few m))
 
   bytes-are : x .list ≡ putList (reply h q .list) (length (o .handed)) list

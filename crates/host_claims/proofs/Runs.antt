@@ -7,9 +7,9 @@
 use mathlib.Core.Path.{_≡_, refl, sym, ap, ap₂, subst, _∙_}
 use mathlib.Core.Bool.{Bool, true, false, _||_}
 use mathlib.Core.List.{List, [], _∷_}
-use Prim.Native.Nat.{ℕ, zero, suc, _+_, _*_, _/_, _≤_, zero-le}
+use Prim.Native.Nat.{ℕ, _+_, _*_, _/_, _≤_, zero-le}
 use native.Mathlib.Omega.{arith}
-use lib.IntN.{ℤ, pos, negsuc, negℤ}
+use lib.IntN.{ℤ, pos, negsuc}
 use borrow.Author.Tests.{eqb-true, ltb-false}
 use lib.ListN.{length, take, length-take, replicate, length-replicate}
 use lib.Seq.{length-sets, length-take-le, take-length}
@@ -42,6 +42,7 @@ use Rattle.byte_calls.specs.Host.{Left, left, tooShort, hostInitialized, hostPr
 use Rattle.byte_calls.proofs.Filling.{capped-most, capped-less}
 use Rattle.byte_calls.proofs.Leaving.{list-room}
 use Rattle.host_claims.specs.HostRuns.{keptIn, tailIn, LentFor, Said, said, hostAsked, HostMade, initializes, propagates, undoes, asks, AllHostMade, none, next, HostAnswers, ShortRefused}
+use Rattle.host_claims.proofs.Signed.{up, up-negated, up-is}
 use Rattle.host_claims.proofs.Replies.{HostReplies, initialize-replies, propagate-replies, undo-code, undo-keeps, ask-replies, ask-table, ask-keeps, asked-given}
 
 -- one call: it answers as its request is replied to where h is kept, and what it keeps is what is kept of that reply
@@ -111,20 +112,6 @@ host-runs none = refl
 host-runs (next {qs = qs} m ms) = host-runs ms ∙ ap (λ (h : Kept). after h qs) (host-made m .keeps)
 
 -- ---- the number and the entries
--- a number that is not negative; 0 for one that is
-unfoldable up : ℤ → ℕ
-up (pos n) = n
-up (negsuc n) = 0
-
-up-negated : (n : ℕ) → up (negℤ (pos n)) ≡ 0
-unfolding up
-up-negated zero = refl
-up-negated (suc n) = refl
-
-up-is : (z : ℤ) (n : ℕ) → z ≡ pos n → n ≡ up z
-unfolding up
-up-is z n e = sym (ap up e)
-
 taken-fits : (h l : List ℕ) → take (length h) l ≡ take (length h) h → length h ≤ length l
 taken-fits h l e =
     let a = ap length (e ∙ take-length h) in

@@ -4,11 +4,14 @@ use mathlib.Core.Path.{_≡_}
 use mathlib.Core.Bool.{true}
 use mathlib.Core.List.{List, [], _∷_}
 use Prim.Native.Nat.{ℕ, _+_, _*_, _<_, _≤_}
-use lib.IntN.{ℤ, pos, negsuc}
+use lib.IntN.{ℤ, pos, negsuc, negℤ}
 use lib.ListN.{length, getD, take, drop}
 use Rattle.base.specs.Lists.{tab}
 use Rattle.division.specs.Plan.{Plan}
 use Rattle.graph_division.specs.declared.Outcome.{Outcome}
+use Rattle.graph_division.specs.declared.Answer.{Answer}
+use Rattle.graph_division.specs.declared.Answer.the-variants.{Conflict, Noted, Refused}
+use Rattle.graph_division.specs.Answers.{numberOf}
 use Rattle.graph_division.specs.Runs.{Query, reasonFor, lastLeft, Request, initialize, propagate, undo, ask, Kept, kept, reply, after}
 use Rattle.claims.specs.Whole.{literalsOf}
 use Rattle.claims.specs.Conditions.{isConsistent, Condition1, Condition2, Condition3}
@@ -85,6 +88,14 @@ pub record HostAnswers (k : Kept) (q : Request) (list : List ℕ) (x : Said) : T
   pub table : x .table ≡ reply k q .table
   pub literals : x .list ≡ putList (reply k q .list) (givenBy (reply k q .answer)) list
 
+-- number r tells answer a: -100 a conflict, -101 a literal that is only noted, any other below 0 the number of a refusal; else the call is
+-- accepted
+pub record Tells (r : ℤ) (a : Answer) : Type 0 where
+  pub conflict : r ≡ negsuc 99 → a ≡ Conflict
+  pub noted : r ≡ negsuc 100 → a ≡ Noted
+  pub refused : (n : ℕ) → 0 < n → n < 100 → r ≡ negℤ (pos n) → a ≡ Refused n
+  pub accepted : (n : ℕ) → r ≡ pos n → numberOf a ≡ 0
+
 -- the first n literals that stand in the bytes, two each, the lower byte first
 unfoldable pub literalsAt : List ℕ → ℕ → List ℕ
 literalsAt b n = tab (λ i. getD b (2 * i) 0 + 256 * getD b (2 * i + 1) 0) n
@@ -102,6 +113,8 @@ pub record HostConditions (sameSize extraWalls : ℤ) (start : Kept) (d : Plan) 
   -- after any list of calls, each answers, and leaves in its bytes, what the reply to its request after their requests does
   pub answers : {qs : List Request} {k k′ : Kept} {q : Request} {list : List ℕ} {x : Said} →
       AllHostMade start qs k → HostMade k q list x k′ → HostAnswers (after start qs) q list x
+  pub tells : {qs : List Request} {k k′ : Kept} {q : Request} {list : List ℕ} {x : Said} →
+      AllHostMade start qs k → HostMade k q list x k′ → Tells (x .code) (reply (after start qs) q .answer)
   -- and a number of literals is no more than the list or the reason buffer has entries
   pub fits : {qs : List Request} {k k′ : Kept} {q : Request} {list : List ℕ} {x : Said} →
       AllHostMade start qs k → HostMade k q list x k′ → (n : ℕ) → x .code ≡ pos n → 2 * n ≤ length list
