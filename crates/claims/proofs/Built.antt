@@ -1,19 +1,23 @@
 -- The three conditions of the order, on any plan that builds.
-use mathlib.Core.Path.{_≡_, refl}
+use mathlib.Core.Path.{_≡_, refl, _∙_}
 use mathlib.Core.Bool.{Bool, true, false}
 use mathlib.Core.List.{List}
-use Prim.Native.Nat.{ℕ}
+use Prim.Native.Nat.{ℕ, _<_, _≤_}
 use lib.IntN.{ℤ}
 use Rattle.division.specs.Plan.{Plan, Proper, Plain}
+use Rattle.division.specs.Noting.{In}
 use Rattle.plan.proofs.Abstract.{proper-plan}
 use Rattle.builder.specs.Given.{Given}
 use Rattle.builder.proofs.Built.{new-proper}
+use Rattle.noting.proofs.Logged.{known-small}
+use Rattle.refusals.proofs.Known.{known-is}
 use Rattle.calls.specs.Calls as calls
+use Rattle.graph_division.specs.declared.Answer.the-variants.{Refused}
 use Rattle.graph_division.specs.New.{built}
-use Rattle.graph_division.specs.Runs.{Kept}
+use Rattle.graph_division.specs.Runs.{Request, Kept}
 use Rattle.simulation.proofs.Represents.{planIn}
 use Rattle.simulation.proofs.Running.{fresh, fresh-represents}
-use Rattle.claims.specs.Conditions.{Condition1, Condition2, Condition3}
+use Rattle.claims.specs.Conditions.{replyTo, outcomeTo, Condition1, Condition2, Condition3}
 use Rattle.claims.proofs.Replying.{At}
 use Rattle.claims.proofs.Lists as lists
 
@@ -42,6 +46,17 @@ module _ (vs : List ℤ) (n : ℕ) (es : List ℤ) (m : ℕ) (sameSize extraWall
 
   pub condition-2 : Condition2 start d
   condition-2 = lists.condition-2 d start at-start proper-built
+
+  -- "Verdicts turned away": a call's refusal has a number of that table
+  pub refusal-range : (before : List Request) (q : Request) (m′ : ℕ) → replyTo start before q .answer ≡ Refused m′ → (0 < m′) × (m′ ≤ 16)
+  refusal-range = lists.refusal-range d start at-start
+
+  -- what is handed on is the plan's: "Literals run from 0 to 8191."
+  pub handed-small : (before : List Request) (q : Request) (l : ℕ) → In (outcomeTo d start before q .handed) l → l ≤ 8191
+  unfolding built
+  handed-small before q l i =
+      let p = new-proper vs n es m sameSize extraWalls z .0 in
+      known-small _ _ p l (known-is _ _ p l ∙ lists.handed-known d start at-start proper-built before q l i)
 
 -- "Both options off, on any plan that builds"
 module _ (vs : List ℤ) (n : ℕ) (es : List ℤ) (m : ℕ) (z : built vs n es m false false .refusal ≡ 0) where

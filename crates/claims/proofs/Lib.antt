@@ -1,5 +1,6 @@
 pub mod Replying
 pub mod Refusing
+pub mod Past
+pub mod OneAnswer
 pub mod Lists
 pub mod Built
-pub mod Past

@@ -6,41 +6,51 @@ use mathlib.Core.List.{List, [], _∷_, _++_, List·Memᴰ, List·Memᴰ·head, 
 use Prim.Native.Nat.{ℕ, _/_, _%_, _<_, _≤_}
 use native.Mathlib.Omega.{arith}
 use lib.IntN.{ℤ, pos}
-use lib.Dec.{eqb}
-use lib.ListN.{length, getD, take, List·getD-eq-default}
-use borrow.Author.Tests.{eqb-true, eqb-false}
+use lib.Dec.{eqb, ltb}
+use lib.ListN.{length, getD, List·getD-eq-default}
+use borrow.Author.Tests.{eq-eqb, eqb-true, eqb-false, ltb-false}
 use Rattle.base.specs.Iter.{pick}
 use Rattle.base.specs.Lists.{Every}
 use Rattle.base.specs.Range.{inRange}
 use Rattle.base.proofs.Loop.{pick-yes, pick-no, tested}
-use Rattle.base.proofs.Tests.{le-or-lt}
+use Rattle.base.proofs.Tests.{le-or-lt, or-none}
 use Rattle.sat.specs.Literal.{Holds}
 use Rattle.division.specs.Plan.{Plan, Proper, Plain}
 use Rattle.division.specs.Division.{Valid, Describes}
-use Rattle.division.specs.Noting.{In}
+use Rattle.division.specs.Noting.{noteAll, In}
+use Rattle.division.proofs.Explained.{Explains}
+use Rattle.division.proofs.Whole.{each-found, reason-there}
 use Rattle.noting.specs.Buffers.{listShort}
 use Rattle.refusals.specs.Calls.{litGiven}
-use Rattle.calls.specs.Table.{codeOf, unsetIn}
+use Rattle.calls.specs.Table.{codeOf, unsetIn, variables, tooHigh, badTable, knows}
 use Rattle.calls.specs.Marks.{sign, Marked}
 use Rattle.calls.specs.Calls as calls
 use Rattle.calls.specs.Calls.{World}
+use Rattle.calls.specs.Refusals.{roomOf}
 use Rattle.calls.specs.Truths.{Walked, Backed}
 use Rattle.calls.specs.Claim as claim
 use Rattle.calls.specs.Claim.{Covers}
 use Rattle.calls.proofs.Marks.{call-marked}
 use Rattle.calls.proofs.Refusals.{refusals, acceptances}
-use Rattle.calls.proofs.Claim.{last-given, condition-3}
-use Rattle.calls.proofs.Stands.{stands-from-calls}
+use Rattle.calls.proofs.Claim.{listIn, last-given, condition-3}
+use Rattle.calls.proofs.Count.{known-below}
+use Rattle.calls.proofs.Fetchable.{run-explained, is-known, handed-fetched}
+use Rattle.calls.proofs.Recent.{did-recent}
+use Rattle.calls.proofs.View.{Did, away, added, agreed, clashed, took, asked, began, beganLast, beganClash, did}
+use Rattle.calls.proofs.Stands.{stands-from-calls, run-consistent, call-consistent}
 use Rattle.calls.proofs.Truths.{conflict-backed, fetched-walked, recorded-stood}
 use Rattle.graph_division.specs.declared.Answer.{Answer}
-use Rattle.graph_division.specs.declared.Answer.the-variants.{Consistent, Conflict, Reason, Refused}
+use Rattle.graph_division.specs.declared.Answer.the-variants.{Consistent, Conflict, Noted, Undone, Reason, Refused}
+use Rattle.graph_division.specs.Answers.{numberOf}
 use Rattle.graph_division.specs.Runs.{Query, reasonFor, lastLeft, Request, initialize, propagate, undo, ask, tableOf, roomFor, queryOf, Kept, logFor, Reply, reply, keeping, after, callOf, callsOf}
-use Rattle.claims.specs.Conditions.{accepted, isConsistent, counts, counted, HandsOn, Quiet, aQuery, turnedAway, AllQuiet, done, next, fetchedBy, Condition1, Condition2, Condition3}
+use Rattle.claims.specs.Whole.{literalsOf}
+use Rattle.claims.specs.Conditions.{accepted, isConsistent, counts, counted, HandsOn, Quiet, aQuery, turnedAway, AllQuiet, done, next, standingThen, Condition1, Condition2, Condition3}
 use Rattle.graph_division.specs.Outcomes.{answerOf}
 use Rattle.simulation.proofs.Represents.{planIn}
-use Rattle.simulation.proofs.Running.{RepresentsKept, valuesFor, Replies}
+use Rattle.simulation.proofs.Running.{RepresentsKept, Replies}
 use Rattle.claims.proofs.Refusing.{refused-unchanged}
-use Rattle.claims.proofs.Replying.{consistent-many, conflict-back, reason-back, refused-is, accepted-is, consistent-is, At, reply-at, next-at, after-at}
+use Rattle.claims.proofs.Replying.{conflict-back, refused-range, refused-is, accepted-is, consistent-is, At, reply-at, next-at, after-at}
+use Rattle.claims.proofs.OneAnswer.{table-same, ask-told, one-answer, consistent-literals, reason-literals}
 
 -- ---- a literal that the table shows as handed on is one of those that the definition hands on
 pick-set : (b : Bool) → _≡_ {A = ℕ} (pick b 3 4) 0 → ⊥
@@ -99,14 +109,34 @@ marked-in t h u k l a b = go (search-in h (l / 2))
         (le-or-lt (length t) (l / 2))
     go (hasNot n) = absurd (sign-set l (sym b ∙ k .rest (l / 2) n ∙ eqb-true _ 0 a))
 
--- ---- the requests as calls
-table-same : (k : Kept) (q : Request) → calls.tableOf (callOf k q) ≡ tableOf q
-unfolding callOf tableOf calls.tableOf
-table-same k (initialize t list tail) = refl
-table-same k (propagate lit pending t list tail) = refl
-table-same k (undo lit tail) = refl
-table-same k (ask q b tail) = refl
+-- a table that a call hands on from is long enough for the plan's variables
+long-enough : (d : Plan) (t : List ℕ) → badTable d t ≡ false → variables d ≤ length t
+unfolding badTable
+long-enough d t e = ltb-false (length t) (variables d) (or-none (ltb (length t) (variables d)) (tooHigh t) e .0)
 
+did-long : (d : Plan) (w : World) {c : calls.Call} {o : calls.Outcome} → Did d w c o → (l : ℕ) → In (o .handed) l → variables d ≤ length (calls.tableOf c)
+unfolding calls.refuse calls.tell calls.tableOf
+did-long d w (away c n) l m = absurd (List·Memᴰ·not-nil m)
+did-long d w (added room t k pending p f kn) l m = absurd (List·Memᴰ·not-nil m)
+did-long d w (agreed room t k pending p o e f q bt kn) l m = long-enough d t bt
+did-long d w (clashed room t k pending p o e f q bt kn) l m = long-enough d t bt
+did-long d w (took room k x xs e) l m = absurd (List·Memᴰ·not-nil m)
+did-long d w (asked room q) l m = absurd (List·Memᴰ·not-nil m)
+did-long d w (began room t a s j v bt) l m = long-enough d t bt
+did-long d w (beganLast room t a s j c v bt) l m = long-enough d t bt
+did-long d w (beganClash room t a s j bt) l m = long-enough d t bt
+
+-- ---- an answer whose number is not 0 is a refusal
+refused-number : (a : Answer) (n : ℕ) → 0 < n → numberOf a ≡ n → a ≡ Refused n
+unfolding numberOf
+refused-number (Consistent m) n h e = absurd (omega arith)
+refused-number Conflict n h e = absurd (omega arith)
+refused-number Noted n h e = absurd (omega arith)
+refused-number Undone n h e = absurd (omega arith)
+refused-number (Reason m) n h e = absurd (omega arith)
+refused-number (Refused m) n h e = ap Refused e
+
+-- ---- the requests as calls
 counts-same : (d : Plan) (k : Kept) (q : Request) (ls : List ℕ) → counts d q ls ≡ claim.counts d (callOf k q) ls
 unfolding counts claim.counts callOf
 counts-same d k (initialize t list tail) ls = refl
@@ -136,28 +166,28 @@ module _ (D : Plan) where
   counted-same [] k w a ls = refl
   counted-same (q ∷ qs) k w a ls =
       ap (λ (ms : List ℕ). counted D (keeping (reply k q)) qs ms)
-      (ap₂ (λ (b : Bool) (ms : List ℕ). pick b ms ls) (ap accepted (reply-at D k w a q .answer) ∙ accepted-is (calls.call D (callOf k q) w)) (counts-same D k q ls))
+      (ap₂ (λ (b : Bool) (ms : List ℕ). pick b ms ls) (ap accepted (reply-at D k w a q .answer) ∙ accepted-is D w (callOf k q)) (counts-same D k q ls))
       ∙ counted-same qs (keeping (reply k q)) (calls.call D (callOf k q) w .world) (next-at D k w a q) _
 
   quiet : (k : Kept) (w : World) → At D k w → {q : Request} → Quiet k q → claim.Quiet D w (callOf k q)
   unfolding callOf
   quiet k w a (aQuery q b tail) = claim.aQuery _ _
-  quiet k w a (turnedAway q e) = claim.turnedAway (callOf k q) (sym (accepted-is (calls.call D (callOf k q) w)) ∙ ap accepted (sym (reply-at D k w a q .answer)) ∙ e)
+  quiet k w a (turnedAway q e) = claim.turnedAway (callOf k q) (sym (accepted-is D w (callOf k q)) ∙ ap accepted (sym (reply-at D k w a q .answer)) ∙ e)
 
   all-quiet : (k : Kept) (w : World) → At D k w → {qs : List Request} → AllQuiet k qs → claim.AllQuiet D w (callsOf k qs)
   unfolding callsOf
   all-quiet k w a done = claim.done
   all-quiet k w a (next {q = q} x xs) = claim.next (quiet k w a x) (all-quiet (keeping (reply k q)) _ (next-at D k w a q) xs)
 
-  -- ---- a fetch's list
-  -- what a query gives is what the definition's does
-  ask-back : (k : Kept) (w : World) → At D k w → (q : Query) (b rest : List ℕ) (len : ℕ) → reply k (ask q b rest) .answer ≡ Reason len →
-      calls.call D (callOf k (ask q b rest)) w .answer ≡ calls.reason (fetchedBy (reply k (ask q b rest)) len)
-  unfolding valuesFor
-  ask-back k w a q b rest len e =
+  -- ---- a query that is accepted gives what the definition's does
+  ask-back : (k : Kept) (w : World) → At D k w → (q : Query) (b rest : List ℕ) → accepted (reply k (ask q b rest) .answer) ≡ true →
+      calls.call D (callOf k (ask q b rest)) w .answer ≡ calls.reason (literalsOf (reply k (ask q b rest)))
+  unfolding callOf
+  ask-back k w a q b rest e =
+      let c = callOf k (ask q b rest) in
       let y = reply-at D k w a (ask q b rest) in
-      let (f, g) = reason-back (calls.call D (callOf k (ask q b rest)) w) len (sym (y .answer) ∙ e) in
-      f ∙ ap calls.reason (sym (ap (λ (n : ℕ). take n (reply k (ask q b rest) .list)) (sym g) ∙ y .whole))
+      let f = ask-told D w _ _ (sym (accepted-is D w c) ∙ ap accepted (sym (y .answer)) ∙ e) in
+      f ∙ ap calls.reason (sym (reason-literals D k w a (ask q b rest) _ f))
 
   module _ (start : Kept) (a : At D start calls.built) where
     abbrev world : List Request → World
@@ -174,18 +204,27 @@ module _ (D : Plan) where
     answer-of : (before : List Request) (q : Request) → reply (after start before) q .answer ≡ answerOf (outcome before q)
     answer-of before q = reply-at D (after start before) (world before) (at before) q .answer
 
+    accepted-as : (before : List Request) (q : Request) → accepted (reply (after start before) q .answer) ≡ calls.accepted (outcome before q .answer)
+    accepted-as before q = ap accepted (answer-of before q) ∙ accepted-is D (world before) (callOf (after start before) q)
+
+    -- a refusal's number is one of the table's
+    pub refusal-range : (before : List Request) (q : Request) (m : ℕ) → reply (after start before) q .answer ≡ Refused m → (0 < m) × (m ≤ 16)
+    refusal-range before q m e = refused-range D (world before) (callOf (after start before) q) m (sym (answer-of before q) ∙ e)
+
     pub condition-1 : Condition1 start D
+    unfolding accepted
     condition-1 = record {
       accepts = λ before q.
           let (f, g) = acceptances D (world before) (callOf (after start before) q) in (
-            λ e. f (sym (accepted-is (outcome before q)) ∙ ap accepted (sym (answer-of before q)) ∙ e),
-            λ h. ap accepted (answer-of before q) ∙ accepted-is (outcome before q) ∙ g h,
+            λ e. f (sym (accepted-as before q) ∙ eq-eqb _ 0 e),
+            λ h. eqb-true _ 0 (accepted-as before q ∙ g h),
           );
-      answers = answer-of;
-      refuses = λ before q n.
+      answers = λ before q. one-answer D (after start before) (world before) (at before) q;
+      refuses = λ before q n h.
           let (f, g) = refusals D (world before) (callOf (after start before) q) n in
-          let (x, y) = refused-is (outcome before q) n in (λ e. f (x (sym (answer-of before q) ∙ e)), λ h. answer-of before q ∙ y (g h));
-      unchanged = λ before q n e. refused-unchanged (after start before) q n e;
+          let (x, y) = refused-is (outcome before q) n h in
+          (λ e. f (x (ap numberOf (sym (answer-of before q)) ∙ e)), λ z. ap numberOf (answer-of before q) ∙ y (g z));
+      unchanged = λ before q n h e. refused-unchanged (after start before) q n (refused-number _ n h e);
     }
 
     module _ (proper : Proper D) where
@@ -197,37 +236,80 @@ module _ (D : Plan) where
       standing-after : (before : List Request) → world before .standing ≡ counted D start before []
       standing-after before = stands-from-calls D (callsOf start before) ∙ sym (counted-same before start calls.built a [])
 
-      values-taken : (before : List Request) (q : Request) (n : ℕ) → valuesFor q (outcome before q) ≡ outcome before q .handed → reply (after start before) q .answer ≡ Consistent n →
-          take n (reply (after start before) q .list) ≡ outcome before q .handed
-      values-taken before q n e f =
+      stands-then : (before : List Request) (q : Request) → outcome before q .world .standing ≡ standingThen D start before q
+      stands-then before q = ap (λ (w : World). w .standing) (sym (run-more before q)) ∙ standing-after (before ++ (q ∷ []))
+
+      -- what is handed on is the plan's, and the table is long enough for it
+      pub handed-known : (before : List Request) (q : Request) (l : ℕ) → In (outcome before q .handed) l → knows D l ≡ true
+      handed-known before q l m =
+          let c = callOf (after start before) q in
+          let v = outcome before q .world in
+          let x = did-recent D (world before) (did D (world before) c) in
+          let g = call-consistent D (world before) c (run-consistent D (callsOf start before)) in
+          let (r, e) = reason-there l (x .recent) (x .each l m) in
+          let y : Explains D (noteAll D (v .standing)) l r = each-found l r (x .recent) (run-explained D proper (x .run) (v .standing) g (λ _ z. z)) e in
+          is-known D proper (noteAll D (v .standing)) l r y
+
+      handed-shown : (before : List Request) (q : Request) (l : ℕ) → In (outcome before q .handed) l → HandsOn (after start before) q l
+      handed-shown before q l m =
           let k = after start before in
-          let r = reply-at D k (world before) (at before) q in
-          ap (λ (m : ℕ). take m (reply k q .list)) (sym (consistent-many (outcome before q) n (sym (answer-of before q) ∙ f)))
-          ∙ subst (λ (l : List ℕ). take (length l) (reply k q .list) ≡ l) e (r .whole)
+          let n = did-long D (world before) (did D (world before) (callOf k q)) l m in
+          let b = known-below D l (handed-known before q l m) in
+          let (u, v) = one-answer D k (world before) (at before) q .marked .shown l m (omega (arith, b, n, ap length (table-same k q))) in
+          record { unset = u; set = v }
+
+      -- a fetch of what was handed on
+      module _ (before : List Request) (q : Request) (amid : List Request) (lit : ℤ) (b rest : List ℕ) where
+        abbrev n : Kept
+        n = keeping (reply (after start before) q)
+
+        abbrev x : Request
+        x = ask (reasonFor lit) b rest
+
+        fetch-is : roomOf (callOf (after n amid) x) ≡ true → callOf (after n amid) x ≡ calls.ask true (calls.reasonFor (litGiven lit))
+        unfolding callOf queryOf roomOf
+        fetch-is e = ap (λ (r : Bool). calls.ask r (calls.reasonFor (litGiven lit))) e
+
+        fetched-back : HandsOn (after start before) q (litGiven lit) → AllQuiet n amid → roomOf (callOf (after n amid) x) ≡ true →
+            (accepted (reply (after n amid) x .answer) ≡ true) × Every (In (standingThen D start before q)) (literalsOf (reply (after n amid) x))
+        unfolding calls.accepted
+        fetched-back h s e =
+            let k = after start before in
+            let v = outcome before q .world in
+            let na = next-at D k (world before) (at before) q in
+            let w = calls.after D v (callsOf n amid) in
+            let wa = after-at D amid n v na in
+            let (list, f, i, _) = handed-fetched D proper (callsOf start before) (callOf k q) (callsOf n amid) (litGiven lit) (hands-on k (world before) (at before) q (litGiven lit) h) (all-quiet n v na s) in
+            let g : calls.call D (callOf (after n amid) x) w .answer ≡ calls.reason list = ap (λ (c : calls.Call). calls.call D c w .answer) (fetch-is e) ∙ f in (
+              ap accepted (reply-at D (after n amid) w wa x .answer) ∙ accepted-is D w (callOf (after n amid) x) ∙ ap calls.accepted g,
+              subst (Every (In (standingThen D start before q))) (sym (reason-literals D (after n amid) w wa x list g))
+                  (subst (λ (ms : List ℕ). Every (In ms) list) (stands-then before q) i),
+            )
 
       pub condition-2 : Condition2 start D
-      unfolding valuesFor callOf queryOf
+      unfolding callOf queryOf
       condition-2 = record {
-        began = λ before t list rest n e. values-taken before (initialize t list rest) n refl e;
-        notified = λ before lit pending t list rest n e. values-taken before (propagate lit pending t list rest) n refl e;
-        shown = λ before q l h. hands-on (after start before) (world before) (at before) q l h;
-        conflicts = λ before q b rest len e f.
+        handed = λ before q e.
+            consistent-literals D (after start before) (world before) (at before) q (consistent-is (outcome before q) .0 (ap isConsistent (sym (answer-of before q)) ∙ e));
+        shown = λ before q l. (hands-on (after start before) (world before) (at before) q l, handed-shown before q l);
+        conflicts = λ before q b rest e f.
             let k = after start before in
             let o = outcome before q in
             let n = keeping (reply k q) in
             let na = next-at D k (world before) (at before) q in
-            let z : o .world .last ≡ fetchedBy (reply n (ask lastLeft b rest)) len = last-given D (o .world) _ _ (ask-back n (o .world) na lastLeft b rest len f) in
+            let z : o .world .last ≡ literalsOf (reply n (ask lastLeft b rest)) = last-given D (o .world) _ _ (ask-back n (o .world) na lastLeft b rest f) in
             let g = conflict-backed D proper (callsOf start before) (callOf k q) (conflict-back o (sym (answer-of before q) ∙ e)) in
-            subst (λ (l : List ℕ). Backed (counted D start (before ++ (q ∷ [])) []) (reply k q .table) l) z
-            (subst (λ (u : List ℕ). Backed (counted D start (before ++ (q ∷ [])) []) u (o .world .last)) (sym (reply-at D k (world before) (at before) q .table))
-            (subst (λ (ms : List ℕ). Backed ms (o .table) (o .world .last)) (ap (λ (w : World). w .standing) (sym (run-more before q)) ∙ standing-after (before ++ (q ∷ []))) g));
-        reasons = λ before lit b rest len e.
+            subst (λ (l : List ℕ). Backed (standingThen D start before q) (reply k q .table) l) z
+            (subst (λ (u : List ℕ). Backed (standingThen D start before q) u (o .world .last)) (sym (reply-at D k (world before) (at before) q .table))
+            (subst (λ (ms : List ℕ). Backed ms (o .table) (o .world .last)) (stands-then before q) g));
+        reasons = λ before lit b rest e.
             let k = after start before in
-            let (r, f, g) = fetched-walked D proper (callsOf start before) _ (litGiven lit) _ (ask-back k (world before) (at before) (reasonFor lit) b rest len e) in
-            (r, f, subst (λ (ms : List ℕ). Walked D ms r (fetchedBy (reply k (ask (reasonFor lit) b rest)) len)) (standing-after before) g);
+            let (r, f, g) = fetched-walked D proper (callsOf start before) _ (litGiven lit) _ (ask-back k (world before) (at before) (reasonFor lit) b rest e) in
+            (r, f, subst (λ (ms : List ℕ). Walked D ms r (literalsOf (reply k (ask (reasonFor lit) b rest)))) (standing-after before) g);
         recorded = λ before q.
             let (recent, e, f) = recorded-stood D proper (callsOf start before) (callOf (after start before) q) in
             (recent, ap (λ (w : World). w .reasons) (run-more before q) ∙ e, f);
+        fetchable = fetched-back;
       }
 
       module _ (plain : Plain D) where
@@ -260,7 +342,7 @@ module _ (D : Plan) where
           exactly : accepted (reply k q .answer) ≡ true → Covers D (counted D start (before ++ (q ∷ [])) []) → (isConsistent (reply k q .answer) ≡ true) ↔ Describes D (counted D start (before ++ (q ∷ [])) [])
           exactly x y =
               let o = calls.call D c (world before) in
-              let (f, g) = condition-3 D proper plain .exact (callsOf start before) room t (litGiven lit) (sym (accepted-is o) ∙ ap accepted (sym answer-is) ∙ x) (subst (Covers D) standing-is y) in (
+              let (f, g) = condition-3 D proper plain .exact (callsOf start before) room t (litGiven lit) (sym (accepted-is D (world before) c) ∙ ap accepted (sym answer-is) ∙ x) (subst (Covers D) standing-is y) in (
                 λ u. subst (Describes D) (sym standing-is) (f (consistent-is o .0 (ap isConsistent (sym answer-is) ∙ u))),
                 λ v. ap isConsistent answer-is ∙ consistent-is o .1 (g (subst (Describes D) standing-is v)),
               )
@@ -268,21 +350,21 @@ module _ (D : Plan) where
         pub condition-three : Condition3 start D
         unfolding callOf queryOf calls.call
         condition-three = record {
-          conflicts = λ before q b rest len e f σ v h.
+          conflicts = λ before q b rest e f σ v h.
               let k = after start before in
               let n = keeping (reply k q) in
               let o = calls.call D (callOf k q) (world before) in
               let na = next-at D k (world before) (at before) q in
-              condition-3 D proper plain .conflicts (callsOf start before) (callOf k q) _ (fetchedBy (reply n (ask lastLeft b rest)) len)
+              condition-3 D proper plain .conflicts (callsOf start before) (callOf k q) _ (literalsOf (reply n (ask lastLeft b rest)))
               (conflict-back o (sym (reply-at D k (world before) (at before) q .answer) ∙ e))
-              (ask-back n (o .world) na lastLeft b rest len f) σ v h;
-          handed = λ before q amid lit b rest len h s f σ v x.
+              (ask-back n (o .world) na lastLeft b rest f) σ v h;
+          handed = λ before q amid lit b rest h s f σ v x.
               let k = after start before in
               let n = keeping (reply k q) in
               let o = calls.call D (callOf k q) (world before) in
               let na = next-at D k (world before) (at before) q in
-              condition-3 D proper plain .handed (callsOf start before) (callOf k q) (callsOf n amid) (litGiven lit) _ (fetchedBy (reply (after n amid) (ask (reasonFor lit) b rest)) len)
+              condition-3 D proper plain .handed (callsOf start before) (callOf k q) (callsOf n amid) (litGiven lit) _ (literalsOf (reply (after n amid) (ask (reasonFor lit) b rest)))
               (hands-on k (world before) (at before) q (litGiven lit) h) (all-quiet n (o .world) na s)
-              (ask-back (after n amid) _ (after-at D amid n (o .world) na) (reasonFor lit) b rest len f) σ v x;
+              (ask-back (after n amid) _ (after-at D amid n (o .world) na) (reasonFor lit) b rest f) σ v x;
           exact = exactly;
         }

@@ -26,12 +26,7 @@ use Rattle.graph_division.specs.declared.GraphDivision.{GraphDivision}
 use Rattle.graph_division.specs.Calls.{Called, called, refuse, notedIn, adding, accepting, handingOn, settledBy, settled, propagated, undone}
 use Rattle.graph_division.specs.Initialize.{notedAt, notedUpTo, takenOver, taking, endedBy, begun, initialized}
 use Rattle.graph_division.specs.Runs.{Request, initialize, propagate, undo, ask, tailOf, Kept, logFor, Reply, replied, repliedCalled, repliedFetched, reply}
-
--- log m with cursor d, where it was log l with cursor c: as long as before, and only entries from the one cursor up to the other differ
-pub record Logs (c : Cursor) (l : List ℕ) (d : Cursor) (m : List ℕ) : Type 0 where
-  pub long : length m ≡ length l
-  pub before : (i : ℕ) → i < c .used → getD m i 0 ≡ getD l i 0
-  pub past : (i : ℕ) → d .used ≤ i → getD m i 0 ≡ getD l i 0
+use Rattle.claims.specs.Whole.{Logs}
 
 pub logs-same : (c d : Cursor) (l : List ℕ) → Logs c l d l
 logs-same c d l = record { long = refl; before = λ i h. refl; past = λ i h. refl }

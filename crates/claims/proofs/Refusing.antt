@@ -64,10 +64,15 @@ module _ (k : Kept) where
   settled-unchanged lit pending t list tail l x (Clash n) = other k (propagate lit pending t list tail) _ Conflict refl (λ e. omega arith)
   settled-unchanged lit pending t list tail l x (Stopped n) = away k (propagate lit pending t list tail) n _ refl
 
-  given-unchanged : (q : Query) (b tail l : List ℕ) (x : Listed) → Unchanged k (ask q b tail) (repliedFetched k (logFor k tail) (reasonGiven l x b))
-  unfolding reasonGiven copied repliedFetched replied refuse turnedAwayWith tableOf listOf tailOf kindOf
-  given-unchanged q b tail l (Past n) = other k (ask q b tail) _ (Reason n) refl (λ e. omega arith)
-  given-unchanged q b tail l Missing = away k (ask q b tail) 16 _ refl
+  copied-unchanged : (q : Query) (b tail ws l : List ℕ) (n : ℕ) → Unchanged k (ask q b tail) (repliedFetched k (logFor k tail) (copied ws l n b))
+  unfolding copied repliedFetched replied refuse turnedAwayWith tableOf listOf tailOf kindOf
+  copied-unchanged q b tail ws l n =
+      by-fetch k (ask q b tail) _ _ _ _ (away k (ask q b tail) 7 _ refl) (other k (ask q b tail) _ (Reason n) refl (λ e. omega arith))
+
+  given-unchanged : (q : Query) (b tail ws l : List ℕ) (x : Listed) → Unchanged k (ask q b tail) (repliedFetched k (logFor k tail) (reasonGiven ws l x b))
+  unfolding reasonGiven repliedFetched replied refuse turnedAwayWith tableOf listOf tailOf
+  given-unchanged q b tail ws l (Past n) = copied-unchanged q b tail ws l n
+  given-unchanged q b tail ws l Missing = away k (ask q b tail) 16 _ refl
 
   -- a call that is refused leaves the state, the cursor and all that it was lent
   refused-initialize : (t list tail : List ℕ) → Unchanged k (initialize t list tail) (reply k (initialize t list tail))
@@ -89,17 +94,15 @@ module _ (k : Kept) where
       (λ e. away k (undo lit tail) _ _ (ap (λ (y : Outcome). replied y [] [] (logFor k tail)) (pick-no _ _ e)))
 
   refused-ask : (q : Query) (b tail : List ℕ) → Unchanged k (ask q b tail) (reply k (ask q b tail))
-  unfolding reply asked reasonFetched giving lastFetched copied turnedAwayWith tableOf listOf tailOf repliedFetched replied refuse kindOf
+  unfolding reply asked reasonFetched giving lastFetched turnedAwayWith tableOf listOf tailOf repliedFetched replied refuse kindOf
   refused-ask (reasonFor lit) b tail =
       let q = ask (reasonFor lit) b tail in
       by-fetch k q _ _ _ _
-      (by-fetch k q _ _ _ _ (by-fetch k q _ _ _ _ (away k q 15 _ refl) (given-unchanged (reasonFor lit) b tail _ _)) (away k q _ _ refl))
+      (by-fetch k q _ _ _ _ (by-fetch k q _ _ _ _ (away k q 15 _ refl) (given-unchanged (reasonFor lit) b tail _ _ _)) (away k q _ _ refl))
       (away k q _ _ refl)
   refused-ask lastLeft b tail =
       let q = ask lastLeft b tail in
-      by-fetch k q _ _ _ _
-      (by-fetch k q _ _ _ _ (away k q 7 _ refl) (other k q _ (Reason _) refl (λ e. omega arith)))
-      (away k q _ _ refl)
+      by-fetch k q _ _ _ _ (copied-unchanged lastLeft b tail _ _ _) (away k q _ _ refl)
 
   -- a call that is refused leaves the state, the cursor and all that it was lent
   pub refused-unchanged : (q : Request) (n : ℕ) → reply k q .answer ≡ Refused n → reply k q ≡ turnedAwayWith k q n

@@ -3,17 +3,20 @@ use mathlib.Core.Path.{_≡_, refl, sym, ap, ap₂, subst, _∙_}
 use mathlib.Core.Logic.{_↔_}
 use mathlib.Core.Bool.{Bool, true, false, true≢false, false≢true}
 use mathlib.Core.List.{List, [], _∷_, _++_}
-use Prim.Native.Nat.{ℕ}
+use Prim.Native.Nat.{ℕ, _<_, _≤_}
 use native.Mathlib.Omega.{arith}
-use lib.ListN.{length, take}
+use lib.ListN.{length}
+use borrow.Author.Tests.{ne-eqb}
 use Rattle.edge_table.specs.declared.EdgeTable.{EdgeTable}
 use Rattle.division.specs.Plan.{Plan}
 use Rattle.plan.specs.Plan.{planOf}
 use Rattle.calls.specs.Calls as calls
 use Rattle.calls.specs.Calls.{World}
-use Rattle.calls.proofs.Claim.{listIn}
+use Rattle.calls.specs.Refusals.{Stops, AppliesTo, Applies}
+use Rattle.calls.proofs.Refusals.{refusals}
 use Rattle.graph_division.specs.declared.Answer.{Answer}
 use Rattle.graph_division.specs.declared.Answer.the-variants.{Consistent, Conflict, Noted, Undone, Reason, Refused}
+use Rattle.graph_division.specs.Answers.{numberOf}
 use Rattle.graph_division.specs.Runs.{Request, Kept, Reply, reply, keeping, after, callOf, callsOf}
 use Rattle.claims.specs.Conditions.{accepted, isConsistent}
 use Rattle.graph_division.specs.Outcomes.{answerFor, answerOf}
@@ -46,23 +49,14 @@ conflict-for calls.undone n e = let z : _≡_ {A = ℕ} 3 1 = ap kindOf e in abs
 conflict-for (calls.refused m) n e = let z : _≡_ {A = ℕ} 5 1 = ap kindOf e in absurd (omega arith)
 conflict-for (calls.reason ls) n e = let z : _≡_ {A = ℕ} 4 1 = ap kindOf e in absurd (omega arith)
 
-reason-for : (a : calls.Answer) (n len : ℕ) → answerFor a n ≡ Reason len → (a ≡ calls.reason (listIn a)) × (length (listIn a) ≡ len)
-unfolding answerFor kindOf amountOf listIn
-reason-for calls.consistent n len e = let z : _≡_ {A = ℕ} 0 4 = ap kindOf e in absurd (omega arith)
-reason-for calls.conflicting n len e = let z : _≡_ {A = ℕ} 1 4 = ap kindOf e in absurd (omega arith)
-reason-for calls.noted n len e = let z : _≡_ {A = ℕ} 2 4 = ap kindOf e in absurd (omega arith)
-reason-for calls.undone n len e = let z : _≡_ {A = ℕ} 3 4 = ap kindOf e in absurd (omega arith)
-reason-for (calls.refused m) n len e = let z : _≡_ {A = ℕ} 5 4 = ap kindOf e in absurd (omega arith)
-reason-for (calls.reason ls) n len e = (refl, ap amountOf e)
-
-refused-to : (a : calls.Answer) (n m : ℕ) → answerFor a n ≡ Refused m → a ≡ calls.refused m
-unfolding answerFor kindOf amountOf
-refused-to calls.consistent n m e = let z : _≡_ {A = ℕ} 0 5 = ap kindOf e in absurd (omega arith)
-refused-to calls.conflicting n m e = let z : _≡_ {A = ℕ} 1 5 = ap kindOf e in absurd (omega arith)
-refused-to calls.noted n m e = let z : _≡_ {A = ℕ} 2 5 = ap kindOf e in absurd (omega arith)
-refused-to calls.undone n m e = let z : _≡_ {A = ℕ} 3 5 = ap kindOf e in absurd (omega arith)
-refused-to (calls.refused k) n m e = ap calls.refused (ap amountOf e)
-refused-to (calls.reason ls) n m e = let z : _≡_ {A = ℕ} 4 5 = ap kindOf e in absurd (omega arith)
+refused-to : (a : calls.Answer) (n m : ℕ) → 0 < m → numberOf (answerFor a n) ≡ m → a ≡ calls.refused m
+unfolding answerFor numberOf
+refused-to calls.consistent n m h e = absurd (omega arith)
+refused-to calls.conflicting n m h e = absurd (omega arith)
+refused-to calls.noted n m h e = absurd (omega arith)
+refused-to calls.undone n m h e = absurd (omega arith)
+refused-to (calls.refused k) n m h e = ap calls.refused e
+refused-to (calls.reason ls) n m h e = absurd (omega arith)
 
 consistent-to : (a : calls.Answer) (n : ℕ) → isConsistent (answerFor a n) ≡ true → a ≡ calls.consistent
 unfolding isConsistent answerFor
@@ -73,44 +67,72 @@ consistent-to calls.undone n e = absurd (false≢true e)
 consistent-to (calls.refused m) n e = absurd (false≢true e)
 consistent-to (calls.reason ls) n e = absurd (false≢true e)
 
-accepted-for : (a : calls.Answer) (n : ℕ) → accepted (answerFor a n) ≡ calls.accepted a
-unfolding accepted calls.accepted answerFor
-accepted-for calls.consistent n = refl
-accepted-for calls.conflicting n = refl
-accepted-for calls.noted n = refl
-accepted-for calls.undone n = refl
-accepted-for (calls.refused m) n = refl
-accepted-for (calls.reason ls) n = refl
+-- a refusal's number is one of the table's, and never 0
+query-range : {d : Plan} {w : World} {q : calls.Query} {n : ℕ} → AppliesTo d w q n → (0 < n) × (n ≤ 16)
+query-range (AppliesTo.unknownReason l k) = (omega arith, omega arith)
+query-range (AppliesTo.noReason l e) = (omega arith, omega arith)
+query-range (AppliesTo.pathGone l r e g) = (omega arith, omega arith)
+
+stops-range : {d : Plan} {ls t : List ℕ} {n : ℕ} → Stops d ls t n → (0 < n) × (n ≤ 16)
+stops-range (Stops.at12 x) = (omega arith, omega arith)
+stops-range (Stops.at13 x) = (omega arith, omega arith)
+stops-range (Stops.at14 x) = (omega arith, omega arith)
+
+applies-range : {d : Plan} {w : World} {c : calls.Call} {n : ℕ} → Applies d w c n → (0 < n) × (n ≤ 16)
+applies-range (Applies.noRoom c e) = (omega arith, omega arith)
+applies-range (Applies.badInitialize room t x) = (omega arith, omega arith)
+applies-range (Applies.badPropagate room t l pending x) = (omega arith, omega arith)
+applies-range (Applies.again room t e) = (omega arith, omega arith)
+applies-range (Applies.unknownPropagate room t l pending x) = (omega arith, omega arith)
+applies-range (Applies.unknownUndo room l x) = (omega arith, omega arith)
+applies-range (Applies.stands room t l pending x) = (omega arith, omega arith)
+applies-range (Applies.standsLater room t a l ls s x) = (omega arith, omega arith)
+applies-range (Applies.notNewest room l x) = (omega arith, omega arith)
+applies-range (Applies.stops room t l n x) = stops-range x
+applies-range (Applies.stopsLater room t a l ls n s x y) = stops-range y
+applies-range (Applies.crossedLast room t a s x) = (omega arith, omega arith)
+applies-range (Applies.zeroLast room t a s x) = (omega arith, omega arith)
+applies-range (Applies.ofQuery room q n x) = query-range x
+
+accepted-for : (a : calls.Answer) (n : ℕ) → (a ≡ calls.refused 0 → ⊥) → accepted (answerFor a n) ≡ calls.accepted a
+unfolding accepted calls.accepted answerFor numberOf
+accepted-for calls.consistent n h = refl
+accepted-for calls.conflicting n h = refl
+accepted-for calls.noted n h = refl
+accepted-for calls.undone n h = refl
+accepted-for (calls.refused m) n h = ne-eqb m 0 (λ (e : m ≡ 0). h (ap calls.refused e))
+accepted-for (calls.reason ls) n h = refl
 
 -- ---- the same of outcomes
 pub conflict-back : (o : calls.Outcome) → answerOf o ≡ Conflict → o .answer ≡ calls.conflicting
 unfolding answerOf
 conflict-back o e = conflict-for (o .answer) (length (o .handed)) e
 
-many-for : (a : calls.Answer) (n m : ℕ) → answerFor a n ≡ Consistent m → n ≡ m
+refused-for : (a : calls.Answer) (n m : ℕ) → answerFor a n ≡ Refused m → a ≡ calls.refused m
 unfolding answerFor kindOf amountOf
-many-for calls.consistent n m e = ap amountOf e
-many-for calls.conflicting n m e = let z : _≡_ {A = ℕ} 1 0 = ap kindOf e in absurd (omega arith)
-many-for calls.noted n m e = let z : _≡_ {A = ℕ} 2 0 = ap kindOf e in absurd (omega arith)
-many-for calls.undone n m e = let z : _≡_ {A = ℕ} 3 0 = ap kindOf e in absurd (omega arith)
-many-for (calls.refused k) n m e = let z : _≡_ {A = ℕ} 5 0 = ap kindOf e in absurd (omega arith)
-many-for (calls.reason ls) n m e = let z : _≡_ {A = ℕ} 4 0 = ap kindOf e in absurd (omega arith)
+refused-for calls.consistent n m e = let z : _≡_ {A = ℕ} 0 5 = ap kindOf e in absurd (omega arith)
+refused-for calls.conflicting n m e = let z : _≡_ {A = ℕ} 1 5 = ap kindOf e in absurd (omega arith)
+refused-for calls.noted n m e = let z : _≡_ {A = ℕ} 2 5 = ap kindOf e in absurd (omega arith)
+refused-for calls.undone n m e = let z : _≡_ {A = ℕ} 3 5 = ap kindOf e in absurd (omega arith)
+refused-for (calls.refused k) n m e = ap calls.refused (ap amountOf e)
+refused-for (calls.reason ls) n m e = let z : _≡_ {A = ℕ} 4 5 = ap kindOf e in absurd (omega arith)
 
-pub consistent-many : (o : calls.Outcome) (n : ℕ) → answerOf o ≡ Consistent n → length (o .handed) ≡ n
+pub refused-range : (d : Plan) (w : World) (c : calls.Call) (m : ℕ) → answerOf (calls.call d c w) ≡ Refused m → (0 < m) × (m ≤ 16)
 unfolding answerOf
-consistent-many o n e = many-for (o .answer) (length (o .handed)) n e
+refused-range d w c m e =
+    let o = calls.call d c w in
+    applies-range (refusals d w c m .0 (refused-for (o .answer) (length (o .handed)) m e) .applies)
 
-pub reason-back : (o : calls.Outcome) (len : ℕ) → answerOf o ≡ Reason len → (o .answer ≡ calls.reason (listIn (o .answer))) × (length (listIn (o .answer)) ≡ len)
+pub refused-is : (o : calls.Outcome) (n : ℕ) → 0 < n → (numberOf (answerOf o) ≡ n) ↔ (o .answer ≡ calls.refused n)
+unfolding answerOf answerFor numberOf
+refused-is o n h = (refused-to (o .answer) (length (o .handed)) n h, λ e. ap (λ (a : calls.Answer). numberOf (answerFor a (length (o .handed)))) e)
+
+pub accepted-is : (d : Plan) (w : World) (c : calls.Call) → accepted (answerOf (calls.call d c w)) ≡ calls.accepted (calls.call d c w .answer)
 unfolding answerOf
-reason-back o len e = reason-for (o .answer) (length (o .handed)) len e
-
-pub refused-is : (o : calls.Outcome) (n : ℕ) → (answerOf o ≡ Refused n) ↔ (o .answer ≡ calls.refused n)
-unfolding answerOf answerFor
-refused-is o n = (refused-to (o .answer) (length (o .handed)) n, λ e. ap (λ (a : calls.Answer). answerFor a (length (o .handed))) e)
-
-pub accepted-is : (o : calls.Outcome) → accepted (answerOf o) ≡ calls.accepted (o .answer)
-unfolding answerOf
-accepted-is o = accepted-for (o .answer) (length (o .handed))
+accepted-is d w c =
+    let o = calls.call d c w in
+    accepted-for (o .answer) (length (o .handed))
+    (λ e. let (h, _) = applies-range (refusals d w c 0 .0 e .applies) in omega arith)
 
 pub consistent-is : (o : calls.Outcome) → (isConsistent (answerOf o) ≡ true) ↔ (o .answer ≡ calls.consistent)
 unfolding answerOf answerFor isConsistent

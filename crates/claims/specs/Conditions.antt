@@ -1,11 +1,11 @@
 -- The conditions of the order, over any list of requests to a propagator from a state that is freshly built, refused ones included.
-use Prim.Native.Nat.{ℕ}
+use Prim.Native.Nat.{ℕ, _<_}
 use mathlib.Core.Path.{_≡_}
 use mathlib.Core.Logic.{_↔_}
 use mathlib.Core.Bool.{Bool, true, false}
 use mathlib.Core.List.{List, [], _∷_, _++_}
+use lib.Dec.{eqb}
 use lib.IntN.{ℤ, pos}
-use lib.ListN.{take}
 use Rattle.base.specs.Iter.{pick}
 use Rattle.base.specs.Lists.{Every}
 use Rattle.sat.specs.Literal.{Holds}
@@ -21,22 +21,19 @@ use Rattle.calls.specs.Table.{codeOf, unsetIn, entered}
 use Rattle.calls.specs.Marks.{sign}
 use Rattle.calls.specs.Calls as calls
 use Rattle.calls.specs.Calls.{World}
-use Rattle.calls.specs.Refusals.{Applies, First}
+use Rattle.calls.specs.Refusals.{roomOf, Applies, First}
 use Rattle.calls.specs.Truths.{Walked, Recorded, Analyzes, Backed}
 use Rattle.calls.specs.Claim.{addUpTo, tail, Covers}
 use Rattle.graph_division.specs.declared.Answer.{Answer}
 use Rattle.graph_division.specs.declared.Answer.the-variants.{Consistent, Conflict, Noted, Undone, Reason, Refused}
+use Rattle.graph_division.specs.Answers.{numberOf}
 use Rattle.graph_division.specs.Calls.{refuse}
 use Rattle.graph_division.specs.Runs.{Query, reasonFor, lastLeft, Request, initialize, propagate, undo, ask, tableOf, listOf, tailOf, Kept, logFor, Reply, replied, reply, keeping, after, callOf, callsOf}
-use Rattle.graph_division.specs.Outcomes.{answerOf}
+use Rattle.claims.specs.Whole.{literalsOf, Whole}
 
+-- an answer whose number is 0 is accepted: no refusal has that number
 unfoldable pub accepted : Answer → Bool
-accepted (Consistent handed) = true
-accepted Conflict = true
-accepted Noted = true
-accepted Undone = true
-accepted (Reason len) = true
-accepted (Refused number) = false
+accepted a = eqb (numberOf a) 0
 
 unfoldable pub isConsistent : Answer → Bool
 isConsistent (Consistent handed) = true
@@ -78,65 +75,85 @@ pub data AllQuiet : Kept → List Request → Type 0 where
 unfoldable pub turnedAwayWith : Kept → Request → ℕ → Reply
 turnedAwayWith k q n = replied (refuse n (k .state) (k .cursor)) (tableOf q) (listOf q) (logFor k (tailOf q))
 
--- the literals that a fetch gives: the first len of the reason buffer
-abbrev pub fetchedBy : Reply → ℕ → List ℕ
-fetchedBy r len = take len (r .list)
-
 -- the world of the definitions of crate calls after a list of requests
 abbrev pub worldAfter : Plan → Kept → List Request → World
 worldAfter d start before = calls.run d (callsOf start before)
 
--- Condition 1, of the calls; that of building is crate builder's. A list of requests `before`, then request q.
+-- a list of requests `before`, then request q: the reply, the definition's call and its outcome, and the reply to a query straight after it
+abbrev pub replyTo : Kept → List Request → Request → Reply
+replyTo start before q = reply (after start before) q
+
+abbrev pub callFor : Kept → List Request → Request → calls.Call
+callFor start before q = callOf (after start before) q
+
+abbrev pub outcomeTo : Plan → Kept → List Request → Request → calls.Outcome
+outcomeTo d start before q = calls.call d (callFor start before q) (worldAfter d start before)
+
+abbrev pub askedThen : Kept → List Request → Request → Query → List ℕ → List ℕ → Reply
+askedThen start before q x b rest = reply (keeping (replyTo start before q)) (ask x b rest)
+
+-- what stands after them
+abbrev pub standingThen : Plan → Kept → List Request → Request → List ℕ
+standingThen d start before q = counted d start (before ++ (q ∷ [])) []
+
+-- Condition 1, of the calls; that of building is crate builder's
 pub record Condition1 (start : Kept) (d : Plan) : Type 0 where
   -- "Every call to which document 01 assigns no refusal number is accepted": none of the table's rows applies
   pub accepts : (before : List Request) (q : Request) →
-      (accepted (reply (after start before) q .answer) ≡ true) ↔ ((n : ℕ) → Applies d (worldAfter d start before) (callOf (after start before) q) n → ⊥)
-  -- "gives the one answer fixed there"
-  pub answers : (before : List Request) (q : Request) → reply (after start before) q .answer ≡ answerOf (calls.call d (callOf (after start before) q) (worldAfter d start before))
+      (numberOf (replyTo start before q .answer) ≡ 0) ↔ ((n : ℕ) → Applies d (worldAfter d start before) (callFor start before q) n → ⊥)
+  -- "gives the one answer fixed there": the answer, and all that it was lent
+  pub answers : (before : List Request) (q : Request) → Whole (after start before) q (outcomeTo d start before q)
   -- "Every other call is refused with the number that 01 assigns": the first whose row applies
-  pub refuses : (before : List Request) (q : Request) (n : ℕ) →
-      (reply (after start before) q .answer ≡ Refused n) ↔ First d (worldAfter d start before) (callOf (after start before) q) n
+  pub refuses : (before : List Request) (q : Request) (n : ℕ) → 0 < n →
+      (numberOf (replyTo start before q .answer) ≡ n) ↔ First d (worldAfter d start before) (callFor start before q) n
   -- "and the state and every lent buffer then hold what they held before"
-  pub unchanged : (before : List Request) (q : Request) (n : ℕ) → reply (after start before) q .answer ≡ Refused n → reply (after start before) q ≡ turnedAwayWith (after start before) q n
+  pub unchanged : (before : List Request) (q : Request) (n : ℕ) → 0 < n →
+      numberOf (replyTo start before q .answer) ≡ n → replyTo start before q ≡ turnedAwayWith (after start before) q n
 
 -- Condition 2, "The comments on CustomPropagator in sat.rs, as 01 reads them", of what the calls give
 pub record Condition2 (start : Kept) (d : Plan) : Type 0 where
   -- the literals of a consistent answer are those handed on, in their order
-  pub began : (before : List Request) (t list rest : List ℕ) (n : ℕ) → reply (after start before) (initialize t list rest) .answer ≡ Consistent n →
-      take n (reply (after start before) (initialize t list rest) .list) ≡ calls.call d (callOf (after start before) (initialize t list rest)) (worldAfter d start before) .handed
-  pub notified : (before : List Request) (lit pending : ℤ) (t list rest : List ℕ) (n : ℕ) → reply (after start before) (propagate lit pending t list rest) .answer ≡ Consistent n →
-      take n (reply (after start before) (propagate lit pending t list rest) .list) ≡ calls.call d (callOf (after start before) (propagate lit pending t list rest)) (worldAfter d start before) .handed
-  -- and what the table shows as handed on, of any call, is one of these (that each of these is shown is `call-marked` of crate calls)
-  pub shown : (before : List Request) (q : Request) (l : ℕ) → HandsOn (after start before) q l → In (calls.call d (callOf (after start before) q) (worldAfter d start before) .handed) l
+  pub handed : (before : List Request) (q : Request) → isConsistent (replyTo start before q .answer) ≡ true →
+      literalsOf (replyTo start before q) ≡ outcomeTo d start before q .handed
+  -- "the table must show each", of any call, and shows no other
+  pub shown : (before : List Request) (q : Request) (l : ℕ) → HandsOn (after start before) q l ↔ In (outcomeTo d start before q .handed) l
   -- the list that a conflict leaves, fetched straight after it: each literal stands, but a false proposal's negation, which is true in the table
-  pub conflicts : (before : List Request) (q : Request) (b rest : List ℕ) (len : ℕ) →
-      reply (after start before) q .answer ≡ Conflict → reply (keeping (reply (after start before) q)) (ask lastLeft b rest) .answer ≡ Reason len →
-      Backed (counted d start (before ++ (q ∷ [])) []) (reply (after start before) q .table) (fetchedBy (reply (keeping (reply (after start before) q)) (ask lastLeft b rest)) len)
+  pub conflicts : (before : List Request) (q : Request) (b rest : List ℕ) → replyTo start before q .answer ≡ Conflict →
+      accepted (askedThen start before q lastLeft b rest .answer) ≡ true →
+      Backed (standingThen d start before q) (replyTo start before q .table) (literalsOf (askedThen start before q lastLeft b rest))
   -- a fetched reason, whatever was undone since: its literals stand, but those that the reason holds, which stood when it was recorded
-  pub reasons : (before : List Request) (lit : ℤ) (b rest : List ℕ) (len : ℕ) → reply (after start before) (ask (reasonFor lit) b rest) .answer ≡ Reason len →
+  pub reasons : (before : List Request) (lit : ℤ) (b rest : List ℕ) →
+      accepted (replyTo start before (ask (reasonFor lit) b rest) .answer) ≡ true →
       (r : abstract.Reason) × (reasonOf (litGiven lit) (worldAfter d start before .reasons) ≡ r ∷ []) ×
-      Walked d (counted d start before []) r (fetchedBy (reply (after start before) (ask (reasonFor lit) b rest)) len)
+      Walked d (counted d start before []) r (literalsOf (replyTo start before (ask (reasonFor lit) b rest)))
   -- and each that a call records is one of an analysis that it made, and what it holds stood there
   pub recorded : (before : List Request) (q : Request) → (recent : List Proposal) ×
       (worldAfter d start (before ++ (q ∷ [])) .reasons ≡ recent ++ worldAfter d start before .reasons) ×
-      Each (λ l r. (ms : List ℕ) × Analyzes d (worldAfter d start before) (callOf (after start before) q) ms × Recorded d ms l r) recent
+      Each (λ l r. (ms : List ℕ) × Analyzes d (worldAfter d start before) (callFor start before q) ms × Recorded d ms l r) recent
+  -- what a call hands on can be fetched, straight after it and until another call than a query is accepted, with a buffer and a log to which 7
+  -- does not apply: "a vector of literals from which `p` can be propagated", all of which stand
+  pub fetchable : (before : List Request) (q : Request) (amid : List Request) (lit : ℤ) (b rest : List ℕ) →
+      HandsOn (after start before) q (litGiven lit) → AllQuiet (keeping (replyTo start before q)) amid →
+      let k = after (keeping (replyTo start before q)) amid in
+      roomOf (callOf k (ask (reasonFor lit) b rest)) ≡ true →
+      (accepted (reply k (ask (reasonFor lit) b rest) .answer) ≡ true) ×
+      Every (In (standingThen d start before q)) (literalsOf (reply k (ask (reasonFor lit) b rest)))
 
 -- "for every list of these calls (initialise, notify, undo, fetch, refused ones included) from the freshly built state, whatever the table
 -- holds at each of them", where start is that state and d its plan
 pub record Condition3 (start : Kept) (d : Plan) : Type 0 where
   -- "no call answers a conflict whose listed literals", which a fetch straight after it gives, "all hold in some valid division"
-  pub conflicts : (before : List Request) (q : Request) (b rest : List ℕ) (len : ℕ) →
-      reply (after start before) q .answer ≡ Conflict →
-      reply (keeping (reply (after start before) q)) (ask lastLeft b rest) .answer ≡ Reason len →
-      (σ : ℕ → Bool) → Valid d σ → Every (Holds σ) (fetchedBy (reply (keeping (reply (after start before) q)) (ask lastLeft b rest)) len) → ⊥
+  pub conflicts : (before : List Request) (q : Request) (b rest : List ℕ) → replyTo start before q .answer ≡ Conflict →
+      accepted (askedThen start before q lastLeft b rest .answer) ≡ true →
+      (σ : ℕ → Bool) → Valid d σ → Every (Holds σ) (literalsOf (askedThen start before q lastLeft b rest)) → ⊥
   -- "no call hands on a literal that fails in a valid division where its reason, fetched before any later accepted call but a fetch, holds"
-  pub handed : (before : List Request) (q : Request) (amid : List Request) (lit : ℤ) (b rest : List ℕ) (len : ℕ) →
-      HandsOn (after start before) q (litGiven lit) → AllQuiet (keeping (reply (after start before) q)) amid →
-      reply (after (keeping (reply (after start before) q)) amid) (ask (reasonFor lit) b rest) .answer ≡ Reason len →
-      (σ : ℕ → Bool) → Valid d σ → Every (Holds σ) (fetchedBy (reply (after (keeping (reply (after start before) q)) amid) (ask (reasonFor lit) b rest)) len) → Holds σ (litGiven lit)
+  pub handed : (before : List Request) (q : Request) (amid : List Request) (lit : ℤ) (b rest : List ℕ) →
+      HandsOn (after start before) q (litGiven lit) → AllQuiet (keeping (replyTo start before q)) amid →
+      let r = reply (after (keeping (replyTo start before q)) amid) (ask (reasonFor lit) b rest) in
+      accepted (r .answer) ≡ true → (σ : ℕ → Bool) → Valid d σ → Every (Holds σ) (literalsOf r) → Holds σ (litGiven lit)
   -- "an accepted notification with nothing pending, after which every variable has a standing literal, is answered consistent exactly when
   -- the standing literals describe a valid division"
   pub exact : (before : List Request) (lit : ℤ) (t list rest : List ℕ) →
-      accepted (reply (after start before) (propagate lit (pos 0) t list rest) .answer) ≡ true →
-      Covers d (counted d start (before ++ (propagate lit (pos 0) t list rest ∷ [])) []) →
-      (isConsistent (reply (after start before) (propagate lit (pos 0) t list rest) .answer) ≡ true) ↔ Describes d (counted d start (before ++ (propagate lit (pos 0) t list rest ∷ [])) [])
+      let q = propagate lit (pos 0) t list rest in
+      accepted (replyTo start before q .answer) ≡ true → Covers d (standingThen d start before q) →
+      (isConsistent (replyTo start before q .answer) ≡ true) ↔ Describes d (standingThen d start before q)

@@ -1,7 +1,7 @@
 -- The calls on the propagator's state, on any input. A call that is refused leaves the state, the cursor and all that it was lent.
 use mathlib.Core.Bool.{Bool, true, false}
 use mathlib.Core.List.{List}
-use Prim.Native.Nat.{ℕ, _/_}
+use Prim.Native.Nat.{ℕ, _+_, _*_, _/_}
 use lib.Dec.{eqb, ltb}
 use lib.IntN.{ℤ, pos}
 use lib.ListN.{length, replicate}
@@ -11,7 +11,7 @@ use Rattle.undo_log.specs.declared.Cursor.{Cursor}
 use Rattle.noting.specs.Note.{Noting, noting, note}
 use Rattle.noting.specs.Undo.{undo}
 use Rattle.base.specs.Lists.{tab}
-use Rattle.plan.specs.Words.{word}
+use Rattle.plan.specs.Words.{word, verticesOf, edgesOf}
 use Rattle.walks.specs.declared.Listed.{Listed}
 use Rattle.walks.specs.declared.Listed.the-variants.{Past, Missing}
 use Rattle.walks.specs.Written.{outOf, written}
@@ -123,14 +123,19 @@ pub record Fetched : Type 0 where
 abbrev pub fetched : Answer → List ℕ → Fetched
 fetched a b = record { answer = a; buffer = b }
 
--- the first n of a list, written to the buffer from its start; all else of it stays
-unfoldable pub copied : List ℕ → ℕ → List ℕ → Fetched
-copied l n b = fetched (answer.Reason n) (written (tab (word l) n) (outOf b 0) .text)
+-- more literals than a reason buffer must hold: "gates + 2 × pens + 4"
+unfoldable pub reasonOver : List ℕ → ℕ → Bool
+reasonOver ws n = ltb (edgesOf ws + 2 * verticesOf ws + 4) n
+
+-- the first n of a list, written to the buffer from its start; all else of it stays. A list that is longer than a reason buffer must hold is
+-- of a state that no call leaves, and refused with 7.
+unfoldable pub copied : List ℕ → List ℕ → ℕ → List ℕ → Fetched
+copied ws l n b = pick (reasonOver ws n) (fetched (answer.Refused 7) b) (fetched (answer.Reason n) (written (tab (word l) n) (outOf b 0) .text))
 
 -- 15 "no reason recorded", 16 "recorded path gone"; a list is made aside, and written where it is whole
-unfoldable pub reasonGiven : List ℕ → Listed → List ℕ → Fetched
-reasonGiven l (Past n) b = copied l n b
-reasonGiven l Missing b = fetched (answer.Refused 16) b
+unfoldable pub reasonGiven : List ℕ → List ℕ → Listed → List ℕ → Fetched
+reasonGiven ws l (Past n) b = copied ws l n b
+reasonGiven ws l Missing b = fetched (answer.Refused 16) b
 
 abbrev pub isNone : Reason → Bool
 isNone NotPropagated = true
@@ -152,14 +157,14 @@ module _ (s : GraphDivision) where
   listFor r = reasonLits (s .plan) (s .edges .ends) (s .noted) r (outOf (replicate 260 0) 0)
 
   unfoldable pub giving : Reason → List ℕ → Fetched
-  giving r b = pick (isNone r) (fetched (answer.Refused 15) b) (reasonGiven (listFor r .text) (listFor r .listed) b)
+  giving r b = pick (isNone r) (fetched (answer.Refused 15) b) (reasonGiven (s .plan) (listFor r .text) (listFor r .listed) b)
 
 module _ (s : GraphDivision) (c : Cursor) (log : List ℕ) where
-  -- `calc_reason` without a literal: the list last left; a state whose list is longer than any is none that a call leaves
+  -- `calc_reason` without a literal: the list last left
   unfoldable pub lastFetched : List ℕ → Fetched
   lastFetched b =
       let n = fetchRefusal (s .plan) (s .edges .ends) (s .noted) (length b) log c in
-      pick (eqb n 0) (pick (ltb 260 (s .«last_len»)) (fetched (answer.Refused 7) b) (copied (s .last) (s .«last_len») b)) (fetched (answer.Refused n) b)
+      pick (eqb n 0) (copied (s .plan) (s .last) (s .«last_len») b) (fetched (answer.Refused n) b)
 
   -- `calc_reason` of a literal
   unfoldable pub reasonFetched : ℤ → List ℕ → Fetched

@@ -1,15 +1,12 @@
 -- A fetch on lent arrays is the fetch on the state that they are the parts of, by what is tested first.
 use mathlib.Core.Path.{_≡_, sym, ap, _∙_}
 use mathlib.Core.List.{List}
-use Prim.Native.Nat.{ℕ, _<_, _≤_}
+use Prim.Native.Nat.{ℕ}
 use lib.IntN.{ℤ}
 use lib.ListN.{length}
-use borrow.Author.Tests.{eq-eqb, ne-eqb, lt-ltb, le-ltb}
-use Rattle.base.specs.Lists.{tab}
+use borrow.Author.Tests.{eq-eqb, ne-eqb}
 use Rattle.base.proofs.Loop.{pick-yes, pick-no}
 use Rattle.undo_log.specs.declared.Cursor.{Cursor}
-use Rattle.plan.specs.Words.{word}
-use Rattle.walks.specs.Written.{outOf, written}
 use Rattle.reasons.specs.declared.reason.Reason.{Reason}
 use Rattle.refusals.specs.Refusals.{literalRefusal, fetchRefusal}
 use Rattle.graph_division.specs.declared.GraphDivision.{GraphDivision}
@@ -38,10 +35,6 @@ module _ (s : GraphDivision) (c : Cursor) (log b : List ℕ) (n : ℕ) (e : n �
   last-refused z = ap (λ (k : ℕ). fetched (answer.Refused k) b) e
       ∙ sym (pick-no _ _ (ne-eqb _ _ (λ (f : fetchRefusal (s .plan) (s .edges .ends) (s .noted) (length b) log c ≡ 0). z (e ∙ f))))
 
-  pub last-long : n ≡ 0 → 260 < s .«last_len» → fetched (answer.Refused 7) b ≡ lastFetched s c log b
+  pub last-found : (x : Fetched) → n ≡ 0 → x ≡ copied (s .plan) (s .last) (s .«last_len») b → x ≡ lastFetched s c log b
   unfolding lastFetched
-  last-long z y = sym (pick-yes _ _ (eq-eqb _ _ (sym e ∙ z)) ∙ pick-yes _ _ (lt-ltb _ _ y))
-
-  pub last-found : (x : List ℕ) → n ≡ 0 → s .«last_len» ≤ 260 → x ≡ written (tab (word (s .last)) (s .«last_len»)) (outOf b 0) .text → fetched (answer.Reason (s .«last_len»)) x ≡ lastFetched s c log b
-  unfolding lastFetched copied
-  last-found x z y h = ap (fetched (answer.Reason (s .«last_len»))) h ∙ sym (pick-yes _ _ (eq-eqb _ _ (sym e ∙ z)) ∙ pick-no _ _ (le-ltb _ _ y))
+  last-found x z h = h ∙ sym (pick-yes _ _ (eq-eqb _ _ (sym e ∙ z)))

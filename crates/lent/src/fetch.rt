@@ -18,7 +18,7 @@ ghost use Rattle.walks.specs.Written.{outOf, pushed, written};
 ghost use Rattle.analysis.specs.Placed.{placeOfLit};
 ghost use Rattle.recorded.specs.declared.Reasons.{Reasons};
 ghost use Rattle.graph_division.specs.declared.GraphDivision.{GraphDivision};
-ghost use Rattle.graph_division.specs.Calls.{fetched, reasonGiven, isNone, giving, lastFetched};
+ghost use Rattle.graph_division.specs.Calls.{fetched, reasonOver, copied, reasonGiven, isNone, giving, lastFetched};
 ghost use Rattle.lent.specs.Lent.{stateOf, Parts, reasonFetchedBy};
 
 fn word(list: &[u32], i: usize) -> u32
@@ -80,15 +80,30 @@ fn is_none(r: Reason) -> bool
     }
 }
 
+// More literals than a reason buffer must hold.
+fn reason_over(plan: &Plan, n: usize) -> bool
+    ensures { λ r. ⌜ r ≡ reasonOver (now (plan .entry)) n ⌝ }
+{
+    plan::num_edges(plan) as usize + 2 * (plan::num_vertices(plan) as usize) + 4 < n
+}
+
+// The first n literals of the list, unless these are more than a reason buffer must hold.
+fn give_list(plan: &Plan, list: &[u32], n: usize, buffer: &mut [u32]) -> Answer
+    ensures { λ r. ⌜ fetched r (now (buffer .exit)) ≡ copied (now (plan .entry)) (now (list .entry)) n (now (buffer .entry)) ⌝ }
+{
+    if reason_over(plan, n) {
+        return Answer::Refused { number: 7 };
+    }
+    copy(list, n, buffer);
+    Answer::Reason { len: n }
+}
+
 // The list, which was made aside, where there is one.
-fn give(list: &[u32], listed: Listed, buffer: &mut [u32]) -> Answer
-    ensures { λ r. ⌜ fetched r (now (buffer .exit)) ≡ reasonGiven (now (list .entry)) listed (now (buffer .entry)) ⌝ }
+fn give(plan: &Plan, list: &[u32], listed: Listed, buffer: &mut [u32]) -> Answer
+    ensures { λ r. ⌜ fetched r (now (buffer .exit)) ≡ reasonGiven (now (plan .entry)) (now (list .entry)) listed (now (buffer .entry)) ⌝ }
 {
     match listed {
-        Listed::Past(n) => {
-            copy(list, n, buffer);
-            Answer::Reason { len: n }
-        }
+        Listed::Past(n) => give_list(plan, list, n, buffer),
         Listed::Missing => Answer::Refused { number: 16 },
     }
 }
@@ -111,7 +126,7 @@ fn calc(plan: &Plan, edges: Edges, noted: &Noted, reason: Reason, buffer: &mut [
     }
     let mut list = no_list();
     let listed = lists::reason_lits(plan, edges, noted, reason, &mut list, 0);
-    give(&list, listed, buffer)
+    give(plan, &list, listed, buffer)
 }
 
 // A literal's reason: the list of what an analysis recorded for it, which the caller reads at the literal's place.
@@ -156,11 +171,7 @@ pub fn calc_last<'a>(
 {
     let n = refusals::fetch_refusal(plan, &edges, noted, buffer.len(), log, cursor);
     if n == 0 {
-        if 260 < len {
-            return Answer::Refused { number: 7 };
-        }
-        copy(last, len, buffer);
-        return Answer::Reason { len: len };
+        return give_list(plan, last, len, buffer);
     }
     Answer::Refused { number: n }
 }

@@ -138,7 +138,7 @@ module _ (s : GraphDivision) (c : Cursor) (log : List Record) (blank : List ℕ)
       (λ e. pick-no _ _ e ∙ sym (ap answered (fetch-out (length b) e) ∙ pick-no _ _ refl))
     where
       answered : ℕ → Fetched
-      answered n = pick (eqb n 0) (pick (ltb 260 (s .«last_len»)) (fetched (Refused 7) b) (copied (s .last) (s .«last_len») b)) (fetched (Refused n) b)
+      answered n = pick (eqb n 0) (copied (s .plan) (s .last) (s .«last_len») b) (fetched (Refused n) b)
 
   -- ---- the calls that push: what a call left, with its records saved to the log
   abbrev AllFit : List ℕ → Type 0

@@ -50,7 +50,7 @@ use Rattle.refusals.proofs.Accepted.{KnownLit, literal-accepted, fetch-accepted
 use Rattle.refusals.proofs.Calls.{ask-call, reason-call}
 use Rattle.graph_division.specs.declared.GraphDivision.{GraphDivision}
 use Rattle.graph_division.specs.declared.Answer.the-variants as answer
-use Rattle.graph_division.specs.Calls.{Fetched, fetched, copied, reasonGiven, isNone, lastFetched, recordedFor, listFor, giving, reasonFetched}
+use Rattle.graph_division.specs.Calls.{Fetched, fetched, copied, reasonGiven, isNone, reasonOver, lastFetched, recordedFor, listFor, giving, reasonFetched}
 use Rattle.graph_division.specs.Runs.{Query, reasonFor, lastLeft, asked, queryOf, bufferShort}
 use Rattle.graph_division.specs.Outcomes.{answerFor, answerOf}
 use Rattle.simulation.proofs.Represents.{planIn, Represents}
@@ -70,10 +70,13 @@ unfolding tab
 tab-length f zero = refl
 tab-length f (suc n) = ap suc (tab-length (λ i. f (suc i)) n)
 
-copied-is : (l m b : List ℕ) (n : ℕ) → tab (word l) n ≡ m → length m ≤ length b → copied l n b ≡ fetched (answer.Reason (length m)) (sets b 0 m)
-unfolding copied
-copied-is l m b n e h =
-    ap₂ (λ (k : ℕ) (v : List ℕ). fetched (answer.Reason k) (written v (outOf b 0) .text)) (sym (tab-length (word l) n) ∙ ap length e) e
+copied-is : (ws l m b : List ℕ) (n : ℕ) → tab (word l) n ≡ m → length m ≤ edgesOf ws + 2 * verticesOf ws + 4 → length m ≤ length b →
+    copied ws l n b ≡ fetched (answer.Reason (length m)) (sets b 0 m)
+unfolding copied reasonOver
+copied-is ws l m b n e o h =
+    let k : n ≡ length m = sym (tab-length (word l) n) ∙ ap length e in
+    pick-no _ _ (le-ltb (edgesOf ws + 2 * verticesOf ws + 4) n (omega arith))
+    ∙ ap₂ (λ (k : ℕ) (v : List ℕ). fetched (answer.Reason k) (written v (outOf b 0) .text)) k e
     ∙ ap (λ (o : Out). fetched (answer.Reason (length m)) (o .text)) (written-fits m b 0 (omega arith))
 
 -- a reason is none, or stands for one
@@ -124,7 +127,7 @@ module _ (s : GraphDivision) (log : List ℕ) (c : Cursor) (w : World) (r : Repr
       tested (eqb number 0)
       (λ t.
       let h : length (w .last) ≤ length b = omega (arith, last-short, buffer-long (eqb-true number 0 t)) in
-      fetched-by (pick-yes _ _ t ∙ (pick-no _ _ (le-ltb 260 (s .«last_len») (omega (arith, r .fits, r .proper .fine .fits, r .proper .fine .vertices))) ∙ copied-is (s .last) (w .last) b (s .«last_len») (r .last) h)) (f ∙ pick-yes _ _ t) (gives (w .last) h))
+      fetched-by (pick-yes _ _ t ∙ copied-is ws (s .last) (w .last) b (s .«last_len») (r .last) last-short h) (f ∙ pick-yes _ _ t) (gives (w .last) h))
       (λ t. fetched-by (pick-no _ _ t) (f ∙ pick-no _ _ t) (refused number))
 
   module _ (e : number ≡ 0) where
@@ -143,14 +146,14 @@ module _ (s : GraphDivision) (log : List ℕ) (c : Cursor) (w : World) (r : Repr
       abbrev list : List ℕ
       list = abstract.listOf (planIn s) (stateOf (s .noted)) q
 
-      is-gone : gone (planIn s) (noteAll (planIn s) (w .standing)) q ≡ true → SimulatesFetched s log c b (reasonGiven (listFor s why .text) (listFor s why .listed) b) (calls.refuse 16 w [])
+      is-gone : gone (planIn s) (noteAll (planIn s) (w .standing)) q ≡ true → SimulatesFetched s log c b (reasonGiven ws (listFor s why .text) (listFor s why .listed) b) (calls.refuse 16 w [])
       unfolding listFor reasonGiven
       is-gone t = fetched-by
-          (ap (λ (a : Listed). reasonGiven (listFor s why .text) a b) (reason-missing ws ends (s .noted) held why q blank m i (gone-same (planIn s) (proper-plan ws ends (r .proper)) _ _ same q ∙ t)))
+          (ap (λ (a : Listed). reasonGiven ws (listFor s why .text) a b) (reason-missing ws ends (s .noted) held why q blank m i (gone-same (planIn s) (proper-plan ws ends (r .proper)) _ _ same q ∙ t)))
           refl (refused 16)
 
       is-there : gone (planIn s) (noteAll (planIn s) (w .standing)) q ≡ false →
-          SimulatesFetched s log c b (reasonGiven (listFor s why .text) (listFor s why .listed) b) (calls.tell w (calls.reason (runs.fetched (planIn s) (w .standing) q)))
+          SimulatesFetched s log c b (reasonGiven ws (listFor s why .text) (listFor s why .listed) b) (calls.tell w (calls.reason (runs.fetched (planIn s) (w .standing) q)))
       unfolding listFor reasonGiven
       is-there t =
           let k = gone-same (planIn s) (proper-plan ws ends (r .proper)) _ _ same q ∙ t in
@@ -159,8 +162,8 @@ module _ (s : GraphDivision) (log : List ℕ) (c : Cursor) (w : World) (r : Repr
           let h : length list ≤ length (replicate {A = ℕ} 260 0) = omega (arith, r .proper .fine .fits, r .proper .fine .vertices) in
           let h′ : length list ≤ length b = omega (arith, buffer-long e) in
           fetched-by
-          (ap (λ (a : walks.Answer). reasonGiven (a .text) (a .listed) b) (reason-listed ws ends (s .noted) held why q blank m i k ∙ given-whole list (replicate 260 0) h)
-          ∙ copied-is (sets (replicate 260 0) 0 list) list b (length list) (tab-take (length list) _ (omega (arith, length-sets (replicate {A = ℕ} 260 0) 0 list)) ∙ list-taken list (replicate 260 0) h) h′)
+          (ap (λ (a : walks.Answer). reasonGiven ws (a .text) (a .listed) b) (reason-listed ws ends (s .noted) held why q blank m i k ∙ given-whole list (replicate 260 0) h)
+          ∙ copied-is ws (sets (replicate 260 0) 0 list) list b (length list) (tab-take (length list) _ (omega (arith, length-sets (replicate {A = ℕ} 260 0) 0 list)) ∙ list-taken list (replicate 260 0) h) (omega (arith, short)) h′)
           (ap (λ (m : List ℕ). calls.tell w (calls.reason m)) (sym (list-same (planIn s) (proper-plan ws ends (r .proper)) _ _ same q (within-names (planIn s) q i))))
           (gives list h′)
 

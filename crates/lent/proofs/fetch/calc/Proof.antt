@@ -39,7 +39,7 @@ returns-2 c =
     let a = c .before .before .before .before .before .before .before .before .before .before .before .before .args in
     λ rs last len b.
     (c .before .before .give .ensures)
-    ∙ (ap (λ (x : walks.Answer). reasonGiven (x .text) (x .listed) (a .buffer .now)) ((c .before .before .before .before .before .before .reason-lits .ensures) ∙ (λ i. reasonLits (a .plan .now) (a .edges) (a .noted .now) (a .reason) (outOf ((c .before .before .before .before .before .before .before .before .no-list .ensures) i) 0)))
+    ∙ (ap (λ (x : walks.Answer). reasonGiven (a .plan .now) (x .text) (x .listed) (a .buffer .now)) ((c .before .before .before .before .before .before .reason-lits .ensures) ∙ (λ i. reasonLits (a .plan .now) (a .edges) (a .noted .now) (a .reason) (outOf ((c .before .before .before .before .before .before .before .before .no-list .ensures) i) 0)))
     ∙ sym (pick-no _ _ (sym (c .before .before .before .before .before .before .before .before .before .before .is-none .ensures) ∙ c .before .before .before .before .before .before .before .before .before .if1 .left)))
 
 pub calc-spec : {M : Type 1} → statement M

@@ -1,0 +1,6 @@
+pub mod Signed
+pub mod Replies
+pub mod Runs
+pub mod Reading
+pub mod Telling
+pub mod Built

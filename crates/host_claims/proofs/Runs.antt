@@ -1,0 +1,233 @@
+-- Any list of the host's calls leads where their requests do, and each answers as its request is replied to.
+--     host-made      one call
+--     host-runs      where a list of calls leads
+--     host-fits      a number of literals is no more than the list or the reason buffer has entries
+--     short-refused  a state or a cursor that is shorter than its layout
+--     fetch-fits     the number of a fetch on any bytes whatever, a damaged state's included
+use mathlib.Core.Path.{_≡_, refl, sym, ap, ap₂, subst, _∙_}
+use mathlib.Core.Bool.{Bool, true, false, _||_}
+use mathlib.Core.List.{List, [], _∷_}
+use Prim.Native.Nat.{ℕ, _+_, _*_, _/_, _≤_, zero-le}
+use native.Mathlib.Omega.{arith}
+use lib.IntN.{ℤ, pos, negsuc}
+use borrow.Author.Tests.{eqb-true, ltb-false}
+use lib.ListN.{length, take, length-take, replicate, length-replicate}
+use lib.Seq.{length-sets, length-take-le, take-length}
+use Rattle.base.specs.Iter.{iter}
+use Rattle.base.proofs.Loop.{pick-yes, pick-ind, tested}
+use Rattle.base.proofs.Tests.{or-none}
+use Rattle.undo_log.specs.declared.Cursor.{Cursor}
+use Rattle.plan.specs.Words.{verticesOf, edgesOf}
+use Rattle.noting.specs.Buffers.{reasonShort}
+use Rattle.walks.specs.declared.Listed.{Listed}
+use Rattle.walks.specs.declared.Listed.the-variants.{Past, Missing}
+use Rattle.refusals.specs.Refusals.{stateBad, fetchRefusal}
+use Rattle.refusals.proofs.Accepted.{pick-zero}
+use Rattle.noting.specs.Words.{capped}
+use Rattle.calls.specs.Calls as calls
+use Rattle.graph_division.specs.declared.Outcome.{Outcome}
+use Rattle.graph_division.specs.declared.GraphDivision.{GraphDivision}
+use Rattle.graph_division.specs.declared.Answer.{Answer}
+use Rattle.graph_division.specs.declared.Answer.the-variants.{Consistent, Conflict, Noted, Undone, Reason, Refused}
+use Rattle.graph_division.specs.Calls.{Fetched, reasonOver, copied, reasonGiven, giving, reasonFetched, lastFetched}
+use Rattle.graph_division.specs.Answers.{valuesOf}
+use Rattle.graph_division.specs.Outcomes.{answerFor, answerOf}
+use Rattle.graph_division.specs.Runs.{Query, reasonFor, lastLeft, Request, initialize, propagate, undo, ask, listOf, Kept, Reply, replied, asked, reply, keeping, after}
+use Rattle.claims.specs.Whole.{writtenBy, writtenOf, Whole}
+use Rattle.byte_calls.specs.Bytes.{putHalves}
+use Rattle.byte_calls.specs.Codes.{fitted, codeOf, isRefused, givenBy}
+use Rattle.byte_calls.specs.Layout.{stateIn, cursorIn, logIn, listIn, bufferIn}
+use Rattle.byte_calls.specs.Stores.{putList}
+use Rattle.byte_calls.specs.Host.{Left, left, tooShort, hostInitialized, hostPropagated, Back, back, hostUndone, givenIn, hostReason, hostLast}
+use Rattle.byte_calls.proofs.Filling.{capped-most, capped-less}
+use Rattle.byte_calls.proofs.Leaving.{list-room}
+use Rattle.host_claims.specs.HostRuns.{keptIn, tailIn, LentFor, Said, said, hostAsked, HostMade, initializes, propagates, undoes, asks, AllHostMade, none, next, HostAnswers, ShortRefused}
+use Rattle.host_claims.proofs.Signed.{up, up-negated, up-is}
+use Rattle.host_claims.proofs.Replies.{HostReplies, initialize-replies, propagate-replies, undo-code, undo-keeps, ask-replies, ask-table, ask-keeps, asked-given}
+
+-- one call: it answers as its request is replied to where h is kept, and what it keeps is what is kept of that reply
+pub record Made (h : Kept) (q : Request) (list : List ℕ) (x : Said) (k′ : Kept) : Type 0 where
+  pub answers : HostAnswers h q list x
+  pub keeps : k′ ≡ keeping (reply h q)
+
+made-left : (k h : Kept) (q : Request) (r : ℤ) (list state′ t′ list′ log′ cursor′ : List ℕ) (l : Left) → h ≡ k → left r t′ list′ log′ cursor′ ≡ l →
+    HostReplies h q list l state′ → Made k q list (said r t′ list′) (keptIn state′ cursor′ log′)
+made-left k h q r list state′ t′ list′ log′ cursor′ l e f y =
+    let z : HostReplies k q list (left r t′ list′ log′ cursor′) state′ =
+    subst (λ (x : Kept). HostReplies x q list (left r t′ list′ log′ cursor′) state′) e (subst (λ (x : Left). HostReplies h q list x state′) (sym f) y) in
+    record { answers = record { code = z .code; table = z .table; literals = z .literals }; keeps = z .keeps }
+
+-- nothing is written where there is nothing
+put-empty : (n : ℕ) → putList [] n [] ≡ []
+unfolding putList putHalves iter
+put-empty n = ap (λ (m : ℕ). putHalves [] m []) (none-left (capped n 0) (capped-most n 0))
+  where
+    none-left : (m : ℕ) → m ≤ 0 → m ≡ 0
+    none-left m h = omega arith
+
+-- a call that is lent neither table nor list has none
+undo-none : (h : Kept) (lit : ℤ) (tail : List ℕ) → (reply h (undo lit tail) .table ≡ []) × (reply h (undo lit tail) .list ≡ [])
+unfolding reply replied
+undo-none h lit tail = (refl, refl)
+
+pub host-made : {k k′ : Kept} {q : Request} {list : List ℕ} {x : Said} → HostMade k q list x k′ → Made k q list x k′
+host-made (initializes r state t list log cursor state′ t′ list′ log′ cursor′ p e s) =
+    made-left _ (keptIn state cursor log) _ r list state′ t′ list′ log′ cursor′ _ (p .stands) e
+    (initialize-replies state t list log cursor state′ (p .state-bytes) (p .log-bytes) (p .cursor-bytes) (p .state-long) (p .cursor-long) s)
+host-made (propagates r lit pending state t list log cursor state′ t′ list′ log′ cursor′ p e s) =
+    made-left _ (keptIn state cursor log) _ r list state′ t′ list′ log′ cursor′ _ (p .stands) e
+    (propagate-replies state t list log cursor state′ (p .state-bytes) (p .log-bytes) (p .cursor-bytes) (p .state-long) (p .cursor-long) lit pending s)
+host-made {k} (undoes r lit state log cursor state′ cursor′ p e s) =
+    let h = keptIn state cursor log in
+    let q = undo lit (tailIn cursor log) in
+    let (t, l) = undo-none k lit (tailIn cursor log) in
+    record {
+      answers = record {
+        code = ap (λ (z : Back). z .code) e ∙ undo-code state log cursor (p .cursor-bytes) (p .state-long) (p .cursor-long) lit state′
+            ∙ ap (λ (x : Kept). codeOf (reply x q .answer)) (p .stands);
+        table = sym t;
+        literals = sym (ap (λ (x : List ℕ). putList x (givenBy (reply k q .answer)) []) l ∙ put-empty _);
+      };
+      keeps =
+          ap (λ (z : Back). keptIn state′ (z .cursor) log) e ∙ undo-keeps state log cursor (p .cursor-bytes) (p .state-long) (p .cursor-long) lit state′ s
+          ∙ ap (λ (x : Kept). keeping (reply x q)) (p .stands);
+    }
+host-made {k} (asks r q state log cursor buffer buffer′ p e) =
+    let h = keptIn state cursor log in
+    let x = ask q (bufferIn buffer) (tailIn cursor log) in
+    let f = e ∙ ask-replies state log cursor (p .cursor-bytes) (p .state-long) (p .cursor-long) q buffer
+    ∙ ap (λ (y : Kept). back (codeOf (reply y x .answer)) (putList (reply y x .list) (givenBy (reply y x .answer)) buffer)) (p .stands) in
+    record {
+      answers = record {
+        code = ap (λ (z : Back). z .code) f;
+        table = ask-table state log cursor (p .cursor-bytes) (p .state-long) (p .cursor-long) q buffer ∙ ap (λ (y : Kept). reply y x .table) (p .stands);
+        literals = ap (λ (z : Back). z .cursor) f;
+      };
+      keeps = sym (ask-keeps state log cursor (p .cursor-bytes) (p .state-long) (p .cursor-long) q buffer) ∙ ap (λ (y : Kept). keeping (reply y x)) (p .stands);
+    }
+
+pub host-runs : {k k′ : Kept} {qs : List Request} → AllHostMade k qs k′ → k′ ≡ after k qs
+unfolding after
+host-runs none = refl
+host-runs (next {qs = qs} m ms) = host-runs ms ∙ ap (λ (h : Kept). after h qs) (host-made m .keeps)
+
+-- ---- the number and the entries
+taken-fits : (h l : List ℕ) → take (length h) l ≡ take (length h) h → length h ≤ length l
+taken-fits h l e =
+    let a = ap length (e ∙ take-length h) in
+    omega (arith, a, length-take (length h) l)
+
+fitted-less : (n : ℕ) → fitted n ≤ n
+unfolding fitted
+fitted-less n = capped-less n 2147483647
+
+fits-for : (a : calls.Answer) (h l : List ℕ) → valuesOf (answerFor a (length h)) l ≡ valuesOf (answerFor a (length h)) (writtenBy a h) → up (codeOf (answerFor a (length h))) ≤ length l
+unfolding valuesOf answerFor writtenBy codeOf up
+fits-for calls.consistent h l e = omega (arith, taken-fits h l e, fitted-less (length h))
+fits-for calls.conflicting h l e = zero-le
+fits-for calls.noted h l e = zero-le
+fits-for calls.undone h l e = zero-le
+fits-for (calls.refused n) h l e = let z = up-negated (fitted n) in omega (arith, z)
+fits-for (calls.reason ls) h l e = omega (arith, taken-fits ls l e, fitted-less (length ls))
+
+answer-fits : (k : Kept) (q : Request) (o : calls.Outcome) → Whole k q o → up (codeOf (reply k q .answer)) ≤ length (listOf q)
+unfolding answerOf
+answer-fits k q o w =
+    let e = ap (λ (x : Answer). valuesOf x (reply k q .list)) (sym (w .answer)) ∙ w .values in
+    let a = ap (λ (x : Answer). up (codeOf x)) (w .answer) in
+    let b = ap length (w .list) ∙ length-sets (listOf q) 0 (writtenOf o) in
+    omega (arith, a, b, fits-for (o .answer) (o .handed) (reply k q .list) e)
+
+buffer-room : (b : List ℕ) → 2 * length (bufferIn b) ≤ length b
+unfolding bufferIn
+buffer-room b =
+    let m = capped (length b / 2) 260 in
+    let e = length-take-le m (replicate {A = ℕ} 260 0) (omega (arith, capped-most (length b / 2) 260, length-replicate {A = ℕ} 260 0)) in
+    omega (arith, e, capped-less (length b / 2) 260)
+
+pub made-room : {k k′ : Kept} {q : Request} {list : List ℕ} {x : Said} → HostMade k q list x k′ → 2 * length (listOf q) ≤ length list
+unfolding listOf
+made-room (initializes r state t list log cursor state′ t′ list′ log′ cursor′ p e s) = list-room list
+made-room (propagates r lit pending state t list log cursor state′ t′ list′ log′ cursor′ p e s) = list-room list
+made-room (undoes r lit state log cursor state′ cursor′ p e s) = zero-le
+made-room (asks r q state log cursor buffer buffer′ p e) = buffer-room buffer
+
+pub host-fits : {h k k′ : Kept} {q : Request} {list : List ℕ} {x : Said} (o : calls.Outcome) → Whole h q o → HostAnswers h q list x → HostMade k q list x k′ →
+    (n : ℕ) → x .code ≡ pos n → 2 * n ≤ length list
+host-fits {h} {q = q} o w a m n e =
+    let z = up-is (codeOf (reply h q .answer)) n (sym (a .code) ∙ e) in
+    omega (arith, z, answer-fits h q o w, made-room m)
+
+-- ---- bytes that are too short
+short-asked : (state log cursor : List ℕ) → tooShort state cursor ≡ true → (q : Query) (b : List ℕ) → hostAsked state log cursor q b ≡ back (negsuc 6) b
+unfolding hostAsked hostReason hostLast
+short-asked state log cursor e (reasonFor lit) b = pick-yes _ _ e
+short-asked state log cursor e lastLeft b = pick-yes _ _ e
+
+pub short-refused : (state log cursor : List ℕ) → tooShort state cursor ≡ true → ShortRefused state log cursor
+unfolding hostInitialized hostPropagated hostUndone
+short-refused state log cursor e = record {
+  on-initialize = λ t list. pick-yes _ _ e;
+  on-propagate = λ lit pending t list. pick-yes _ _ e;
+  on-undo = λ lit. pick-yes _ _ e;
+  on-ask = short-asked state log cursor e;
+  states = λ y state′ s. s .same (ap (λ (b : Bool). b || isRefused (y .answer)) e);
+}
+
+-- ---- a fetch on any bytes
+up-code : (a : Answer) → up (codeOf a) ≤ givenBy a
+unfolding up codeOf givenBy
+up-code (Consistent n) = fitted-less n
+up-code Conflict = zero-le
+up-code Noted = zero-le
+up-code Undone = zero-le
+up-code (Reason n) = fitted-less n
+up-code (Refused n) = let z = up-negated (fitted n) in omega (arith, z)
+
+abbrev Within : List ℕ → Fetched → Type 0
+Within b x = givenBy (x .answer) ≤ length b
+
+copied-within : (ws l : List ℕ) (n : ℕ) (b : List ℕ) → reasonShort ws (length b) ≡ false → Within b (copied ws l n b)
+unfolding copied reasonOver reasonShort givenBy
+copied-within ws l n b e = pick-ind (Within b) _ _ _ (λ _. zero-le) (λ u.
+    let x = ltb-false (edgesOf ws + 2 * verticesOf ws + 4) n u in
+    let y = ltb-false (length b) (edgesOf ws + 2 * verticesOf ws + 4) e in
+    let z : n ≤ length b = omega arith in z)
+
+given-within : (ws l : List ℕ) (x : Listed) (b : List ℕ) → reasonShort ws (length b) ≡ false → Within b (reasonGiven ws l x b)
+unfolding reasonGiven givenBy
+given-within ws l (Past n) b e = copied-within ws l n b e
+given-within ws l Missing b e = zero-le
+
+room-for : (ws : List ℕ) (ends : List (List ℕ)) (noted log : List ℕ) (n : ℕ) (c : Cursor) → fetchRefusal ws ends noted n log c ≡ 0 → reasonShort ws n ≡ false
+unfolding fetchRefusal
+room-for ws ends noted log n c e =
+    or-none (stateBad ws ends noted log c) (reasonShort ws n) (pick-zero (stateBad ws ends noted log c || reasonShort ws n) 7 0 (omega arith) e .0) .1
+
+-- whatever the state, the log and the cursor are
+pub asked-within : (s : GraphDivision) (c : Cursor) (log : List ℕ) (q : Query) (b : List ℕ) → givenBy (asked s c log q b .answer) ≤ length b
+unfolding asked reasonFetched lastFetched giving givenBy
+asked-within s c log (reasonFor lit) b =
+    pick-ind (Within b) _ _ _
+    (λ t. pick-ind (Within b) _ _ _
+    (λ _. pick-ind (Within b) _ _ _ (λ _. zero-le) (λ _. given-within (s .plan) _ _ b (room-for (s .plan) (s .edges .ends) (s .noted) log (length b) c (eqb-true _ 0 t))))
+    (λ _. zero-le))
+    (λ _. zero-le)
+asked-within s c log lastLeft b =
+    pick-ind (Within b) _ _ _
+    (λ t. copied-within (s .plan) _ _ b (room-for (s .plan) (s .edges .ends) (s .noted) log (length b) c (eqb-true _ 0 t)))
+    (λ _. zero-le)
+
+given-code : (x : Fetched) (buffer : List ℕ) → givenIn x buffer .code ≡ codeOf (x .answer)
+unfolding givenIn
+given-code x buffer = refl
+
+-- a fetch's number, on any bytes whatever, is no more than its buffer has entries
+pub fetch-fits : (state log cursor : List ℕ) (q : Query) (buffer : List ℕ) (n : ℕ) → hostAsked state log cursor q buffer .code ≡ pos n → 2 * n ≤ length buffer
+unfolding up
+fetch-fits state log cursor q buffer n e = tested (tooShort state cursor)
+    (λ t. let z : n ≡ 0 = up-is (negsuc 6) n (sym (ap (λ (z : Back). z .code) (short-asked state log cursor t q buffer)) ∙ e) in omega arith)
+    (λ t.
+    let x = asked (stateIn state) (cursorIn cursor) (logIn (cursorIn cursor) log) q (bufferIn buffer) in
+    let z = up-is (codeOf (x .answer)) n (sym (ap (λ (z : Back). z .code) (asked-given state log cursor t q buffer) ∙ given-code x buffer) ∙ e) in
+    omega (arith, z, up-code (x .answer), asked-within (stateIn state) (cursorIn cursor) (logIn (cursorIn cursor) log) q (bufferIn buffer), buffer-room buffer))
