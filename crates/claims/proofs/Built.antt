@@ -17,6 +17,7 @@ use Rattle.graph_division.specs.New.{built}
 use Rattle.graph_division.specs.Runs.{Request, Kept}
 use Rattle.simulation.proofs.Represents.{planIn}
 use Rattle.simulation.proofs.Running.{fresh, fresh-represents}
+use Rattle.claims.specs.Whole.{writtenOf}
 use Rattle.claims.specs.Conditions.{replyTo, outcomeTo, Condition1, Condition2, Condition3}
 use Rattle.claims.proofs.Replying.{At}
 use Rattle.claims.proofs.Lists as lists
@@ -51,12 +52,12 @@ module _ (vs : List ℤ) (n : ℕ) (es : List ℤ) (m : ℕ) (sameSize extraWall
   pub refusal-range : (before : List Request) (q : Request) (m′ : ℕ) → replyTo start before q .answer ≡ Refused m′ → (0 < m′) × (m′ ≤ 16)
   refusal-range = lists.refusal-range d start at-start
 
-  -- what is handed on is the plan's: "Literals run from 0 to 8191."
-  pub handed-small : (before : List Request) (q : Request) (l : ℕ) → In (outcomeTo d start before q .handed) l → l ≤ 8191
+  -- what a call writes, literals handed on or a list fetched, is the plan's: "Literals run from 0 to 8191."
+  pub written-small : (before : List Request) (q : Request) (l : ℕ) → In (writtenOf (outcomeTo d start before q)) l → l ≤ 8191
   unfolding built
-  handed-small before q l i =
+  written-small before q l i =
       let p = new-proper vs n es m sameSize extraWalls z .0 in
-      known-small _ _ p l (known-is _ _ p l ∙ lists.handed-known d start at-start proper-built before q l i)
+      known-small _ _ p l (known-is _ _ p l ∙ lists.written-known d start at-start proper-built before q l i)
 
 -- "Both options off, on any plan that builds"
 module _ (vs : List ℤ) (n : ℕ) (es : List ℤ) (m : ℕ) (z : built vs n es m false false .refusal ≡ 0) where

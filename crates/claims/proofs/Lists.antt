@@ -1,6 +1,6 @@
 -- The conditions of the order, of the definition's calls and so of the code's.
 use mathlib.Core.Path.{_≡_, refl, sym, ap, ap₂, subst, _∙_}
-use mathlib.Core.Logic.{_↔_, ⊎-elim}
+use mathlib.Core.Logic.{_↔_, _⊎_, inl, inr, ⊎-elim}
 use mathlib.Core.Bool.{Bool, true, false, true≢false, false≢true}
 use mathlib.Core.List.{List, [], _∷_, _++_, List·Memᴰ, List·Memᴰ·head, List·Memᴰ·tail, List·Memᴰ·not-nil}
 use Prim.Native.Nat.{ℕ, _/_, _%_, _<_, _≤_}
@@ -43,13 +43,14 @@ use Rattle.graph_division.specs.declared.Answer.{Answer}
 use Rattle.graph_division.specs.declared.Answer.the-variants.{Consistent, Conflict, Noted, Undone, Reason, Refused}
 use Rattle.graph_division.specs.Answers.{numberOf}
 use Rattle.graph_division.specs.Runs.{Query, reasonFor, lastLeft, Request, initialize, propagate, undo, ask, tableOf, roomFor, queryOf, Kept, logFor, Reply, reply, keeping, after, callOf, callsOf}
-use Rattle.claims.specs.Whole.{literalsOf}
+use Rattle.claims.specs.Whole.{literalsOf, writtenBy, writtenOf}
 use Rattle.claims.specs.Conditions.{accepted, isConsistent, counts, counted, HandsOn, Quiet, aQuery, turnedAway, AllQuiet, done, next, standingThen, Condition1, Condition2, Condition3}
 use Rattle.graph_division.specs.Outcomes.{answerOf}
 use Rattle.simulation.proofs.Represents.{planIn}
 use Rattle.simulation.proofs.Running.{RepresentsKept, Replies}
 use Rattle.claims.proofs.Refusing.{refused-unchanged}
 use Rattle.claims.proofs.Replying.{conflict-back, refused-range, refused-is, accepted-is, consistent-is, At, reply-at, next-at, after-at}
+use Rattle.claims.proofs.Known.{reason-known}
 use Rattle.claims.proofs.OneAnswer.{table-same, ask-told, one-answer, consistent-literals, reason-literals}
 
 -- ---- a literal that the table shows as handed on is one of those that the definition hands on
@@ -135,6 +136,16 @@ refused-number Noted n h e = absurd (omega arith)
 refused-number Undone n h e = absurd (omega arith)
 refused-number (Reason m) n h e = absurd (omega arith)
 refused-number (Refused m) n h e = ap Refused e
+
+-- ---- what is written is what is handed on, or the reason's
+written-in : (a : calls.Answer) (h : List ℕ) (l : ℕ) → In (writtenBy a h) l → In h l ⊎ ((ls : List ℕ) × (a ≡ calls.reason ls) × In ls l)
+unfolding writtenBy
+written-in calls.consistent h l m = inl m
+written-in calls.conflicting h l m = inl m
+written-in calls.noted h l m = inl m
+written-in calls.undone h l m = inl m
+written-in (calls.refused n) h l m = inl m
+written-in (calls.reason ls) h l m = inr (ls, refl, m)
 
 -- ---- the requests as calls
 counts-same : (d : Plan) (k : Kept) (q : Request) (ls : List ℕ) → counts d q ls ≡ claim.counts d (callOf k q) ls
@@ -240,7 +251,7 @@ module _ (D : Plan) where
       stands-then before q = ap (λ (w : World). w .standing) (sym (run-more before q)) ∙ standing-after (before ++ (q ∷ []))
 
       -- what is handed on is the plan's, and the table is long enough for it
-      pub handed-known : (before : List Request) (q : Request) (l : ℕ) → In (outcome before q .handed) l → knows D l ≡ true
+      handed-known : (before : List Request) (q : Request) (l : ℕ) → In (outcome before q .handed) l → knows D l ≡ true
       handed-known before q l m =
           let c = callOf (after start before) q in
           let v = outcome before q .world in
@@ -249,6 +260,14 @@ module _ (D : Plan) where
           let (r, e) = reason-there l (x .recent) (x .each l m) in
           let y : Explains D (noteAll D (v .standing)) l r = each-found l r (x .recent) (run-explained D proper (x .run) (v .standing) g (λ _ z. z)) e in
           is-known D proper (noteAll D (v .standing)) l r y
+
+      -- and so is every literal that a call writes
+      pub written-known : (before : List Request) (q : Request) (l : ℕ) → In (writtenOf (outcome before q)) l → knows D l ≡ true
+      written-known before q l m =
+          let o = outcome before q in
+          ⊎-elim (λ i. handed-known before q l i)
+          (λ (ls, e, i). reason-known D proper (callsOf start before) (callOf (after start before) q) ls e l i)
+          (written-in (o .answer) (o .handed) l m)
 
       handed-shown : (before : List Request) (q : Request) (l : ℕ) → In (outcome before q .handed) l → HandsOn (after start before) q l
       handed-shown before q l m =

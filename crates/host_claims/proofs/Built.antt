@@ -24,6 +24,7 @@ use Rattle.graph_division.specs.declared.Answer.the-variants.{Refused}
 use Rattle.graph_division.specs.New.{built}
 use Rattle.graph_division.specs.Runs.{Request, Kept, kept, after, callOf, callsOf}
 use Rattle.simulation.proofs.Running.{fresh}
+use Rattle.claims.specs.Whole.{writtenOf}
 use Rattle.claims.specs.Conditions.{replyTo, outcomeTo, Condition1, Condition2, Condition3}
 use Rattle.claims.proofs.Built as claims
 use Rattle.byte_calls.specs.Bytes.{wordAt}
@@ -107,9 +108,9 @@ module _ (vs : List ℤ) (n : ℕ) (es : List ℤ) (m : ℕ) (a b : ℤ) (before
   second-condition : Condition2 start (planOf (stateIn state .plan) (stateIn state .edges .ends))
   second-condition = of-start Condition2 (claims.condition-2 vs n es m (isOn a) (isOn b) accepted)
 
-  small : (qs : List Request) (q : Request) (l : ℕ) → In (outcomeTo (planOf (stateIn state .plan) (stateIn state .edges .ends)) start qs q .handed) l → l ≤ 8191
-  small = of-start (λ k d. (qs : List Request) (q : Request) (l : ℕ) → In (outcomeTo d k qs q .handed) l → l ≤ 8191)
-      (claims.handed-small vs n es m (isOn a) (isOn b) accepted)
+  small : (qs : List Request) (q : Request) (l : ℕ) → In (writtenOf (outcomeTo (planOf (stateIn state .plan) (stateIn state .edges .ends)) start qs q)) l → l ≤ 8191
+  small = of-start (λ k d. (qs : List Request) (q : Request) (l : ℕ) → In (writtenOf (outcomeTo d k qs q)) l → l ≤ 8191)
+      (claims.written-small vs n es m (isOn a) (isOn b) accepted)
 
   ranged : (qs : List Request) (q : Request) (i : ℕ) → replyTo start qs q .answer ≡ Refused i → (0 < i) × (i ≤ 16)
   ranged = of-start (λ k d. (qs : List Request) (q : Request) (i : ℕ) → replyTo k qs q .answer ≡ Refused i → (0 < i) × (i ≤ 16))
@@ -120,8 +121,7 @@ module _ (vs : List ℤ) (n : ℕ) (es : List ℤ) (m : ℕ) (a b : ℤ) (before
     answers = answered;
     tells = λ {qs} {k} {k′} {q} all made. tells _ _ (answered all made .code) (ranged qs q);
     fits = λ {qs} {k} {k′} {q} all made. host-fits _ (first-condition .answers qs q) (answered all made) made;
-    reads = λ {qs} {k} {k′} {q} all made c.
-        host-reads _ (first-condition .answers qs q) (answered all made) made c (small qs q) (second-condition .handed qs q c);
+    reads = λ {qs} {k} {k′} {q} all made. host-reads _ (first-condition .answers qs q) (answered all made) made (small qs q);
     condition-1 = first-condition;
     condition-2 = second-condition;
     condition-3 = λ e f. of-start Condition3 (off-condition vs n es m (isOn a) (isOn b) (ap isOn e ∙ off) (ap isOn f ∙ off) accepted);

@@ -1,4 +1,4 @@
--- The literals that a consistent answer hands on are read back from the list's bytes.
+-- The literals that a call gives, handed on or fetched, are read back from its bytes.
 use mathlib.Core.Path.{_≡_, refl, sym, ap, ap₂, subst, _∙_}
 use mathlib.Core.Logic.{⊎-elim}
 use mathlib.Core.Bool.{true, false}
@@ -7,7 +7,7 @@ use Prim.Native.Nat.{ℕ, zero, suc, _+_, _*_, _/_, _<_, _≤_}
 use native.Mathlib.Omega.{arith}
 use lib.IntN.{pos}
 use lib.ListN.{length, getD, set, take, length-take, length-set, replicate, length-replicate, List·getD-eq-default}
-use lib.Seq.{sets, length-sets, getD-set-same, getD-set-other, getD-take}
+use lib.Seq.{sets, length-sets, getD-set-same, getD-set-other, getD-take, take-length}
 use borrow.Author.Tests.{lt-ltb}
 use Rattle.base.specs.Lists.{tab}
 use Rattle.base.proofs.Loop.{pick-yes, eq-or-not}
@@ -16,20 +16,17 @@ use Rattle.division.specs.Noting.{In}
 use Rattle.noting.specs.Words.{capped}
 use Rattle.calls.specs.Calls as calls
 use Rattle.graph_division.specs.declared.Answer.{Answer}
-use Rattle.graph_division.specs.declared.Answer.the-variants.{Consistent}
 use Rattle.graph_division.specs.Answers.{valuesOf}
 use Rattle.graph_division.specs.Outcomes.{answerFor, answerOf}
 use Rattle.graph_division.specs.Runs.{Request, initialize, propagate, undo, ask, listOf, Kept, Reply, reply}
-use Rattle.claims.specs.Whole.{literalsOf, writtenBy, Whole}
-use Rattle.claims.specs.Conditions.{isConsistent}
-use Rattle.claims.proofs.Replying.{consistent-is}
+use Rattle.claims.specs.Whole.{literalsOf, writtenBy, writtenOf, Whole}
 use Rattle.byte_calls.specs.Codes.{fitted, codeOf, givenBy}
 use Rattle.byte_calls.specs.Layout.{roomOf, listIn, bufferIn}
 use Rattle.byte_calls.specs.Stores.{putList}
 use Rattle.byte_calls.proofs.Filling.{capped-most}
 use Rattle.byte_calls.proofs.ReadBack.{halfAt, list-back}
 use Rattle.host_claims.specs.HostRuns.{Said, HostMade, initializes, propagates, undoes, asks, HostAnswers, literalsAt}
-use Rattle.host_claims.proofs.Signed.{up}
+use Rattle.host_claims.proofs.Signed.{up, up-negated, up-is}
 use Rattle.host_claims.proofs.Runs.{made-room}
 
 -- a table of numbers is the list that it gives entry by entry
@@ -93,6 +90,10 @@ pub fitted-is : (n : ℕ) → n ≤ 4352 → fitted n ≡ n
 unfolding fitted capped
 fitted-is n h = pick-yes _ _ (lt-ltb n 2147483647 (omega arith))
 
+fitted-up : (n : ℕ) → n ≤ 4352 → up (pos (fitted n)) ≡ n
+unfolding up
+fitted-up n h = fitted-is n h
+
 -- h stands whole in the list l, of which the first entries are written to the bytes
 read-back : (h l list : List ℕ) → ((v : ℕ) → In h v → v < 65536) → Small l → take (length h) l ≡ h → length h ≤ length l → 2 * length l ≤ length list →
     literalsAt (putList l (length h) list) (length h) ≡ h
@@ -101,45 +102,74 @@ read-back h l list small s e k r = tab-is _ h (λ i b.
     list-back l list (length h) s r i b (omega arith)
     ∙ sym (getD-take (length h) l i 0 b) ∙ ap (λ (m : List ℕ). getD m i 0) e)
 
--- a call that is answered consistent, where h is handed on
 module _ {h k k′ : Kept} {q : Request} {list : List ℕ} {x : Said} (o : calls.Outcome) (w : Whole h q o) (a : HostAnswers h q list x) (m : HostMade k q list x k′)
-    (c : isConsistent (reply h q .answer) ≡ true) (small : (v : ℕ) → In (o .handed) v → v ≤ 8191) (lits : literalsOf (reply h q) ≡ o .handed) where
-  answered : o .answer ≡ calls.consistent
-  answered = consistent-is o .0 (ap isConsistent (sym (w .answer)) ∙ c)
+    (small : (v : ℕ) → In (writtenOf o) v → v ≤ 8191) where
+  -- an answer that gives all that is written
+  module _ (b : calls.Answer) (answered : o .answer ≡ b) (v : List ℕ) (writes : writtenBy b (o .handed) ≡ v)
+      (values : (l : List ℕ) → valuesOf (answerFor b (length (o .handed))) l ≡ take (length v) l)
+      (many : givenBy (answerFor b (length (o .handed))) ≡ length v) (code : codeOf (answerFor b (length (o .handed))) ≡ pos (fitted (length v))) where
+    answer-is : reply h q .answer ≡ answerFor b (length (o .handed))
+    unfolding answerOf
+    answer-is = w .answer ∙ ap (λ (z : calls.Answer). answerFor z (length (o .handed))) answered
 
-  answer-is : reply h q .answer ≡ Consistent (length (o .handed))
-  unfolding answerOf answerFor
-  answer-is = w .answer ∙ ap (λ (z : calls.Answer). answerFor z (length (o .handed))) answered
+    written-is : writtenOf o ≡ v
+    written-is = ap (λ (z : calls.Answer). writtenBy z (o .handed)) answered ∙ writes
 
-  taken : take (length (o .handed)) (reply h q .list) ≡ o .handed
-  unfolding valuesOf
-  taken = sym (ap (λ (z : Answer). valuesOf z (reply h q .list)) answer-is) ∙ lits
+    lits : literalsOf (reply h q) ≡ v
+    unfolding answerOf
+    lits =
+        w .values ∙ ap (λ (z : calls.Answer). valuesOf (answerFor z (length (o .handed))) (writtenOf o)) answered
+        ∙ values (writtenOf o) ∙ ap (take (length v)) written-is ∙ take-length v
 
-  list-is : reply h q .list ≡ sets (listOf q) 0 (o .handed)
-  unfolding writtenBy
-  list-is = w .list ∙ ap (λ (z : calls.Answer). sets (listOf q) 0 (writtenBy z (o .handed))) answered
+    taken : take (length v) (reply h q .list) ≡ v
+    taken = sym (values (reply h q .list)) ∙ sym (ap (λ (z : Answer). valuesOf z (reply h q .list)) answer-is) ∙ lits
 
-  list-small : Small (reply h q .list)
-  list-small = subst Small (sym list-is) (sets-small (o .handed) (listOf q) 0 (made-small m) (λ v i. let z = small v i in omega arith))
+    list-is : reply h q .list ≡ sets (listOf q) 0 v
+    list-is = w .list ∙ ap (sets (listOf q) 0) written-is
 
-  list-long : length (reply h q .list) ≡ length (listOf q)
-  list-long = ap length list-is ∙ length-sets (listOf q) 0 (o .handed)
+    lits-small : (u : ℕ) → In v u → u < 65536
+    lits-small u i = let z = small u (subst (λ (l : List ℕ). In l u) (sym written-is) i) in omega arith
 
-  fits : length (o .handed) ≤ length (reply h q .list)
-  fits = let z = ap length taken in omega (arith, z, length-take (length (o .handed)) (reply h q .list))
+    list-small : Small (reply h q .list)
+    list-small = subst Small (sym list-is) (sets-small v (listOf q) 0 (made-small m) lits-small)
 
-  code-is : (n : ℕ) → x .code ≡ pos n → n ≡ length (o .handed)
-  unfolding codeOf up
-  code-is n e =
-      ap up (sym e ∙ a .code ∙ ap codeOf answer-is)
-      ∙ fitted-is (length (o .handed)) (omega (arith, fits, list-long, made-few m))
+    list-long : length (reply h q .list) ≡ length (listOf q)
+    list-long = ap length list-is ∙ length-sets (listOf q) 0 v
 
-  bytes-are : x .list ≡ putList (reply h q .list) (length (o .handed)) list
-  unfolding givenBy
-  bytes-are = a .literals ∙ ap (λ (z : Answer). putList (reply h q .list) (givenBy z) list) answer-is
+    fits : length v ≤ length (reply h q .list)
+    fits = let z = ap length taken in omega (arith, z, length-take (length v) (reply h q .list))
+
+    code-is : (n : ℕ) → x .code ≡ pos n → n ≡ length v
+    code-is n e =
+        up-is (pos (fitted (length v))) n (sym (a .code ∙ ap codeOf answer-is ∙ code) ∙ e)
+        ∙ fitted-up (length v) (omega (arith, fits, list-long, made-few m))
+
+    bytes-are : x .list ≡ putList (reply h q .list) (length v) list
+    bytes-are = a .literals ∙ ap (λ (z : ℕ). putList (reply h q .list) z list) (ap givenBy answer-is ∙ many)
+
+    whole-read : (n : ℕ) → x .code ≡ pos n → literalsAt (x .list) n ≡ literalsOf (reply h q)
+    whole-read n e =
+        ap₂ literalsAt bytes-are (code-is n e)
+        ∙ read-back v (reply h q .list) list lits-small list-small taken fits (omega (arith, list-long, made-room m))
+        ∙ sym lits
+
+  -- one that gives none: no number of literals but 0
+  none-read : (b : calls.Answer) → o .answer ≡ b → ((l : List ℕ) → valuesOf (answerFor b (length (o .handed))) l ≡ []) → up (codeOf (answerFor b (length (o .handed)))) ≡ 0 →
+      (n : ℕ) → x .code ≡ pos n → literalsAt (x .list) n ≡ literalsOf (reply h q)
+  unfolding answerOf literalsAt tab
+  none-read b e f g n c =
+      let s : reply h q .answer ≡ answerFor b (length (o .handed)) = w .answer ∙ ap (λ (z : calls.Answer). answerFor z (length (o .handed))) e in
+      ap (literalsAt (x .list)) (up-is (x .code) n c ∙ ap up (a .code ∙ ap codeOf s) ∙ g)
+      ∙ sym (ap (λ (z : Answer). valuesOf z (reply h q .list)) s ∙ f (reply h q .list))
+
+  read-by : (b : calls.Answer) → o .answer ≡ b → (n : ℕ) → x .code ≡ pos n → literalsAt (x .list) n ≡ literalsOf (reply h q)
+  unfolding valuesOf answerFor writtenBy codeOf givenBy up
+  read-by calls.consistent e = whole-read calls.consistent e (o .handed) refl (λ l. refl) refl refl
+  read-by (calls.reason ls) e = whole-read (calls.reason ls) e ls refl (λ l. refl) refl refl
+  read-by calls.conflicting e = none-read calls.conflicting e (λ l. refl) refl
+  read-by calls.noted e = none-read calls.noted e (λ l. refl) refl
+  read-by calls.undone e = none-read calls.undone e (λ l. refl) refl
+  read-by (calls.refused i) e = none-read (calls.refused i) e (λ l. refl) (up-negated (fitted i))
 
   pub host-reads : (n : ℕ) → x .code ≡ pos n → literalsAt (x .list) n ≡ literalsOf (reply h q)
-  host-reads n e =
-      ap₂ literalsAt bytes-are (code-is n e)
-      ∙ read-back (o .handed) (reply h q .list) list (λ v i. let z = small v i in omega arith) list-small taken fits (omega (arith, list-long, made-room m))
-      ∙ sym lits
+  host-reads = read-by (o .answer) refl

@@ -1,7 +1,6 @@
 -- Any list of the C host's calls on bytes, refused ones included, each as its contract in crate byte_calls has it, and the conditions of the
 -- order of them.
 use mathlib.Core.Path.{_≡_}
-use mathlib.Core.Bool.{true}
 use mathlib.Core.List.{List, [], _∷_}
 use Prim.Native.Nat.{ℕ, _+_, _*_, _<_, _≤_}
 use lib.IntN.{ℤ, pos, negsuc, negℤ}
@@ -14,7 +13,7 @@ use Rattle.graph_division.specs.declared.Answer.the-variants.{Conflict, Noted, 
 use Rattle.graph_division.specs.Answers.{numberOf}
 use Rattle.graph_division.specs.Runs.{Query, reasonFor, lastLeft, Request, initialize, propagate, undo, ask, Kept, kept, reply, after}
 use Rattle.claims.specs.Whole.{literalsOf}
-use Rattle.claims.specs.Conditions.{isConsistent, Condition1, Condition2, Condition3}
+use Rattle.claims.specs.Conditions.{Condition1, Condition2, Condition3}
 use Rattle.byte_calls.specs.Codes.{codeOf, givenBy}
 use Rattle.byte_calls.specs.Layout.{stateIn, cursorIn, logIn, listIn, bufferIn}
 use Rattle.byte_calls.specs.Stores.{putList}
@@ -118,10 +117,9 @@ pub record HostConditions (sameSize extraWalls : ℤ) (start : Kept) (d : Plan) 
   -- and a number of literals is no more than the list or the reason buffer has entries
   pub fits : {qs : List Request} {k k′ : Kept} {q : Request} {list : List ℕ} {x : Said} →
       AllHostMade start qs k → HostMade k q list x k′ → (n : ℕ) → x .code ≡ pos n → 2 * n ≤ length list
-  -- the literals that a consistent answer hands on are read from the list's bytes, as many as its number says
+  -- the literals that it gives, handed on or fetched, are read from those bytes, as many as the number says
   pub reads : {qs : List Request} {k k′ : Kept} {q : Request} {list : List ℕ} {x : Said} →
-      AllHostMade start qs k → HostMade k q list x k′ → isConsistent (reply (after start qs) q .answer) ≡ true →
-      (n : ℕ) → x .code ≡ pos n → literalsAt (x .list) n ≡ literalsOf (reply (after start qs) q)
+      AllHostMade start qs k → HostMade k q list x k′ → (n : ℕ) → x .code ≡ pos n → literalsAt (x .list) n ≡ literalsOf (reply (after start qs) q)
   -- of these replies the conditions speak
   pub condition-1 : Condition1 start d
   pub condition-2 : Condition2 start d
