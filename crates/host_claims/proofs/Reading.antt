@@ -163,7 +163,7 @@ module _ {h k k′ : Kept} {q : Request} {list : List ℕ} {x : Said} (o : calls
       ∙ sym (ap (λ (z : Answer). valuesOf z (reply h q .list)) s ∙ f (reply h q .list))
 
   read-by : (b : calls.Answer) → o .answer ≡ b → (n : ℕ) → x .code ≡ pos n → literalsAt (x .list) n ≡ literalsOf (reply h q)
-  unfolding valuesOf answerFor writtenBy codeOf givenBy up
+  unfolding valuesOf answerFor writtenBy codeOf up
   read-by calls.consistent e = whole-read calls.consistent e (o .handed) refl (λ l. refl) refl refl
   read-by (calls.reason ls) e = whole-read (calls.reason ls) e ls refl (λ l. refl) refl refl
   read-by calls.conflicting e = none-read calls.conflicting e (λ l. refl) refl

@@ -26,7 +26,8 @@ use Rattle.graph_division.specs.Runs.{Query, reasonFor, lastLeft, Request, init
 use Rattle.claims.specs.Conditions.{turnedAwayWith}
 use Rattle.claims.proofs.Refusing.{refused-unchanged}
 use Rattle.claims.proofs.Past.{reply-log}
-use Rattle.byte_calls.specs.Codes.{codeOf, isRefused, givenBy}
+use Rattle.graph_division.specs.Answers.{isRefused}
+use Rattle.byte_calls.specs.Codes.{codeOf, givenBy}
 use Rattle.byte_calls.specs.Layout.{stateIn, cursorIn, roomOf, recordsIn, logIn, listIn, bufferIn}
 use Rattle.byte_calls.specs.Stores.{putList, putLog}
 use Rattle.byte_calls.specs.Bytes.{putHalves}
@@ -49,7 +50,6 @@ unfolding logIn recordsIn
 log-length c log = room-length (length log / 8) (recordsIn c log) (filled-length 0 _ (replicate 4352 0) _ ∙ length-replicate {A = ℕ} 4352 0)
 
 refused-number : (a : Answer) → isRefused a ≡ true → (n : ℕ) × (a ≡ Refused n)
-unfolding isRefused
 refused-number (Consistent h) e = absurd (false≢true e)
 refused-number Conflict e = absurd (false≢true e)
 refused-number Noted e = absurd (false≢true e)
@@ -70,7 +70,7 @@ unfolding putList putHalves iter
 put-none l b = ap (λ (n : ℕ). putHalves l n b) (cap-none (length l))
 
 list-by : (a : Answer) (c d : Cursor) (t lits records list log cursor : List ℕ) → leftBy a c d t lits records list log cursor .list ≡ putList lits (givenBy a) list
-unfolding leftBy isRefused givenBy pick
+unfolding leftBy pick
 list-by (Consistent h) c d t lits records list log cursor = refl
 list-by Conflict c d t lits records list log cursor = refl
 list-by Noted c d t lits records list log cursor = refl

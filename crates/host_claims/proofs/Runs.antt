@@ -30,12 +30,12 @@ use Rattle.graph_division.specs.declared.GraphDivision.{GraphDivision}
 use Rattle.graph_division.specs.declared.Answer.{Answer}
 use Rattle.graph_division.specs.declared.Answer.the-variants.{Consistent, Conflict, Noted, Undone, Reason, Refused}
 use Rattle.graph_division.specs.Calls.{Fetched, reasonOver, copied, reasonGiven, giving, reasonFetched, lastFetched}
-use Rattle.graph_division.specs.Answers.{valuesOf}
+use Rattle.graph_division.specs.Answers.{valuesOf, isRefused}
 use Rattle.graph_division.specs.Outcomes.{answerFor, answerOf}
 use Rattle.graph_division.specs.Runs.{Query, reasonFor, lastLeft, Request, initialize, propagate, undo, ask, listOf, Kept, Reply, replied, asked, reply, keeping, after}
 use Rattle.claims.specs.Whole.{writtenBy, writtenOf, Whole}
 use Rattle.byte_calls.specs.Bytes.{putHalves}
-use Rattle.byte_calls.specs.Codes.{fitted, codeOf, isRefused, givenBy}
+use Rattle.byte_calls.specs.Codes.{fitted, codeOf, givenBy}
 use Rattle.byte_calls.specs.Layout.{stateIn, cursorIn, logIn, listIn, bufferIn}
 use Rattle.byte_calls.specs.Stores.{putList}
 use Rattle.byte_calls.specs.Host.{Left, left, tooShort, hostInitialized, hostPropagated, Back, back, hostUndone, givenIn, hostReason, hostLast}
@@ -176,7 +176,7 @@ short-refused state log cursor e = record {
 
 -- ---- a fetch on any bytes
 up-code : (a : Answer) → up (codeOf a) ≤ givenBy a
-unfolding up codeOf givenBy
+unfolding up codeOf
 up-code (Consistent n) = fitted-less n
 up-code Conflict = zero-le
 up-code Noted = zero-le
@@ -188,14 +188,14 @@ abbrev Within : List ℕ → Fetched → Type 0
 Within b x = givenBy (x .answer) ≤ length b
 
 copied-within : (ws l : List ℕ) (n : ℕ) (b : List ℕ) → reasonShort ws (length b) ≡ false → Within b (copied ws l n b)
-unfolding copied reasonOver reasonShort givenBy
+unfolding copied reasonOver reasonShort
 copied-within ws l n b e = pick-ind (Within b) _ _ _ (λ _. zero-le) (λ u.
     let x = ltb-false (edgesOf ws + 2 * verticesOf ws + 4) n u in
     let y = ltb-false (length b) (edgesOf ws + 2 * verticesOf ws + 4) e in
     let z : n ≤ length b = omega arith in z)
 
 given-within : (ws l : List ℕ) (x : Listed) (b : List ℕ) → reasonShort ws (length b) ≡ false → Within b (reasonGiven ws l x b)
-unfolding reasonGiven givenBy
+unfolding reasonGiven
 given-within ws l (Past n) b e = copied-within ws l n b e
 given-within ws l Missing b e = zero-le
 
@@ -206,7 +206,7 @@ room-for ws ends noted log n c e =
 
 -- whatever the state, the log and the cursor are
 pub asked-within : (s : GraphDivision) (c : Cursor) (log : List ℕ) (q : Query) (b : List ℕ) → givenBy (asked s c log q b .answer) ≤ length b
-unfolding asked reasonFetched lastFetched giving givenBy
+unfolding asked reasonFetched lastFetched giving
 asked-within s c log (reasonFor lit) b =
     pick-ind (Within b) _ _ _
     (λ t. pick-ind (Within b) _ _ _
