@@ -20,7 +20,6 @@ ghost use mathlib.Core.Bool.{_&&_};
 ghost use lib.Dec.{eqb, ltb};
 ghost use Rattle.base.specs.Iter.{pick};
 ghost use lib.ListN.{getD};
-ghost use Rattle.sat.specs.Literal.{negate};
 ghost use Rattle.division.specs.Analysis.{place};
 ghost use Rattle.plan.specs.Words.{domainLenOf, domainOf, placeOf, uniqueLitAt, variablesOf};
 ghost use Rattle.views.specs.Words.{decidedRegionOf, potentialRegionOf, decidedWeightOf, potentialWeightOf};

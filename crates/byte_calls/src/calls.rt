@@ -3,7 +3,6 @@ use builder::input::no_edges;
 use builder::input::no_vertices;
 ghost use mathlib.Core.Path.{_≡_};
 ghost use mathlib.Core.Bool.{true, false};
-ghost use lib.ListN.{length};
 ghost use Rattle.byte_calls.specs.Host.{left, back, tooShort, hostInitialized, initializedIn, hostPropagated, propagatedIn, hostUndone, undoneIn, hostReason, hostLast, buildCode};
 ghost use Rattle.byte_calls.specs.After.{Leaves};
 ghost use Rattle.byte_calls.specs.Build.{BuiltIn};

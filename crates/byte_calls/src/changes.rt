@@ -31,7 +31,7 @@ ghost use Rattle.lent.specs.Lent.{stateAfter};
 ghost use Rattle.graph_division.specs.Answers.{isRefused};
 ghost use Rattle.byte_calls.specs.Layout.{planIn, endsIn, wordsIn, stateIn, cursorIn, listIn, logIn};
 ghost use Rattle.byte_calls.specs.Stores.{Kept};
-ghost use Rattle.byte_calls.specs.Host.{AfterOf, left, leftBy, leftOf, propagatedIn, back, backOf, backBy, undoneIn};
+ghost use Rattle.byte_calls.specs.Host.{AfterOf, left, leftBy, leftOf, propagatedIn, back, backBy, undoneIn};
 ghost use Rattle.graph_division.specs.Calls.{undone};
 
 // The state's words that a call has changed.

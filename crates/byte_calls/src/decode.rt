@@ -1,21 +1,16 @@
 // Reading a state's bytes: only what its counts say is in use.
-use crate::bytes::long_at;
 use crate::bytes::read_longs;
 use crate::bytes::read_words;
 use crate::bytes::word_at;
 use edge_table::Edges;
-use lists::ReasonList;
-use noting::Noted;
 use plan::Plan;
-use reasons::Proposals;
 use undo_log::Cursor;
 ghost use mathlib.Core.Path.{_≡_};
-ghost use mathlib.Core.List.{_∷_, []};
 ghost use Prim.Native.Nat.{ℕ, _+_, _*_, _/_, _<_, _≤_};
-ghost use lib.ListN.{length, getD, replicate};
+ghost use lib.ListN.{length, replicate};
 ghost use Rattle.noting.specs.Words.{capped};
 ghost use Rattle.byte_calls.specs.Bytes.{wordAt, longAt};
-ghost use Rattle.byte_calls.specs.Layout.{sizesOf, litsOf, placesOf, indexOf, inUseOver, endsIn, cursorIn, roomOf, recordsIn, decoded, decodedIn};
+ghost use Rattle.byte_calls.specs.Layout.{sizesOf, litsOf, placesOf, indexOf, inUseOver, endsIn, cursorIn, roomOf, decoded, decodedIn};
 ghost use Rattle.base.specs.Lists.{filled};
 
 pub(crate) fn capped(n: usize, most: usize) -> usize

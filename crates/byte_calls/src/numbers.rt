@@ -1,11 +1,9 @@
 // Numbers with a sign in byte slices, the lowest byte first. A byte that is missing counts as 0.
 use crate::bytes::wide;
-use builder::input::EdgeNumbers;
-use builder::input::VertexNumbers;
 ghost use mathlib.Core.Path.{_≡_};
 ghost use Prim.Native.Nat.{ℕ, _+_, _*_, _<_, _≤_};
-ghost use lib.IntN.{pos, negsuc};
-ghost use lib.ListN.{length, getD, set, replicate};
+ghost use lib.IntN.{negsuc};
+ghost use lib.ListN.{length, getD, set};
 ghost use Rattle.base.specs.Iter.{iter};
 ghost use Rattle.byte_calls.specs.Bytes.{wordAt};
 ghost use Rattle.byte_calls.specs.Numbers.{signedOf, intAt};

@@ -9,7 +9,6 @@ use by_value::calc_reason::calc_reason;
 use by_value::initialize::initialize;
 use by_value::propagate::propagate;
 use by_value::undo::undo;
-use graph_division::Answer;
 use graph_division::GraphDivision;
 use graph_division::is_refused;
 use lists::ReasonList;

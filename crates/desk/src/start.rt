@@ -1,13 +1,9 @@
 // The program's start: the input's shape, and the plan that its first lines give.
 use builder::build::GraphDivisionOptions;
-use builder::input::EdgeNumbers;
-use builder::input::VertexNumbers;
 use builder::input::no_edges;
 use builder::input::no_vertices;
 use graph_division::GraphDivision;
 ghost use mathlib.Core.Path.{_≡_};
-ghost use lib.IntN.{pos};
-ghost use lib.ListN.{replicate, length};
 ghost use Rattle.desk.specs.Start.{startedBy, malformed, started};
 
 // The refusal that the program answers and ends with, or 0 and a fresh state, and where the calls' lines begin.

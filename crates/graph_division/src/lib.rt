@@ -11,7 +11,6 @@ use plan::Plan;
 use recorded::Reasons;
 use undo_log::Cursor;
 ghost use mathlib.Core.Path.{_≡_};
-ghost use lib.ListN.{replicate};
 ghost use Rattle.graph_division.specs.Answers.{isConsistent, isRefused};
 ghost use Rattle.graph_division.specs.New.{built};
 

@@ -16,7 +16,6 @@ use walks::Listed;
 ghost use mathlib.Core.Path.{_≡_};
 ghost use Prim.Native.Nat.{_%_, _*_, _+_, _<_};
 ghost use lib.ListN.{getD};
-ghost use Rattle.sat.specs.Literal.{negate};
 ghost use Rattle.reasons.specs.Reason.{reasonOf};
 ghost use Rattle.walks.specs.Answers.{answerOf};
 ghost use Rattle.judge.specs.Judge.{listing, negationAt, falseLits, judgeCurrent, judgeFalse, judgeProposals};

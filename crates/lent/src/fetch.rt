@@ -14,7 +14,7 @@ ghost use mathlib.Core.List.{List};
 ghost use Prim.Native.Nat.{ℕ, _*_, _+_, _/_, _%_};
 ghost use Rattle.base.specs.Lists.{tab};
 ghost use Rattle.plan.specs.Words.{word};
-ghost use Rattle.walks.specs.Written.{outOf, pushed, written};
+ghost use Rattle.walks.specs.Written.{outOf, written};
 ghost use Rattle.analysis.specs.Placed.{placeOfLit};
 ghost use Rattle.recorded.specs.declared.Reasons.{Reasons};
 ghost use Rattle.graph_division.specs.declared.GraphDivision.{GraphDivision};

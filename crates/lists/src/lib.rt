@@ -13,7 +13,7 @@ use walks::Shape;
 use walks::push;
 ghost use mathlib.Core.Path.{_≡_};
 ghost use lib.ListN.{replicate};
-ghost use Rattle.walks.specs.Written.{outOf, pushed};
+ghost use Rattle.walks.specs.Written.{outOf};
 ghost use Rattle.walks.specs.Answers.{answerOf};
 ghost use Rattle.lists.specs.Parts.{shapeOf, endsOf, path, decided, potential, andWord, andLit, andOpt, inside, twoPaths, twoRegions, threeRegions};
 ghost use Rattle.lists.specs.Lists.{between, tooLarge, mismatch, spread, sameSize, reasonLits};

@@ -3,7 +3,7 @@ use base::slices::word;
 use plan::Plan;
 ghost use mathlib.Core.Path.{_≡_};
 ghost use Prim.Native.Nat.{_*_, _+_, _<_};
-ghost use lib.ListN.{getD, set};
+ghost use lib.ListN.{set};
 ghost use Rattle.notifications.specs.Notifications.{merged, mergedAt};
 
 fn put(words: &mut [u64], i: usize, x: u64)

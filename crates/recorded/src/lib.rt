@@ -4,7 +4,6 @@ use plan::Plan;
 use reasons::reason::Reason;
 ghost use mathlib.Core.Path.{_≡_};
 ghost use Prim.Native.Nat.{_*_, _<_};
-ghost use lib.ListN.{getD};
 ghost use Rattle.plan.specs.Words.{variablesOf};
 ghost use Rattle.recorded.specs.Recorded.{noReasons, reasonAt, newest, recorded};
 ghost use Rattle.noting.specs.Words.{capped};

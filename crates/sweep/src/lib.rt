@@ -5,7 +5,6 @@ pub mod table;
 use plan::Plan;
 use walks::push;
 ghost use mathlib.Core.Path.{_≡_};
-ghost use Rattle.walks.specs.Written.{outOf, pushed};
 ghost use Rattle.plan.specs.Words.{uniqueLitAt};
 ghost use Prim.Native.Nat.{_≤_};
 ghost use lib.ListN.{length};

@@ -9,7 +9,6 @@ ghost use mathlib.Core.Path.{_≡_};
 ghost use mathlib.Core.Bool.{true};
 ghost use Prim.Native.Nat.{ℕ, _+_, _<_, _≤_};
 ghost use lib.ListN.{length, getD};
-ghost use Rattle.sat.specs.Literal.{negate};
 ghost use Rattle.graph.specs.Search.{scanOf, graph, reachedYet};
 ghost use Rattle.graph.specs.Bounds.{Within, Fine};
 ghost use Rattle.walks.specs.Written.{outOf, pushed, written};
