@@ -48,7 +48,8 @@
  * Give a thread that makes calls 512 KB.
  *
  * THE STATE'S BYTES:
- *        0  the plan's words, 15241 of 4 bytes
+ *        0  the plan's words, 15241 of 4 bytes. Bytes 24 to 27 of them hold the mark 1, ZUNTJEV_LAYOUT_VERSION, in a
+ *           state that was built, and 0 in memory that was never built, which every call refuses with 7
  *    60964  the edges' ends, 2 bytes for each of 128 edges
  *    61220  the noted words, 384 of 4 bytes
  *    62756  the length of the list last left, 4 bytes

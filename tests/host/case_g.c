@@ -227,6 +227,34 @@ static void refusals(void)
     passed++;
 }
 
+/* Memory of zeros that was never built is refused by each call, and so is a state that has lost its mark. */
+static void unbuilt(void)
+{
+    static const uint8_t codes[3];
+    memset(state, 0, sizeof state);
+    memset(before, 0, sizeof before);
+    gate(0, 0, 2, 4);
+    check("a refused build in zeros", build(sizeof state, 2, 1, 2, 3), -6);
+    check("zeros, I", initialize(), -7);
+    check("zeros, N 0", propagate(0), -7);
+    check("zeros, U 0", undo(0), -7);
+    check("zeros, R 0", reason(0), -7);
+    check("zeros, R -", last(), -7);
+    check("zeros, all bytes after it", untouched(codes), 1);
+    check("build after zeros", build_g(sizeof state), 0);
+    check("the mark", state[24] + 256L * state[25] + 65536L * state[26] + 16777216L * state[27], ZUNTJEV_LAYOUT_VERSION);
+    memcpy(before, state, sizeof state);
+    for (int mark = 0; mark < 3; mark += 2) {
+        before[24] = state[24] = (uint8_t)mark;
+        check("another mark, I", initialize(), -7);
+        check("another mark, N 0", propagate(0), -7);
+        check("another mark, U 0", undo(0), -7);
+        check("another mark, R 0", reason(0), -7);
+        check("another mark, R -", last(), -7);
+        check("another mark, all bytes after it", untouched(codes), 1);
+    }
+}
+
 /* Building: where it is refused all bytes are as they were, and what follows the layout stays. */
 static void building(void)
 {
@@ -258,6 +286,7 @@ static void building(void)
 
 int main(void)
 {
+    unbuilt();
     building();
     refusals();
     check("I", initialize(), 0);

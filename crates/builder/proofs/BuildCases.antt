@@ -9,6 +9,7 @@ use Rattle.base.specs.Iter.{iter, pick}
 use Rattle.base.specs.Lists.{filled}
 use Rattle.graph.specs.Bounds.{ones}
 use Rattle.graph.proofs.Ones.{ones-le}
+use Rattle.plan.specs.Words.{builtMark}
 use Rattle.builder.specs.Index.{Indexing, indexed}
 use Rattle.builder.specs.Build.{flag, header, closed, totals, withIndex}
 use Rattle.builder.proofs.Least.{below}
@@ -24,13 +25,13 @@ indexed-few ws =
     let l = ones-le (below ws (indexed ws .next)) 2176 in
     (omega (arith, g .few, g .count), omega (arith, g .count))
 
-totals-are : (a : Indexing) (ws : List ℕ) → filled 4 2 (totals a) ws ≡ set (set ws 4 (a .count)) 5 (a .filing .filed)
+totals-are : (a : Indexing) (ws : List ℕ) → filled 4 3 (totals a) ws ≡ set (set (set ws 4 (a .count)) 5 (a .filing .filed)) 6 builtMark
 unfolding filled iter totals pick
 totals-are a ws = refl
 
 pub index-is : (ws x : List ℕ) (v s : ℕ) → x ≡ indexed ws .filing .words → v ≡ indexed ws .count → s ≡ indexed ws .filing .filed →
-    filled 4360 10881 (λ i. getD (set x (6528 + v) s) i 0) (set (set ws 4 v) 5 s) ≡ withIndex ws
+    filled 4360 10881 (λ i. getD (set x (6528 + v) s) i 0) (set (set (set ws 4 v) 5 s) 6 builtMark) ≡ withIndex ws
 unfolding withIndex closed
 index-is ws x v s e f g =
-    (λ j. filled 4360 10881 (λ i. getD (set (e j) (6528 + f j) (g j)) i 0) (set (set ws 4 (f j)) 5 (g j)))
+    (λ j. filled 4360 10881 (λ i. getD (set (e j) (6528 + f j) (g j)) i 0) (set (set (set ws 4 (f j)) 5 (g j)) 6 builtMark))
     ∙ ap (filled 4360 10881 (λ i. getD (set (indexed ws .filing .words) (6528 + indexed ws .count) (indexed ws .filing .filed)) i 0)) (sym (totals-are (indexed ws) ws))

@@ -21,7 +21,7 @@ use Rattle.base.proofs.Some.{some-none}
 use Rattle.base.proofs.Range.{in-range-nat}
 use Rattle.graph.specs.Bounds.{ones, Fine, Within}
 use Rattle.graph.proofs.Ones.{ones-same}
-use Rattle.plan.specs.Words.{word, entry, cell, verticesOf, edgesOf, variablesOf, slotsOf, weightOf, domainLenOf, domainOf, litOf, placeOf, positionOf, variableAt, startAt, occurrenceAt}
+use Rattle.plan.specs.Words.{word, entry, cell, verticesOf, edgesOf, variablesOf, slotsOf, markOf, builtMark, weightOf, domainLenOf, domainOf, litOf, placeOf, positionOf, variableAt, startAt, occurrenceAt}
 use Rattle.plan.specs.Check.{usedSlot, slotCount, planBad}
 use Rattle.plan.specs.Proper.{Filed, Listed, ProperWords}
 use Rattle.plan.proofs.Proper.{slot-cases}
@@ -134,7 +134,7 @@ module _ (vs : List ℤ) (n : ℕ) (es : List ℤ) (m : ℕ) (a b : Bool) (c : C
   len : length w ≡ 15241
   len = given-length vs n es m a b (k .vertices) (k .edges) (k .sizes)
 
-  same : (i : ℕ) → i < 4360 → (i < 4) ⊎ (6 ≤ i) → word f i ≡ word w i
+  same : (i : ℕ) → i < 4360 → (i < 4) ⊎ (7 ≤ i) → word f i ≡ word w i
   same = kept-word w len
 
   -- counts
@@ -171,6 +171,10 @@ module _ (vs : List ℤ) (n : ℕ) (es : List ℤ) (m : ℕ) (a b : Bool) (c : C
   f-slots : slotsOf f ≡ x .filing .filed
   unfolding totals pick
   f-slots = total-word w len 1 (omega arith)
+
+  f-mark : markOf f ≡ builtMark
+  unfolding totals pick
+  f-mark = total-word w len 2 (omega arith)
 
   -- fields
   f-weight : (v : ℕ) → v < n → weightOf f v ≡ toNat (weightAt vs v)
@@ -388,6 +392,7 @@ module _ (vs : List ℤ) (n : ℕ) (es : List ℤ) (m : ℕ) (a b : Bool) (c : C
               };
         };
         options = f-options;
+        mark = f-mark;
         light = λ v h. let h′ : v < n = omega (arith, f-vertices) in omega (arith, f-weight v h′, weight-fits vs n es m c v h′);
         short = λ v h. let h′ : v < n = omega (arith, f-vertices) in omega (arith, f-len v h′, k .sizes v h′);
         entries = λ v j h l. let h′ : v < n = omega (arith, f-vertices) in let q = f-len v h′ in omega (arith, f-size v j h′ (omega arith), size-fits vs n es m c v j h′ (omega arith));

@@ -139,19 +139,19 @@ module _ (vs : List ℤ) (n : ℕ) (es : List ℤ) (m : ℕ) (a b : Bool) (fn : 
 -- ---- with the index
 module _ (ws : List ℕ) (len : length ws ≡ 15241) where
   abbrev mid : List ℕ
-  mid = filled 4 2 (totals (indexed ws)) ws
+  mid = filled 4 3 (totals (indexed ws)) ws
 
-  pub kept-word : (i : ℕ) → i < 4360 → (i < 4) ⊎ (6 ≤ i) → word (withIndex ws) i ≡ word ws i
+  pub kept-word : (i : ℕ) → i < 4360 → (i < 4) ⊎ (7 ≤ i) → word (withIndex ws) i ≡ word ws i
   unfolding withIndex
-  kept-word i h c = filled-out 4360 (λ j. getD (closed (indexed ws)) j 0) mid 10881 i (inl h) ∙ filled-out 4 (totals (indexed ws)) ws 2 i c
+  kept-word i h c = filled-out 4360 (λ j. getD (closed (indexed ws)) j 0) mid 10881 i (inl h) ∙ filled-out 4 (totals (indexed ws)) ws 3 i c
 
-  pub total-word : (i : ℕ) → i < 2 → word (withIndex ws) (4 + i) ≡ totals (indexed ws) i
+  pub total-word : (i : ℕ) → i < 3 → word (withIndex ws) (4 + i) ≡ totals (indexed ws) i
   unfolding withIndex
-  total-word i h = filled-out 4360 (λ j. getD (closed (indexed ws)) j 0) mid 10881 (4 + i) (inl (omega arith)) ∙ filled-in 4 (totals (indexed ws)) ws 2 i h (omega arith)
+  total-word i h = filled-out 4360 (λ j. getD (closed (indexed ws)) j 0) mid 10881 (4 + i) (inl (omega arith)) ∙ filled-in 4 (totals (indexed ws)) ws 3 i h (omega arith)
 
   pub index-word : (i : ℕ) → i < 10881 → word (withIndex ws) (4360 + i) ≡ getD (closed (indexed ws)) i 0
   unfolding withIndex
-  index-word i h = filled-in 4360 (λ j. getD (closed (indexed ws)) j 0) mid 10881 i h (omega (arith, filled-length 4 (totals (indexed ws)) ws 2))
+  index-word i h = filled-in 4360 (λ j. getD (closed (indexed ws)) j 0) mid 10881 i h (omega (arith, filled-length 4 (totals (indexed ws)) ws 3))
 
 -- ---- fields
 pub entry-in : (from n : ℕ) (ws : List ℕ) (i : ℕ) → i < n → entry from n ws i ≡ word ws (from + i)

@@ -8,3 +8,4 @@ pub mod BuildCases
 pub mod Given
 pub mod Built
 pub mod Linked
+pub mod Unbuilt

@@ -8,6 +8,7 @@ use lib.ListN.{getD, set, replicate}
 use Rattle.base.specs.Iter.{iter, pick}
 use Rattle.base.specs.Lists.{filled}
 use Rattle.base.specs.Range.{toNat}
+use Rattle.plan.specs.Words.{builtMark}
 use Rattle.builder.specs.Input.{weightAt, lenAt, sizeAt, litAt, edgeLitAt, leftAt, rightAt, refusal}
 use Rattle.builder.specs.Index.{Indexing, indexed}
 
@@ -38,14 +39,14 @@ given vs n es m sameSize extraWalls =
 unfoldable pub closed : Indexing → List ℕ
 closed a = set (a .filing .words) (6528 + a .count) (a .filing .filed)
 
--- and how many distinct variables and slots it has
+-- and how many distinct variables and slots it has, with the mark of a plan that was built
 unfoldable pub totals : Indexing → ℕ → ℕ
-totals a i = pick (eqb i 0) (a .count) (a .filing .filed)
+totals a i = pick (eqb i 0) (a .count) (pick (eqb i 1) (a .filing .filed) builtMark)
 
 unfoldable pub withIndex : List ℕ → List ℕ
-withIndex ws = filled 4360 10881 (λ i. getD (closed (indexed ws)) i 0) (filled 4 2 (totals (indexed ws)) ws)
+withIndex ws = filled 4360 10881 (λ i. getD (closed (indexed ws)) i 0) (filled 4 3 (totals (indexed ws)) ws)
 
--- the plan's words, all 0 where the building is refused
+-- the plan's words; where the building is refused all are 0, the mark with them
 unfoldable pub planWords : List ℤ → ℕ → List ℤ → ℕ → Bool → Bool → List ℕ
 planWords vs n es m sameSize extraWalls =
     pick (eqb (refusal vs n es m) 0) (withIndex (given vs n es m sameSize extraWalls)) (replicate 15241 0)

@@ -12,6 +12,7 @@ use crate::input::size_lit;
 use crate::input::weight;
 use base::less_one;
 use edge_table::Edges;
+use plan::BUILT;
 use plan::Plan;
 ghost use mathlib.Core.Path.{_≡_};
 ghost use Prim.Native.Nat.{ℕ, pred, _+_, _*_, _%_, _<_, _≤_, min};
@@ -19,6 +20,7 @@ ghost use lib.ListN.{getD, set, replicate};
 ghost use Rattle.base.specs.Iter.{iter, pick};
 ghost use Rattle.base.specs.Lists.{filled};
 ghost use Rattle.base.specs.Range.{toNat};
+ghost use Rattle.plan.specs.Words.{builtMark};
 ghost use Rattle.builder.specs.Input.{weightAt, lenAt, sizeAt, litAt, leftAt, rightAt, edgeLitAt};
 ghost use Rattle.builder.specs.Index.{indexed};
 ghost use Rattle.builder.specs.Build.{flag, rows, header, given, closed, totals, withIndex, planWords, edgeStep, edgeTable};
@@ -225,13 +227,14 @@ fn fill_given<'a>(
     fill_edge_lits(edges, m, plan);
 }
 
-// How many variables and slots the index has.
+// How many variables and slots the index has, and the mark of a plan that was built.
 fn fill_totals(variables: usize, slots: usize, plan: &mut Plan)
     requires { ⌜ (variables ≤ 2176) × (slots ≤ 2176) ⌝ }
-    ensures { λ _. ⌜ now (plan .exit) ≡ set (set (now (plan .entry)) 4 variables) 5 slots ⌝ }
+    ensures { λ _. ⌜ now (plan .exit) ≡ set (set (set (now (plan .entry)) 4 variables) 5 slots) 6 builtMark ⌝ }
 {
     plan[4] = variables as u32;
     plan[5] = slots as u32;
+    plan[6] = BUILT;
 }
 
 // Adds the index to a plan's words.

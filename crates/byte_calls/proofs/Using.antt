@@ -170,7 +170,7 @@ module _ (ws : List ℕ) where
 
 with-index-length : (w : List ℕ) → length (withIndex w) ≡ length w
 unfolding withIndex
-with-index-length w = filled-length 4360 _ (filled 4 2 (totals (indexed w)) w) 10881 ∙ filled-length 4 (totals (indexed w)) w 2
+with-index-length w = filled-length 4360 _ (filled 4 3 (totals (indexed w)) w) 10881 ∙ filled-length 4 (totals (indexed w)) w 3
 
 -- what `new` builds
 module _ (vs : List ℤ) (n : ℕ) (es : List ℤ) (m : ℕ) (a b : Bool) where

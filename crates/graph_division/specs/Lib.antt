@@ -4,3 +4,4 @@ pub mod Calls
 pub mod Initialize
 pub mod Runs
 pub mod Outcomes
+pub mod NoPlan

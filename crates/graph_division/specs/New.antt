@@ -12,7 +12,8 @@ use Rattle.recorded.specs.Recorded.{noReasons}
 use Rattle.graph_division.specs.declared.GraphDivision.{GraphDivision}
 use Rattle.graph_division.specs.declared.Built.{Built}
 
--- where a refusal applies the plan's words are all 0, and no call accepts that state
+-- where a refusal applies the plan's words are all 0, and no call accepts that state: each is refused with 7 (refused-no-plan of
+-- proofs/NoPlan)
 unfoldable pub built : List ℤ → ℕ → List ℤ → ℕ → Bool → Bool → Built
 built vs n es m sameSize extraWalls = record {
   refusal = refusal vs n es m;

@@ -76,7 +76,8 @@ pub struct Outcome {
     pub answer: Answer,
 }
 
-// What building gives: 0 and a fresh state, or the number of the refusal, and then the state is no plan's.
+// What building gives: 0 and a fresh state, or the number of the refusal, and then the state is no plan's: its words are all 0,
+// without the mark `plan::BUILT`, and every call refuses it with 7 (refused-no-plan of proofs/NoPlan).
 pub struct Built {
     pub refusal: u8,
     pub state: GraphDivision,

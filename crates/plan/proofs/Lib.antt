@@ -5,3 +5,4 @@ pub mod Once
 pub mod Proper
 pub mod Passes
 pub mod Abstract
+pub mod Unmarked

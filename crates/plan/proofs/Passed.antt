@@ -10,7 +10,7 @@ use borrow.Author.Tests.{ltb-false, ltb-true, leb-false, eqb-true, lt-ltb, le-le
 use Rattle.base.specs.Lists.{some}
 use Rattle.base.proofs.Tests.{or-none, not-false}
 use Rattle.base.proofs.Some.{some-none}
-use Rattle.plan.specs.Words.{word, verticesOf, edgesOf, variablesOf, slotsOf, weightOf, domainLenOf}
+use Rattle.plan.specs.Words.{word, verticesOf, edgesOf, variablesOf, slotsOf, markOf, builtMark, weightOf, domainLenOf}
 use Rattle.plan.specs.Check.{countsBad, vertexBad, Counts}
 
 pub record Sized (ws : List ℕ) : Type 0 where
@@ -20,6 +20,7 @@ pub record Sized (ws : List ℕ) : Type 0 where
   pub slots : slotsOf ws ≤ 2176
   pub sameSize : word ws 2 ≤ 1
   pub extraWalls : word ws 3 ≤ 1
+  pub mark : markOf ws ≡ builtMark
 
 pub sized : (ws : List ℕ) → countsBad ws ≡ false → Sized ws
 unfolding countsBad
@@ -28,7 +29,8 @@ sized ws e =
     let (b, e₂) = or-none _ _ e₁ in
     let (c, e₃) = or-none _ _ e₂ in
     let (d, e₄) = or-none _ _ e₃ in
-    let (f, g) = or-none _ _ e₄ in
+    let (f, e₅) = or-none _ _ e₄ in
+    let (g, h) = or-none _ _ e₅ in
     record {
       vertices = ltb-false 64 (verticesOf ws) a;
       edges = ltb-false 128 (edgesOf ws) b;
@@ -36,6 +38,7 @@ sized ws e =
       slots = ltb-false 2176 (slotsOf ws) d;
       sameSize = ltb-false 1 (word ws 2) f;
       extraWalls = ltb-false 1 (word ws 3) g;
+      mark = eqb-true (markOf ws) builtMark (not-false _ h);
     }
 
 pub counts : (ws : List ℕ) → countsBad ws ≡ false → some (vertexBad ws) (verticesOf ws) ≡ false → Counts ws

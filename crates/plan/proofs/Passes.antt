@@ -109,7 +109,7 @@ module _ (ws : List ℕ) (ends : List (List ℕ)) (p : ProperWords ws ends) wher
   unfolding planBad countsBad startsBad
   passes =
       or-both (or-both (le-ltb _ _ (p .fine .vertices)) (or-both (le-ltb _ _ (p .fine .fits)) (or-both (le-ltb _ _ (p .few .0)) (or-both (le-ltb _ _ (p .few .1))
-      (or-both (le-ltb _ _ (p .options .0)) (le-ltb _ _ (p .options .1)))))))
+      (or-both (le-ltb _ _ (p .options .0)) (or-both (le-ltb _ _ (p .options .1)) (same _ _ (p .mark))))))))
       (or-both (some-all (vertexBad ws) (verticesOf ws) vertex) (or-both (some-all (edgeBad ws ends) (edgesOf ws) edge)
       (or-both (some-all (variableBad ws) (variablesOf ws) variable)
       (or-both (same _ _ (p .first)) (or-both (same _ _ (p .end)) (same _ _ (sym (p .count))))))))

@@ -168,6 +168,7 @@ module _ (ws : List ℕ) (ends : List (List ℕ)) (ok : planBad ws ends ≡ fals
       record {
         fine = record { vertices = s .vertices; fits = s .edges; within = edge };
         options = (s .sameSize, s .extraWalls);
+        mark = s .mark;
         light = λ v h. vertex-light ws v (vertex v h);
         short = λ v h. vertex-short ws v (vertex v h);
         entries = λ v j h l. vertex-entries ws v (vertex v h) j l;

@@ -6,12 +6,18 @@ use lib.Dec.{eqb, ltb, leb}
 use lib.ListN.{getD}
 use Rattle.base.specs.Iter.{iter, pick}
 use Rattle.base.specs.Lists.{some}
-use Rattle.plan.specs.Words.{word, verticesOf, edgesOf, variablesOf, slotsOf, weightOf, domainLenOf, domainOf, litOf, placeOf, positionOf, variableAt, startAt, occurrenceAt}
+use Rattle.plan.specs.Words.{word, verticesOf, edgesOf, variablesOf, slotsOf, markOf, builtMark, weightOf, domainLenOf, domainOf, litOf, placeOf, positionOf, variableAt, startAt, occurrenceAt}
 
--- more of something than there is room for, or an option that is neither off nor on
+-- more of something than there is room for, an option that is neither off nor on, or no mark of a plan that was built
 unfoldable pub countsBad : List ℕ → Bool
 countsBad ws =
-    ltb 64 (verticesOf ws) || (ltb 128 (edgesOf ws) || (ltb 2176 (variablesOf ws) || (ltb 2176 (slotsOf ws) || (ltb 1 (word ws 2) || ltb 1 (word ws 3)))))
+    ltb 64 (verticesOf ws)
+    || (ltb 128 (edgesOf ws)
+    || (ltb 2176 (variablesOf ws)
+    || (ltb 2176 (slotsOf ws)
+    || (ltb 1 (word ws 2)
+    || (ltb 1 (word ws 3)
+    || not (eqb (markOf ws) builtMark))))))
 
 -- a slot that holds a literal: of a size literal of a vertex, or of an edge
 unfoldable pub usedSlot : List ℕ → ℕ → Bool

@@ -4,7 +4,7 @@ use mathlib.Core.Bool.{true}
 use mathlib.Core.List.{List}
 use Prim.Native.Nat.{ℕ, suc, _+_, _*_, _/_, _%_, _<_, _≤_}
 use Rattle.graph.specs.Bounds.{Fine}
-use Rattle.plan.specs.Words.{word, verticesOf, edgesOf, variablesOf, slotsOf, weightOf, domainLenOf, domainOf, litOf, placeOf, positionOf, variableAt, startAt, occurrenceAt}
+use Rattle.plan.specs.Words.{word, verticesOf, edgesOf, variablesOf, slotsOf, markOf, builtMark, weightOf, domainLenOf, domainOf, litOf, placeOf, positionOf, variableAt, startAt, occurrenceAt}
 use Rattle.plan.specs.Check.{usedSlot, slotCount}
 
 -- of a slot in use: its literal, the literal's place among the distinct literals, and the slot's position among the occurrences
@@ -28,6 +28,7 @@ pub record Listed (ws : List ℕ) (k : ℕ) : Type 0 where
 pub record ProperWords (ws : List ℕ) (ends : List (List ℕ)) : Type 0 where
   pub fine : Fine (verticesOf ws) (edgesOf ws) ends
   pub options : (word ws 2 ≤ 1) × (word ws 3 ≤ 1)
+  pub mark : markOf ws ≡ builtMark
   pub light : (v : ℕ) → v < verticesOf ws → weightOf ws v ≤ 1000000
   pub short : (v : ℕ) → v < verticesOf ws → domainLenOf ws v ≤ 32
   pub entries : (v j : ℕ) → v < verticesOf ws → j < domainLenOf ws v → domainOf ws v j ≤ 1000000

@@ -38,6 +38,13 @@ variablesOf ws = word ws 4
 abbrev pub slotsOf : List ℕ → ℕ
 slotsOf ws = word ws 5
 
+-- the mark of a plan that was built, the version of this layout; it is 0 in memory that was never built and in a refused build's words
+abbrev pub markOf : List ℕ → ℕ
+markOf ws = word ws 6
+
+abbrev pub builtMark : ℕ
+builtMark = 1
+
 abbrev pub weightOf : List ℕ → ℕ → ℕ
 weightOf = entry 8 64
 

@@ -1,9 +1,11 @@
 // The plan's own test. Every call begins with it, so that a corrupted state is refused and never reaches an index; it is
 // linear in what the plan uses.
+use crate::BUILT;
 use crate::Plan;
 use crate::domain;
 use crate::domain_len;
 use crate::lit;
+use crate::mark;
 use crate::num_edges;
 use crate::num_slots;
 use crate::num_variables;
@@ -44,7 +46,10 @@ fn counts_bad(plan: &Plan) -> bool
     if 1 < plan[2] {
         return true;
     }
-    1 < plan[3]
+    if 1 < plan[3] {
+        return true;
+    }
+    mark(plan) != BUILT
 }
 
 // Whether a slot holds a literal.

@@ -4,12 +4,15 @@ pub mod check;
 
 ghost use mathlib.Core.Path.{_≡_};
 ghost use Prim.Native.Nat.{_+_, _*_, _/_, _%_, _<_, _≤_};
-ghost use Rattle.plan.specs.Words.{entry, cell, word, verticesOf, edgesOf, sameSizeOf, extraWallsOf, variablesOf, slotsOf, weightOf, domainLenOf, domainOf, litOf, domLitOf, edgeLitOf, placeOf, positionOf, variableAt, startAt, occurrenceAt, uniqueLitAt};
+ghost use Rattle.plan.specs.Words.{entry, cell, word, verticesOf, edgesOf, sameSizeOf, extraWallsOf, variablesOf, slotsOf, markOf, weightOf, domainLenOf, domainOf, litOf, domLitOf, edgeLitOf, placeOf, positionOf, variableAt, startAt, occurrenceAt, uniqueLitAt};
 
 // Its length is said again where a proof needs the number.
 pub const PLAN_WORDS: usize = 15241;
 
 pub type Plan = [u32; PLAN_WORDS];
+
+// Word 6 of every plan that is built, the version of its layout.
+pub const BUILT: u32 = 1;
 
 fn entry(plan: &Plan, from: usize, n: usize, i: usize) -> u32
     requires { ⌜ from + n ≤ 15241 ⌝ }
@@ -70,6 +73,13 @@ pub fn num_slots(plan: &Plan) -> u32
     ensures { λ r. ⌜ r ≡ slotsOf (now (plan .entry)) ⌝ }
 {
     plan[5]
+}
+
+// The mark of a plan that was built: `BUILT`, and 0 in memory that was never built.
+pub fn mark(plan: &Plan) -> u32
+    ensures { λ r. ⌜ r ≡ markOf (now (plan .entry)) ⌝ }
+{
+    plan[6]
 }
 
 pub fn weight(plan: &Plan, v: usize) -> u32

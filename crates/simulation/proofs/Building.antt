@@ -43,7 +43,7 @@ module _ (vs : List ℤ) (n : ℕ) (es : List ℤ) (m : ℕ) (a b : Bool) (z : b
       let k = counted vs n m (clean vs n es m z .counts) in
       ap length (pick-yes _ _ (eq-eqb _ 0 z))
       ∙ filled-length 4360 _ _ 10881
-      ∙ filled-length 4 _ _ 2
+      ∙ filled-length 4 _ _ 3
       ∙ given-length vs n es m a b (k .vertices) (k .edges) (k .sizes)
 
   pub new-represents : (log : List ℕ) → logShort (built vs n es m a b .state .plan) (length log) ≡ false → Represents (built vs n es m a b .state) log (cursorAt 0 0) calls.built

@@ -5,7 +5,7 @@ use native.Mathlib.Omega.{arith}
 use lib.Dec.{ltb, leb, eqb}
 use borrow.Author.Tests.{lt-ltb, le-ltb, le-leb, lt-leb, eq-eqb, ne-eqb}
 use Rattle.base.proofs.Tests.{or-yes, or-next, and-no, and-next}
-use Rattle.plan.specs.Words.{word, verticesOf, edgesOf, variablesOf, slotsOf}
+use Rattle.plan.specs.Words.{word, verticesOf, edgesOf, variablesOf, slotsOf, markOf, builtMark}
 use Rattle.plan.specs.Check.{countsBad}
 use borrow.Author.Needs.{needs}
 use Rattle.plan.proofs.check.counts_bad.Statement.{statement}
@@ -46,12 +46,23 @@ returns-5 : tie.Need-returns-5
 unfolding countsBad
 returns-5 c = or-next _ _ (le-ltb 64 (verticesOf ((c .before .before .before .before .before .before .before .before .before .before .args) .plan .now)) (omega arith)) (or-next _ _ (le-ltb 128 (edgesOf ((c .before .before .before .before .before .before .before .before .before .before .args) .plan .now)) (omega arith)) (or-next _ _ (le-ltb 2176 (variablesOf ((c .before .before .before .before .before .before .before .before .before .before .args) .plan .now)) (omega arith)) (or-next _ _ (le-ltb 2176 (slotsOf ((c .before .before .before .before .before .before .before .before .before .before .args) .plan .now)) (omega arith)) (or-yes _ (lt-ltb 1 (word ((c .before .before .before .before .before .before .before .before .before .before .args) .plan .now) 2) (omega arith))))))
 
-element-copy-out-result : tie.Need-element-copy-out-result
-element-copy-out-result c = search needs
+element-copy-out-if6 : tie.Need-element-copy-out-if6
+element-copy-out-if6 c = search needs
 
 returns-6 : tie.Need-returns-6
 unfolding countsBad
-returns-6 c = or-next _ _ (le-ltb 64 (verticesOf ((c .before .before .before .before .before .before .before .before .before .before .before .args) .plan .now)) (omega arith)) (or-next _ _ (le-ltb 128 (edgesOf ((c .before .before .before .before .before .before .before .before .before .before .before .args) .plan .now)) (omega arith)) (or-next _ _ (le-ltb 2176 (variablesOf ((c .before .before .before .before .before .before .before .before .before .before .before .args) .plan .now)) (omega arith)) (or-next _ _ (le-ltb 2176 (slotsOf ((c .before .before .before .before .before .before .before .before .before .before .before .args) .plan .now)) (omega arith)) (or-next _ _ (le-ltb 1 (word ((c .before .before .before .before .before .before .before .before .before .before .before .args) .plan .now) 2) (omega arith)) refl))))
+returns-6 c =
+    let ws = c .before .before .before .before .before .before .before .before .before .before .before .before .args .plan .now in
+    or-next _ _ (le-ltb 64 (verticesOf ws) (omega arith)) (or-next _ _ (le-ltb 128 (edgesOf ws) (omega arith)) (or-next _ _ (le-ltb 2176 (variablesOf ws) (omega arith)) (or-next _ _ (le-ltb 2176 (slotsOf ws) (omega arith)) (or-next _ _ (le-ltb 1 (word ws 2) (omega arith)) (or-yes _ (lt-ltb 1 (word ws 3) (omega arith)))))))
+
+mark-requires : tie.Need-mark-requires
+mark-requires c κs = search needs
+
+returns-7 : tie.Need-returns-7
+unfolding countsBad
+returns-7 c =
+    let ws = c .before .before .before .before .before .before .before .before .before .before .before .before .before .args .plan .now in
+    or-next _ _ (le-ltb 64 (verticesOf ws) (omega arith)) (or-next _ _ (le-ltb 128 (edgesOf ws) (omega arith)) (or-next _ _ (le-ltb 2176 (variablesOf ws) (omega arith)) (or-next _ _ (le-ltb 2176 (slotsOf ws) (omega arith)) (or-next _ _ (le-ltb 1 (word ws 2) (omega arith)) (or-next _ _ (le-ltb 1 (word ws 3) (omega arith)) (ap (λ (m : ℕ). not (eqb m builtMark)) ((c .mark) .ensures)))))))
 
 pub counts-bad-spec : {M : Type 1} → statement M
 counts-bad-spec =
@@ -67,5 +78,7 @@ counts-bad-spec =
     returns-4
     element-copy-out-if5
     returns-5
-    element-copy-out-result
-    returns-6)
+    element-copy-out-if6
+    returns-6
+    mark-requires
+    returns-7)
