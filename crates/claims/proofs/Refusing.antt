@@ -1,4 +1,4 @@
--- On any state, log, cursor and buffers, damaged ones included: a refused call leaves everything, and a state that is none is refused.
+-- On any state, log, cursor and buffers, damaged ones included: a call that is refused leaves all of them as they were.
 use mathlib.Core.Path.{_≡_, refl, sym, ap, _∙_}
 use mathlib.Core.Bool.{Bool, true, false, not, _||_}
 use mathlib.Core.List.{List, [], _∷_}
