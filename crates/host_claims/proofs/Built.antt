@@ -22,9 +22,9 @@ use Rattle.builder.specs.Given.{Given}
 use Rattle.calls.specs.Calls as calls
 use Rattle.graph_division.specs.declared.Answer.the-variants.{Refused}
 use Rattle.graph_division.specs.New.{built}
-use Rattle.graph_division.specs.Runs.{Request, Kept, kept, after, callOf, callsOf}
+use Rattle.graph_division.specs.Runs.{Request, Kept, kept, reply, after}
 use Rattle.simulation.proofs.Running.{fresh}
-use Rattle.claims.specs.Whole.{writtenOf}
+use Rattle.claims.specs.Whole.{literalsOf, writtenOf}
 use Rattle.claims.specs.Conditions.{replyTo, outcomeTo, Condition1, Condition2, Condition3}
 use Rattle.claims.proofs.Built as claims
 use Rattle.byte_calls.specs.Bytes.{wordAt}
@@ -34,11 +34,12 @@ use Rattle.byte_calls.specs.Numbers.{numbersIn}
 use Rattle.byte_calls.specs.Host.{short, buildCode}
 use Rattle.byte_calls.specs.Build.{isOn, buildRefused, BuiltIn}
 use Rattle.byte_calls.proofs.Building.{not-refused}
-use Rattle.host_claims.specs.HostRuns.{keptIn, Said, HostMade, AllHostMade, HostAnswers, HostConditions}
+use Rattle.host_claims.specs.HostRuns.{keptIn, Said, HostMade, AllHostMade, HostAnswers, Tells, literalsAt, HostConditions}
 use Rattle.host_claims.proofs.Signed.{down, down-negated}
 use Rattle.host_claims.proofs.Runs.{host-made, host-runs, host-fits}
 use Rattle.host_claims.proofs.Reading.{host-reads}
 use Rattle.host_claims.proofs.Telling.{tells}
+use Rattle.host_claims.proofs.Third.{bytes-condition}
 
 -- built by the host, with a cursor of zeros
 start-is : (vs : List ℤ) (n : ℕ) (es : List ℤ) (m : ℕ) (a b : ℤ) (before state log : List ℕ) → buildRefused vs n es m before ≡ false → BuiltIn vs n es m a b before state →
@@ -116,15 +117,27 @@ module _ (vs : List ℤ) (n : ℕ) (es : List ℤ) (m : ℕ) (a b : ℤ) (before
   ranged = of-start (λ k d. (qs : List Request) (q : Request) (i : ℕ) → replyTo k qs q .answer ≡ Refused i → (0 < i) × (i ≤ 16))
       (claims.refusal-range vs n es m (isOn a) (isOn b) accepted)
 
+  telling : {qs : List Request} {k k′ : Kept} {q : Request} {list : List ℕ} {x : Said} →
+      AllHostMade start qs k → HostMade k q list x k′ → Tells (x .code) (reply (after start qs) q .answer)
+  telling {qs} {q = q} all made = tells _ _ (answered all made .code) (ranged qs q)
+
+  reading : {qs : List Request} {k k′ : Kept} {q : Request} {list : List ℕ} {x : Said} →
+      AllHostMade start qs k → HostMade k q list x k′ → (n : ℕ) → x .code ≡ pos n → literalsAt (x .list) n ≡ literalsOf (reply (after start qs) q)
+  reading {qs} {q = q} all made = host-reads _ (first-condition .answers qs q) (answered all made) made (small qs q)
+
+  third-condition : a ≡ pos 0 → b ≡ pos 0 → Condition3 start (planOf (stateIn state .plan) (stateIn state .edges .ends))
+  third-condition e f = of-start Condition3 (off-condition vs n es m (isOn a) (isOn b) (ap isOn e ∙ off) (ap isOn f ∙ off) accepted)
+
   conditions : HostConditions a b start (planOf (stateIn state .plan) (stateIn state .edges .ends))
   conditions = record {
     answers = answered;
-    tells = λ {qs} {k} {k′} {q} all made. tells _ _ (answered all made .code) (ranged qs q);
+    tells = telling;
     fits = λ {qs} {k} {k′} {q} all made. host-fits _ (first-condition .answers qs q) (answered all made) made;
-    reads = λ {qs} {k} {k′} {q} all made. host-reads _ (first-condition .answers qs q) (answered all made) made (small qs q);
+    reads = reading;
     condition-1 = first-condition;
     condition-2 = second-condition;
-    condition-3 = λ e f. of-start Condition3 (off-condition vs n es m (isOn a) (isOn b) (ap isOn e ∙ off) (ap isOn f ∙ off) accepted);
+    condition-3 = third-condition;
+    of-bytes = λ e f. bytes-condition start _ (record { answers = answered; tells = telling; reads = reading; ranged = ranged }) (third-condition e f);
   }
 
 -- from the bytes that `zuntjev_build` left where it answered 0, with a cursor of zeros and any log

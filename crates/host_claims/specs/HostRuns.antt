@@ -1,19 +1,28 @@
 -- Any list of the C host's calls on bytes, refused ones included, each as its contract in crate byte_calls has it, and the conditions of the
 -- order of them.
 use mathlib.Core.Path.{_≡_}
+use mathlib.Core.Logic.{_↔_}
+use mathlib.Core.Bool.{Bool, true}
 use mathlib.Core.List.{List, [], _∷_}
 use Prim.Native.Nat.{ℕ, _+_, _*_, _<_, _≤_}
 use lib.IntN.{ℤ, pos, negsuc, negℤ}
 use lib.ListN.{length, getD, take, drop}
-use Rattle.base.specs.Lists.{tab}
+use Rattle.base.specs.Lists.{tab, Every}
+use Rattle.sat.specs.Literal.{Holds}
 use Rattle.division.specs.Plan.{Plan}
+use Rattle.division.specs.Division.{Valid, Describes}
+use Rattle.refusals.specs.Calls.{litGiven}
+use Rattle.calls.specs.Table.{unsetIn}
+use Rattle.calls.specs.Table as tables
+use Rattle.calls.specs.Marks.{sign}
+use Rattle.calls.specs.Claim.{Covers}
 use Rattle.graph_division.specs.declared.Outcome.{Outcome}
 use Rattle.graph_division.specs.declared.Answer.{Answer}
 use Rattle.graph_division.specs.declared.Answer.the-variants.{Conflict, Noted, Refused}
 use Rattle.graph_division.specs.Answers.{numberOf}
-use Rattle.graph_division.specs.Runs.{Query, reasonFor, lastLeft, Request, initialize, propagate, undo, ask, Kept, kept, reply, after}
+use Rattle.graph_division.specs.Runs.{Query, reasonFor, lastLeft, Request, initialize, propagate, undo, ask, tableOf, Kept, kept, reply, after}
 use Rattle.claims.specs.Whole.{literalsOf}
-use Rattle.claims.specs.Conditions.{Condition1, Condition2, Condition3}
+use Rattle.claims.specs.Conditions.{AllQuiet, standingThen, Condition1, Condition2, Condition3}
 use Rattle.byte_calls.specs.Codes.{codeOf, givenBy}
 use Rattle.byte_calls.specs.Layout.{stateIn, cursorIn, logIn, listIn, bufferIn}
 use Rattle.byte_calls.specs.Stores.{putList}
@@ -107,6 +116,36 @@ pub record ShortRefused (state log cursor : List ℕ) : Type 0 where
   pub on-ask : (q : Query) (b : List ℕ) → hostAsked state log cursor q b ≡ back (negsuc 6) b
   pub states : (y : Outcome) (state′ : List ℕ) → Leaves (tooShort state cursor) y state state′ → state′ ≡ state
 
+-- a literal's code in a table
+abbrev pub entryOf : List ℕ → ℕ → ℕ
+entryOf t l = tables.codeOf t l
+
+-- a number that is no refusal's
+abbrev pub IsAccepted : ℤ → Type 0
+IsAccepted r = (n : ℕ) → 0 < n → n < 100 → r ≡ negℤ (pos n) → ⊥
+
+-- Condition 3 of numbers and bytes: start is what the built bytes keep, d their plan
+pub record BytesCondition3 (start : Kept) (d : Plan) : Type 0 where
+  -- "no call answers a conflict", -100, "whose listed literals", which `zuntjev_calc_last` straight after it gives, "all hold in some valid
+  -- division"
+  pub conflicts : {qs : List Request} {k mid end : Kept} {q : Request} {list b rest buffer : List ℕ} {x y : Said} →
+      AllHostMade start qs k → HostMade k q list x mid → x .code ≡ negsuc 99 →
+      HostMade mid (ask lastLeft b rest) buffer y end → (n : ℕ) → y .code ≡ pos n →
+      (σ : ℕ → Bool) → Valid d σ → Every (Holds σ) (literalsAt (y .list) n) → ⊥
+  -- "no call hands on a literal", which was unset and whose entry becomes 3 or 4, "that fails in a valid division where its reason, fetched
+  -- before any later accepted call but a fetch, holds"
+  pub handed : {qs amid : List Request} {k mid late end : Kept} {q : Request} {list b rest buffer : List ℕ} {x y : Said} {lit : ℤ} →
+      AllHostMade start qs k → HostMade k q list x mid → unsetIn (tableOf q) (litGiven lit) ≡ true → entryOf (x .table) (litGiven lit) ≡ sign (litGiven lit) →
+      AllHostMade mid amid late → AllQuiet mid amid →
+      HostMade late (ask (reasonFor lit) b rest) buffer y end → (n : ℕ) → y .code ≡ pos n →
+      (σ : ℕ → Bool) → Valid d σ → Every (Holds σ) (literalsAt (y .list) n) → Holds σ (litGiven lit)
+  -- "an accepted notification with nothing pending, after which every variable has a standing literal, is answered consistent exactly when the
+  -- standing literals describe a valid division"
+  pub exact : {qs : List Request} {k end : Kept} {lit : ℤ} {t l rest list : List ℕ} {x : Said} →
+      let q = propagate lit (pos 0) t l rest in
+      AllHostMade start qs k → HostMade k q list x end → IsAccepted (x .code) → Covers d (standingThen d start qs q) →
+      ((n : ℕ) × (x .code ≡ pos n)) ↔ Describes d (standingThen d start qs q)
+
 -- the conditions of the order, of the host's calls: start is what the built bytes keep, d their plan, and the options are as given
 pub record HostConditions (sameSize extraWalls : ℤ) (start : Kept) (d : Plan) : Type 0 where
   -- after any list of calls, each answers, and leaves in its bytes, what the reply to its request after their requests does
@@ -125,3 +164,5 @@ pub record HostConditions (sameSize extraWalls : ℤ) (start : Kept) (d : Plan) 
   pub condition-2 : Condition2 start d
   -- "Both options off"
   pub condition-3 : sameSize ≡ pos 0 → extraWalls ≡ pos 0 → Condition3 start d
+  -- and so of numbers and bytes
+  pub of-bytes : sameSize ≡ pos 0 → extraWalls ≡ pos 0 → BytesCondition3 start d
