@@ -41,10 +41,10 @@ use Rattle.calls.proofs.Stands.{stands-from-calls, run-consistent, call-consist
 use Rattle.calls.proofs.Truths.{conflict-backed, fetched-walked, recorded-stood}
 use Rattle.graph_division.specs.declared.Answer.{Answer}
 use Rattle.graph_division.specs.declared.Answer.the-variants.{Consistent, Conflict, Noted, Undone, Reason, Refused}
-use Rattle.graph_division.specs.Answers.{numberOf}
+use Rattle.graph_division.specs.Answers.{numberOf, isConsistent}
 use Rattle.graph_division.specs.Runs.{Query, reasonFor, lastLeft, Request, initialize, propagate, undo, ask, tableOf, roomFor, queryOf, Kept, logFor, Reply, reply, keeping, after, callOf, callsOf}
 use Rattle.claims.specs.Whole.{literalsOf, writtenBy, writtenOf}
-use Rattle.claims.specs.Conditions.{accepted, isConsistent, counts, counted, HandsOn, Quiet, aQuery, turnedAway, AllQuiet, done, next, standingThen, Condition1, Condition2, Condition3}
+use Rattle.claims.specs.Conditions.{accepted, counts, counted, HandsOn, Quiet, aQuery, turnedAway, AllQuiet, done, next, standingThen, Condition1, Condition2, Condition3}
 use Rattle.graph_division.specs.Outcomes.{answerOf}
 use Rattle.simulation.proofs.Represents.{planIn}
 use Rattle.simulation.proofs.Running.{RepresentsKept, Replies}

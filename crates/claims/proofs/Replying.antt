@@ -16,9 +16,9 @@ use Rattle.calls.specs.Refusals.{Stops, AppliesTo, Applies}
 use Rattle.calls.proofs.Refusals.{refusals}
 use Rattle.graph_division.specs.declared.Answer.{Answer}
 use Rattle.graph_division.specs.declared.Answer.the-variants.{Consistent, Conflict, Noted, Undone, Reason, Refused}
-use Rattle.graph_division.specs.Answers.{numberOf}
+use Rattle.graph_division.specs.Answers.{numberOf, isConsistent}
 use Rattle.graph_division.specs.Runs.{Request, Kept, Reply, reply, keeping, after, callOf, callsOf}
-use Rattle.claims.specs.Conditions.{accepted, isConsistent}
+use Rattle.claims.specs.Conditions.{accepted}
 use Rattle.graph_division.specs.Outcomes.{answerFor, answerOf}
 use Rattle.simulation.proofs.Represents.{planIn}
 use Rattle.simulation.proofs.Running.{RepresentsKept, Replies, reply-is, Leads, after-leads}
@@ -59,7 +59,7 @@ refused-to (calls.refused k) n m h e = ap calls.refused e
 refused-to (calls.reason ls) n m h e = absurd (omega arith)
 
 consistent-to : (a : calls.Answer) (n : ℕ) → isConsistent (answerFor a n) ≡ true → a ≡ calls.consistent
-unfolding isConsistent answerFor
+unfolding answerFor
 consistent-to calls.consistent n e = refl
 consistent-to calls.conflicting n e = absurd (false≢true e)
 consistent-to calls.noted n e = absurd (false≢true e)
@@ -135,7 +135,7 @@ accepted-is d w c =
     (λ e. let (h, _) = applies-range (refusals d w c 0 .0 e .applies) in omega arith)
 
 pub consistent-is : (o : calls.Outcome) → (isConsistent (answerOf o) ≡ true) ↔ (o .answer ≡ calls.consistent)
-unfolding answerOf answerFor isConsistent
+unfolding answerOf answerFor
 consistent-is o = (consistent-to (o .answer) (length (o .handed)), λ e. ap (λ (a : calls.Answer). isConsistent (answerFor a (length (o .handed)))) e)
 
 -- ---- the plan stays D from call to call

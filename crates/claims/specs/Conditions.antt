@@ -26,7 +26,7 @@ use Rattle.calls.specs.Truths.{Walked, Recorded, Analyzes, Backed}
 use Rattle.calls.specs.Claim.{addUpTo, tail, Covers}
 use Rattle.graph_division.specs.declared.Answer.{Answer}
 use Rattle.graph_division.specs.declared.Answer.the-variants.{Consistent, Conflict, Noted, Undone, Reason, Refused}
-use Rattle.graph_division.specs.Answers.{numberOf}
+use Rattle.graph_division.specs.Answers.{numberOf, isConsistent}
 use Rattle.graph_division.specs.Calls.{refuse}
 use Rattle.graph_division.specs.Runs.{Query, reasonFor, lastLeft, Request, initialize, propagate, undo, ask, tableOf, listOf, tailOf, Kept, logFor, Reply, replied, reply, keeping, after, callOf, callsOf}
 use Rattle.claims.specs.Whole.{literalsOf, Whole}
@@ -34,14 +34,6 @@ use Rattle.claims.specs.Whole.{literalsOf, Whole}
 -- an answer whose number is 0 is accepted: no refusal has that number
 unfoldable pub accepted : Answer → Bool
 accepted a = eqb (numberOf a) 0
-
-unfoldable pub isConsistent : Answer → Bool
-isConsistent (Consistent handed) = true
-isConsistent Conflict = false
-isConsistent Noted = false
-isConsistent Undone = false
-isConsistent (Reason len) = false
-isConsistent (Refused number) = false
 
 -- Document 01, "Undo log": "For condition 3 the standing literals follow from the calls": "an accepted notification adds its literal, an
 -- accepted undo takes the newest away; an accepted initialise adds, in rising order, the plan's literals true in the table on entry, up to

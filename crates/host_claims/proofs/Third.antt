@@ -21,10 +21,10 @@ use Rattle.graph_division.specs.declared.GraphDivision.{GraphDivision}
 use Rattle.graph_division.specs.Calls.{Called, refuse, adding, accepting, handingOn, settledBy, settled, propagated}
 use Rattle.graph_division.specs.declared.Answer.{Answer}
 use Rattle.graph_division.specs.declared.Answer.the-variants.{Consistent, Conflict, Noted, Undone, Reason, Refused}
-use Rattle.graph_division.specs.Answers.{numberOf}
+use Rattle.graph_division.specs.Answers.{numberOf, isConsistent}
 use Rattle.graph_division.specs.Runs.{reasonFor, lastLeft, Request, propagate, ask, Kept, Reply, replied, repliedCalled, reply, keeping, after}
 use Rattle.claims.specs.Whole.{literalsOf}
-use Rattle.claims.specs.Conditions.{accepted, isConsistent, AllQuiet, Condition3}
+use Rattle.claims.specs.Conditions.{accepted, AllQuiet, Condition3}
 use Rattle.byte_calls.specs.Codes.{fitted, codeOf}
 use Rattle.host_claims.specs.HostRuns.{Said, HostMade, AllHostMade, none, next, HostAnswers, Tells, literalsAt, IsAccepted, BytesCondition3}
 use Rattle.host_claims.proofs.Signed.{down, down-negated}
@@ -62,13 +62,13 @@ abbrev Once : Called → Type 0
 Once y = positive (y .outcome .answer) ≡ true → isConsistent (y .outcome .answer) ≡ true
 
 settled-once : (s : GraphDivision) (c : Cursor) (l : ℕ) (j : Judged) (v : Judgement) (t list log : List ℕ) → Once (settledBy s c l j v t list log)
-unfolding settledBy handingOn accepting refuse positive isConsistent
+unfolding settledBy handingOn accepting refuse positive
 settled-once s c l j Fine t list log e = refl
 settled-once s c l j (Clash n) t list log e = absurd (false≢true e)
 settled-once s c l j (Stopped n) t list log e = absurd (false≢true e)
 
 propagated-once : (k : Kept) (lit pending : ℤ) (t list tail : List ℕ) → positive (reply k (propagate lit pending t list tail) .answer) ≡ true → isConsistent (reply k (propagate lit pending t list tail) .answer) ≡ true
-unfolding reply repliedCalled replied propagated settled adding refuse positive isConsistent
+unfolding reply repliedCalled replied propagated settled adding refuse positive
 propagated-once k lit pending t list tail =
     pick-ind Once _ _ _
     (λ _. pick-ind Once _ _ _ (λ _. settled-once (k .state) (k .cursor) _ _ _ t list _) (λ _ e. absurd (false≢true e)))
@@ -90,7 +90,7 @@ code-positive (Refused m) h e =
     absurd (omega arith)
 
 consistent-code : (a : Answer) → isConsistent a ≡ true → (n : ℕ) × (codeOf a ≡ pos n)
-unfolding codeOf isConsistent
+unfolding codeOf
 consistent-code (Consistent n) e = (fitted n, refl)
 consistent-code Conflict e = absurd (false≢true e)
 consistent-code Noted e = absurd (false≢true e)
