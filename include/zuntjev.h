@@ -32,9 +32,9 @@
  *   zuntjev_calc_last    7
  * 7 is tested in each call, and only of what that call is lent: the lengths; that the state's plan is one that a
  * build gives; that the log, the cursor and the noted words belong together (the log's literals, noted afresh from
- * the oldest on, give those words); that the whole table has no code over 4. NOT tested are the recorded reasons and
- * the list last left, but for a list's length: one that is longer than a reason buffer must hold is refused, so that
- * no fetch answers more literals than its buffer has entries.
+ * the oldest on, give those words); that the whole table has no code over 4. NOT tested are the recorded reasons,
+ * whether an initialise was consistent, and the list last left, but for its length: one that is longer than a reason
+ * buffer must hold is refused, so that no fetch answers more literals than its buffer has entries.
  *
  * MUST A NOTIFIED LITERAL BE SET IN THE TABLE? No call tests it, and what stands is read from the log, not from the
  * table. But set it, with code 3 or 4, before zuntjev_propagate: a proposal that the table says is false makes a
