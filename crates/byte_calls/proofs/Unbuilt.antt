@@ -1,16 +1,16 @@
 -- A state's bytes 24 to 27 hold the mark of a plan that was built: bytes without it, such as memory of zeros, are no plan.
-use mathlib.Core.Path.{_≡_, sym, ap, _∙_}
+use mathlib.Core.Path.{_≡_, sym, _∙_}
 use mathlib.Core.Logic.{inl}
 use mathlib.Core.List.{List}
 use Prim.Native.Nat.{ℕ, _+_, _*_, _<_}
 use native.Mathlib.Omega.{arith}
-use lib.ListN.{getD, replicate, length-replicate}
+use lib.ListN.{replicate, length-replicate}
 use Rattle.base.proofs.Filled.{filled-in, filled-out}
 use Rattle.plan.specs.Words.{markOf, builtMark}
 use Rattle.graph_division.specs.NoPlan.{NoPlan}
 use Rattle.graph_division.proofs.NoPlan.{unmarked-no-plan}
 use Rattle.byte_calls.specs.Bytes.{wordAt}
-use Rattle.byte_calls.specs.Layout.{window, sizesOf, litsOf, placesOf, indexOf, inUseOver, inUse, planIn, stateIn}
+use Rattle.byte_calls.specs.Layout.{window, sizesOf, litsOf, placesOf, indexOf, inUseOver, inUse, planIn}
 
 module _ (f : ℕ → ℕ) where
   -- a window past the mark leaves it
