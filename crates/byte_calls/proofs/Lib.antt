@@ -15,3 +15,4 @@ pub mod Building
 pub mod LastList
 pub mod Fitting
 pub mod ReadBack
+pub mod Unbuilt
