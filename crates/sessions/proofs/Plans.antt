@@ -30,7 +30,7 @@ cell-same from ws us v j h = tested (ltb v 64)
     ∙ sym (pick-yes _ _ t))
     (λ t. pick-no _ _ t ∙ sym (pick-no _ _ t))
 
-module _ (ws us : List ℕ) (ends : List (List ℕ)) (k : (i : ℕ) → i < 4360 → (i < 4) ⊎ (6 ≤ i) → word ws i ≡ word us i) where
+module _ (ws us : List ℕ) (ends : List (List ℕ)) (k : (i : ℕ) → i < 4360 → (i < 4) ⊎ (7 ≤ i) → word ws i ≡ word us i) where
   pub same-plan : planOf ws ends ≡ planOf us ends
   same-plan i = record {
     vertices = k 0 (omega arith) (inl (omega arith)) i;
