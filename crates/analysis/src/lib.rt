@@ -29,8 +29,8 @@ ghost use Rattle.analysis.specs.Placed.{placeOfLit, placeFor, edgePlaceO
 fn place_of_lit(plan: &Plan, lit: u32) -> u32
     ensures { λ r. ⌜ r ≡ placeOfLit (now (plan .entry)) lit ⌝ }
 {
-    let k = noting::note::place_in(plan, lit / 2) % 2147483648;
-    2 * (k as u32) + lit % 2
+    let k = noting::note::place_in(plan, sat::variable(lit)) % 2147483648;
+    2 * (k as u32) + sat::sign(lit)
 }
 
 fn is_place(plan: &Plan, p: u32, lit: u32) -> bool

@@ -229,7 +229,7 @@ fn bad_size_lit(vertices: &VertexNumbers, v: usize, j: usize) -> bool
     requires { ⌜ (v < 64) × (j < 32) ⌝ }
     ensures { λ r. ⌜ r ≡ not (inRange (pos 8191) (litAt (now (vertices .entry)) v j)) ⌝ }
 {
-    !base::in_range(size_lit(vertices, v, j), 8191)
+    !sat::is_literal(size_lit(vertices, v, j))
 }
 
 fn size_lit_outside_below(vertices: &VertexNumbers, v: usize, count: usize) -> bool
@@ -271,7 +271,7 @@ fn bad_edge_lit(edges: &EdgeNumbers, g: usize) -> bool
     requires { ⌜ g < 128 ⌝ }
     ensures { λ r. ⌜ r ≡ not (inRange (pos 8191) (edgeLitAt (now (edges .entry)) g)) ⌝ }
 {
-    !base::in_range(edge_lit(edges, g), 8191)
+    !sat::is_literal(edge_lit(edges, g))
 }
 
 fn edge_lit_outside(edges: &EdgeNumbers, m: usize) -> bool

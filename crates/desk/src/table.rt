@@ -12,7 +12,7 @@ ghost use Rattle.desk.specs.Obey.{marked};
 pub(crate) fn variable(lit: i32) -> usize
     ensures { λ r. ⌜ r ≡ litNumber lit / 2 ⌝ }
 {
-    (refusals::lit_number(lit) / 2) as usize
+    sat::variable_index(refusals::lit_number(lit) as u64)
 }
 
 pub(crate) fn entry(table: &[u8], v: usize) -> u8
@@ -55,7 +55,7 @@ pub(crate) fn store_unless(test: bool, table: &mut [u8], v: usize, code: u8)
 fn code_of(l: u16) -> u8
     ensures { λ r. ⌜ r ≡ pick (eqb (l % 2) 0) 3 4 ⌝ }
 {
-    if l % 2 == 0 {
+    if sat::is_positive(l as u64) {
         return 3;
     }
     4
@@ -65,7 +65,7 @@ fn code_of(l: u16) -> u8
 pub(crate) fn mark(table: &mut [u8], lit: i32)
     ensures { λ _. ⌜ now (table .exit) ≡ marked lit (now (table .entry)) ⌝ }
 {
-    if base::in_range(lit, 8191) {
+    if sat::is_literal(lit) {
         let v = variable(lit);
         if entry(table, v) == 0 {
             store(table, v, code_of(refusals::lit_number(lit)));

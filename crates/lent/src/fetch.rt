@@ -112,8 +112,8 @@ fn give(plan: &Plan, list: &[u32], listed: Listed, buffer: &mut [u32]) -> Answer
 pub fn place_of(plan: &Plan, lit: u16) -> usize
     ensures { λ r. ⌜ r ≡ placeOfLit (now (plan .entry)) lit ⌝ }
 {
-    let k = noting::note::place_in(plan, (lit / 2) as u32) % 2147483648;
-    2 * k + (lit % 2) as usize
+    let k = noting::note::place_in(plan, sat::variable(lit as u32)) % 2147483648;
+    2 * k + sat::sign(lit as u32) as usize
 }
 
 // A reason's list, made of the edges connected and disconnected now.

@@ -7,6 +7,7 @@ use edge_table::Edges;
 use judge::Judgement;
 use noting::Noted;
 use plan::Plan;
+use sat::Lit;
 use undo_log::Cursor;
 ghost use mathlib.Core.Path.{_≡_};
 ghost use Prim.Native.Nat.{_<_};
@@ -106,7 +107,8 @@ fn notify(
     ensures { λ r. ⌜ way r (now (noted .exit)) (now (table .exit)) (now (list .exit)) (now (words .exit)) (now (proposals .exit)) (now (left .exit)) ≡ notified (now (plan .entry)) edges (now (log .entry)) used p (way x (now (noted .entry)) (now (table .entry)) (now (list .entry)) (now (words .entry)) (now (proposals .entry)) (now (left .entry))) ⌝ }
 {
     let lit = lit_at(plan, p);
-    if noting::stands::variable_stands(log, used, lit / 2) {
+    let variable = Lit(lit).var();
+    if noting::stands::variable_stands(log, used, variable.0) {
         return Progress {
             judgement: Judgement::Stopped { refusal: 10 },
             ..x

@@ -397,7 +397,7 @@ pub fn note(plan: &Plan, noted: &mut Noted, log: &mut [u64], cursor: Cursor, lit
     ensures { λ c. ⌜ noting (now (noted .exit)) (now (log .exit)) c ≡ note (now (plan .entry)) lit (noting (now (noted .entry)) (now (log .entry)) cursor) ⌝ }
 {
     let c = push_level(log, cursor, lit);
-    let x = lit as u32 / 2;
+    let x = sat::variable(lit as u32);
     if known(plan, x) {
         let k = search(plan, x);
         return note_at(plan, noted, log, c, lit, k);

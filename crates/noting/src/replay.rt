@@ -155,7 +155,7 @@ fn opens(plan: &Plan, marks: &[u8; 2176], log: &[u64], at: usize, k: usize) -> b
         lit,
     };
     if word_at(log, at) == undo_log::word_of(r) {
-        if is_variable(plan, k, lit as u32 / 2) {
+        if is_variable(plan, k, sat::variable(lit as u32)) {
             if marked(marks, k) {
                 return false;
             }
@@ -181,7 +181,7 @@ fn replay_level(
     if p.ok {
         if at < used {
             let lit = record_at(log, at).lit;
-            let k = search(plan, lit as u32 / 2);
+            let k = search(plan, sat::variable(lit as u32));
             if opens(plan, marks, log, at, k) {
                 mark(marks, k);
                 let q = Place {

@@ -16,7 +16,7 @@ pub fn variable_stands(log: &[u64], used: usize, x: u16) -> bool
         left -= 1;
         let r = record_at(log, left);
         if r.kind == LEVEL_BOUNDARY {
-            if r.lit / 2 == x {
+            if sat::variable(r.lit as u32) == x as u32 {
                 return true;
             }
         }

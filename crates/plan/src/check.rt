@@ -151,10 +151,10 @@ fn occurrence_bad(plan: &Plan, k: usize, i: usize) -> bool
     let s = occurrence_at(plan, i);
     if used_slot(plan, s as usize) {
         let l = lit(plan, s as usize);
-        if l / 2 != variable_at(plan, k) {
+        if sat::variable(l) != variable_at(plan, k) {
             return true;
         }
-        if place(plan, s as usize) != 2 * (k as u32) + l % 2 {
+        if place(plan, s as usize) != 2 * (k as u32) + sat::sign(l) {
             return true;
         }
         if position(plan, s as usize) as usize != i {

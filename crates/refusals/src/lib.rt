@@ -12,6 +12,7 @@ use noting::stands::not_newest;
 use noting::stands::variable_stands;
 use plan::Plan;
 use plan::check::plan_ok;
+use sat::Lit;
 use undo_log::Cursor;
 ghost use mathlib.Core.Path.{_≡_};
 ghost use Prim.Native.Nat.{ℕ};
@@ -61,7 +62,7 @@ fn table_state_bad<'a>(
 pub fn lit_number(lit: i32) -> u16
     ensures { λ r. ⌜ r ≡ litNumber lit ⌝ }
 {
-    if base::in_range(lit, 8191) {
+    if sat::is_literal(lit) {
         return base::to_nat(lit) as u16;
     }
     0
@@ -70,9 +71,9 @@ pub fn lit_number(lit: i32) -> u16
 fn unknown_lit(plan: &Plan, lit: i32) -> bool
     ensures { λ r. ⌜ r ≡ unknownLit (now (plan .entry)) lit ⌝ }
 {
-    if base::in_range(lit, 8191) {
-        let x = lit_number(lit) / 2;
-        if known(plan, x as u32) {
+    if sat::is_literal(lit) {
+        let x = sat::variable(lit_number(lit) as u32);
+        if known(plan, x) {
             return false;
         }
         return true;
@@ -131,9 +132,9 @@ pub fn propagate_refusal<'a>(
     if unknown_lit(plan, lit) {
         return 9;
     }
-    let x = lit_number(lit) / 2;
+    let x = Lit(lit_number(lit)).var();
     let used = cursor.used;
-    if variable_stands(log, used, x) {
+    if variable_stands(log, used, x.0) {
         return 10;
     }
     0

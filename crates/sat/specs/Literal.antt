@@ -25,6 +25,12 @@ variable l = l / 2
 abbrev pub isNegated : ℕ → Bool
 isNegated l = eqb (l % 2) 1
 
+abbrev pub isPositive : ℕ → Bool
+isPositive l = eqb (l % 2) 0
+
+abbrev pub sign : ℕ → ℕ
+sign l = l % 2
+
 -- the other literal of its variable: 2v + 1 for 2v, 2v for 2v + 1
 unfoldable pub negate : ℕ → ℕ
 negate l = pick (eqb (l % 2) 0) (l + 1) (l - 1)

@@ -1,6 +1,8 @@
 // Variables and literals: `Var` and `Lit` of sat.rs. Variable v gives literal 2v, and 2v + 1 for its negation.
 ghost use mathlib.Core.Path.{_≡_};
-ghost use Rattle.sat.specs.Literal.{literal, variable, isNegated, negate, litOf, varOf};
+ghost use Rattle.sat.specs.Literal.{literal, variable, isNegated, isPositive, sign, negate, litOf, varOf};
+ghost use lib.IntN.{pos};
+ghost use Rattle.base.specs.Range.{inRange};
 
 pub struct Var(pub u16);
 
@@ -36,6 +38,39 @@ pub fn negation(lit: u32) -> u32
         return lit + 1;
     }
     lit - 1
+}
+
+pub fn variable(lit: u32) -> u32
+    ensures { λ r. ⌜ r ≡ variable lit ⌝ }
+{
+    lit / 2
+}
+
+// 0 for a variable, 1 for its negation.
+pub fn sign(lit: u32) -> u32
+    ensures { λ r. ⌜ r ≡ sign lit ⌝ }
+{
+    lit % 2
+}
+
+// Where a table with an entry for each variable has the literal's.
+pub fn variable_index(lit: u64) -> usize
+    ensures { λ r. ⌜ r ≡ variable lit ⌝ }
+{
+    (lit / 2) as usize
+}
+
+pub fn is_positive(lit: u64) -> bool
+    ensures { λ r. ⌜ r ≡ isPositive lit ⌝ }
+{
+    lit % 2 == 0
+}
+
+// Whether a number from outside is a literal.
+pub fn is_literal(n: i32) -> bool
+    ensures { λ r. ⌜ r ≡ inRange (pos 8191) n ⌝ }
+{
+    base::in_range(n, Lit::MAX as i32)
 }
 
 impl Var {
@@ -96,7 +131,7 @@ impl Lit {
     pub fn from_i32(n: i32) -> OptLit
         ensures { λ r. ⌜ r ≡ litOf n ⌝ }
     {
-        if base::in_range(n, 8191) {
+        if is_literal(n) {
             return OptLit::Some(Lit(base::to_nat(n) as u16));
         }
         OptLit::Nothing

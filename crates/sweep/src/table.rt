@@ -9,7 +9,7 @@ ghost use Rattle.calls.specs.Marks.{sign};
 fn code(table: &[u8], lit: u64) -> u8
     ensures { λ r. ⌜ r ≡ codeOf (now (table .entry)) lit ⌝ }
 {
-    let i = (lit / 2) as usize;
+    let i = sat::variable_index(lit);
     if i < table.len() {
         return table[i];
     }
@@ -28,7 +28,7 @@ fn coded(x: u8, y: u8, c: u8) -> bool
 pub fn is_true(table: &[u8], lit: u64) -> bool
     ensures { λ r. ⌜ r ≡ trueIn (now (table .entry)) lit ⌝ }
 {
-    if lit % 2 == 0 {
+    if sat::is_positive(lit) {
         return coded(1, 3, code(table, lit));
     }
     coded(2, 4, code(table, lit))
@@ -37,7 +37,7 @@ pub fn is_true(table: &[u8], lit: u64) -> bool
 pub(crate) fn is_false(table: &[u8], lit: u64) -> bool
     ensures { λ r. ⌜ r ≡ falseIn (now (table .entry)) lit ⌝ }
 {
-    if lit % 2 == 0 {
+    if sat::is_positive(lit) {
         return coded(2, 4, code(table, lit));
     }
     coded(1, 3, code(table, lit))
@@ -60,7 +60,7 @@ fn is_current(table: &[u8], lit: u64) -> bool
 fn sign(lit: u64) -> u8
     ensures { λ r. ⌜ r ≡ sign lit ⌝ }
 {
-    if lit % 2 == 0 {
+    if sat::is_positive(lit) {
         return 3;
     }
     4
@@ -70,7 +70,7 @@ fn sign(lit: u64) -> u8
 pub(crate) fn enter(table: &mut [u8], lit: u64)
     ensures { λ _. ⌜ now (table .exit) ≡ enter (now (table .entry)) lit ⌝ }
 {
-    let i = (lit / 2) as usize;
+    let i = sat::variable_index(lit);
     if i < table.len() {
         let x = sign(lit);
         table[i] = x;

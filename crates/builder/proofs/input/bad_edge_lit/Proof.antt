@@ -10,11 +10,11 @@ use Rattle.builder.proofs.input.bad_edge_lit.Tie as tie
 edge-lit-requires : tie.Need-edge-lit-requires
 edge-lit-requires c κs = search needs
 
-in-range-requires : tie.Need-in-range-requires
-in-range-requires c κs = search needs
+is-literal-requires : tie.Need-is-literal-requires
+is-literal-requires c κs = search needs
 
 returns : tie.Need-returns
-returns c = ap not (c .in-range .ensures ∙ ap (inRange (pos 8191)) (reads-back _ (c .before .edge-lit .ok) ∙ c .before .edge-lit .ensures))
+returns c = ap not (c .is-literal .ensures ∙ ap (inRange (pos 8191)) (reads-back _ (c .before .edge-lit .ok) ∙ c .before .edge-lit .ensures))
 
 pub bad-edge-lit-spec : {M : Type 1} → statement M
-bad-edge-lit-spec = tie.close (tie.spec edge-lit-requires in-range-requires returns)
+bad-edge-lit-spec = tie.close (tie.spec edge-lit-requires is-literal-requires returns)

@@ -10,11 +10,11 @@ use Rattle.builder.proofs.input.bad_size_lit.Tie as tie
 size-lit-requires : tie.Need-size-lit-requires
 size-lit-requires c κs = search needs
 
-in-range-requires : tie.Need-in-range-requires
-in-range-requires c κs = search needs
+is-literal-requires : tie.Need-is-literal-requires
+is-literal-requires c κs = search needs
 
 returns : tie.Need-returns
-returns c = ap not (c .in-range .ensures ∙ ap (inRange (pos 8191)) (reads-back _ (c .before .size-lit .ok) ∙ c .before .size-lit .ensures))
+returns c = ap not (c .is-literal .ensures ∙ ap (inRange (pos 8191)) (reads-back _ (c .before .size-lit .ok) ∙ c .before .size-lit .ensures))
 
 pub bad-size-lit-spec : {M : Type 1} → statement M
-bad-size-lit-spec = tie.close (tie.spec size-lit-requires in-range-requires returns)
+bad-size-lit-spec = tie.close (tie.spec size-lit-requires is-literal-requires returns)

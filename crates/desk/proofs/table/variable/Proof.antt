@@ -9,11 +9,16 @@ use Rattle.desk.proofs.table.variable.Tie as tie
 lit-number-requires : tie.Need-lit-number-requires
 lit-number-requires c κs = search needs
 
-cast-result : tie.Need-cast-result
-cast-result c = search needs
+cast-variable-index : tie.Need-cast-variable-index
+cast-variable-index c = search needs
+
+variable-index-requires : tie.Need-variable-index-requires
+variable-index-requires c κs = search needs
 
 returns : tie.Need-returns
-returns c = ap (λ (n : ℕ). n / 2) ((c .lit-number .ensures) ∙ ap litNumber (toZ-ofZ (c .before .fits .lit)))
+returns c =
+    c .variable-index .ensures
+    ∙ ap (λ (n : ℕ). n / 2) ((c .before .lit-number .ensures) ∙ ap litNumber (toZ-ofZ (c .before .before .fits .lit)))
 
 pub variable-spec : {M : Type 1} → statement M
-variable-spec = tie.close (tie.spec lit-number-requires cast-result returns)
+variable-spec = tie.close (tie.spec lit-number-requires cast-variable-index variable-index-requires returns)

@@ -2,18 +2,22 @@ use mathlib.Core.Path.{_≡_, refl, sym, ap, ap₂, _∙_}
 use native.Mathlib.Omega.{arith}
 use Prim.Native.Nat.{ℕ, _+_, _*_, _%_}
 use Rattle.analysis.specs.Placed.{placeOfLit}
+use Rattle.noting.specs.Note.{placeIn}
 use borrow.Author.Needs.{needs}
 use Rattle.lent.proofs.fetch.place_of.Statement.{statement}
 use Rattle.lent.proofs.fetch.place_of.Tie as tie
 
-cast-place-in : tie.Need-cast-place-in
-cast-place-in c = search needs
+variable-requires : tie.Need-variable-requires
+variable-requires c κs = search needs
 
 place-in-requires : tie.Need-place-in-requires
 place-in-requires c κs = search needs
 
 mul-result : tie.Need-mul-result
 mul-result c = search needs
+
+sign-requires : tie.Need-sign-requires
+sign-requires c κs = search needs
 
 cast-result : tie.Need-cast-result
 cast-result c = search needs
@@ -23,8 +27,11 @@ add-result c = search needs
 
 returns : tie.Need-returns
 unfolding placeOfLit
-returns c = ap (λ (k : ℕ). 2 * (k % 2147483648) + (c .before .args .lit) % 2) (c .place-in .ensures)
+returns c =
+    ap₂ (λ (k s : ℕ). 2 * (k % 2147483648) + s)
+    (c .before .place-in .ensures ∙ ap (placeIn (c .before .before .before .args .plan .now)) (c .before .before .variable .ensures))
+    (c .sign .ensures)
 
 pub place-of-spec : {M : Type 1} → statement M
 place-of-spec =
-    tie.close (tie.spec cast-place-in place-in-requires mul-result cast-result add-result returns)
+    tie.close (tie.spec variable-requires place-in-requires mul-result sign-requires cast-result add-result returns)

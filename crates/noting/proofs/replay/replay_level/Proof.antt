@@ -11,14 +11,17 @@ use Rattle.noting.proofs.replay.replay_level.Tie as tie
 record-at-requires : tie.Need-record-at-requires
 record-at-requires c κs = search needs
 
-cast-search : tie.Need-cast-search
-cast-search c = search needs
+cast-variable : tie.Need-cast-variable
+cast-variable c = search needs
+
+variable-requires : tie.Need-variable-requires
+variable-requires c κs = search needs
 
 search-requires : tie.Need-search-requires
 search-requires c κs = search needs
 
 opens-requires : tie.Need-opens-requires
-opens-requires c κs = c .before .search .ensures .0 ∙ ap (λ (r : Record). placeIn (c .before .before .before .before .before .before .args .plan .now) (r .lit / 2)) (c .before .before .record-at .ensures)
+opens-requires c κs = c .before .search .ensures .0 ∙ ap (placeIn (c .before .before .before .before .before .before .before .args .plan .now)) (c .before .before .variable .ensures) ∙ ap (λ (r : Record). placeIn (c .before .before .before .before .before .before .before .args .plan .now) (r .lit / 2)) (c .before .before .before .record-at .ensures)
 
 mark-requires : tie.Need-mark-requires
 mark-requires c κs = search needs
@@ -30,10 +33,10 @@ follow-at-requires : tie.Need-follow-at-requires
 follow-at-requires c κs = search needs
 
 returns : tie.Need-returns
-returns c = level-yes (c .before .before .before .before .before .before .before .before .before .before .before .before .args .plan .now) (c .before .before .before .before .before .before .before .before .before .before .before .before .args .log .now) (c .before .before .before .before .before .before .before .before .before .before .before .before .args .marks .now) (c .before .before .before .before .before .before .before .before .before .before .before .before .args .noted .now) (c .before .before .before .before .before .before .before .before .before .before .before .before .args .used) (c .before .before .before .before .before .before .before .before .before .before .before .before .args .p) (c .before .before .before .before .before .before .before .before .before .before .if1 .taken) (c .before .before .before .before .before .before .before .before .before .if2 .taken) (c .before .before .before .before .before .opens .result) (c .before .before .before .before .before .opens .ensures) (c .before .before .before .before .if3 .taken) (c .before .before .before .before .before .before .before .before .record-at .result .lit) (c .before .before .before .before .before .before .before .search .result) (ap (λ (r : Record). r .lit) (c .before .before .before .before .before .before .before .before .record-at .ensures)) (c .before .before .before .before .before .before .before .search .ensures .0) _ _ _ (c .before .before .mark .ensures) (c .follow-at .ensures)
+returns c = level-yes (c .before .before .before .before .before .before .before .before .before .before .before .before .before .args .plan .now) (c .before .before .before .before .before .before .before .before .before .before .before .before .before .args .log .now) (c .before .before .before .before .before .before .before .before .before .before .before .before .before .args .marks .now) (c .before .before .before .before .before .before .before .before .before .before .before .before .before .args .noted .now) (c .before .before .before .before .before .before .before .before .before .before .before .before .before .args .used) (c .before .before .before .before .before .before .before .before .before .before .before .before .before .args .p) (c .before .before .before .before .before .before .before .before .before .before .before .if1 .taken) (c .before .before .before .before .before .before .before .before .before .before .if2 .taken) (c .before .before .before .before .before .opens .result) (c .before .before .before .before .before .opens .ensures) (c .before .before .before .before .if3 .taken) (c .before .before .before .before .before .before .before .before .before .record-at .result .lit) (c .before .before .before .before .before .before .before .search .result) (ap (λ (r : Record). r .lit) (c .before .before .before .before .before .before .before .before .before .record-at .ensures)) (c .before .before .before .before .before .before .before .search .ensures .0 ∙ ap (placeIn (c .before .before .before .before .before .before .before .before .before .before .before .before .before .args .plan .now)) (c .before .before .before .before .before .before .before .before .variable .ensures)) _ _ _ (c .before .before .mark .ensures) (c .follow-at .ensures)
 
 returns-2 : tie.Need-returns-2
-returns-2 c = level-no (c .before .before .before .before .before .before .before .before .args .plan .now) (c .before .before .before .before .before .before .before .before .args .log .now) (c .before .before .before .before .before .before .before .before .args .marks .now) (c .before .before .before .before .before .before .before .before .args .noted .now) (c .before .before .before .before .before .before .before .before .args .used) (c .before .before .before .before .before .before .before .before .args .p) (c .before .before .before .before .before .before .if1 .taken) (c .before .before .before .before .before .if2 .taken) (c .before .opens .result) (c .before .opens .ensures) (c .if3 .left)
+returns-2 c = level-no (c .before .before .before .before .before .before .before .before .before .args .plan .now) (c .before .before .before .before .before .before .before .before .before .args .log .now) (c .before .before .before .before .before .before .before .before .before .args .marks .now) (c .before .before .before .before .before .before .before .before .before .args .noted .now) (c .before .before .before .before .before .before .before .before .before .args .used) (c .before .before .before .before .before .before .before .before .before .args .p) (c .before .before .before .before .before .before .before .if1 .taken) (c .before .before .before .before .before .before .if2 .taken) (c .before .opens .result) (c .before .opens .ensures) (c .if3 .left)
 
 returns-3 : tie.Need-returns-3
 returns-3 c = level-past ((c .before .before .before .args) .plan .now) ((c .before .before .before .args) .log .now) ((c .before .before .before .args) .marks .now) ((c .before .before .before .args) .noted .now) ((c .before .before .before .args) .used) ((c .before .before .before .args) .p) ((c .before .if1) .taken) ((c .if2) .left)
@@ -46,7 +49,8 @@ replay-level-spec =
     tie.close
     (tie.spec
     record-at-requires
-    cast-search
+    cast-variable
+    variable-requires
     search-requires
     opens-requires
     mark-requires

@@ -24,14 +24,20 @@ sub-left c = search needs
 record-at-requires : tie.Need-record-at-requires Inv-loop μ-loop
 record-at-requires c κs = search needs
 
+cast-variable : tie.Need-cast-variable Inv-loop μ-loop
+cast-variable c = search needs
+
+variable-requires : tie.Need-variable-requires Inv-loop μ-loop
+variable-requires c κs = search needs
+
 returns : tie.Need-returns Inv-loop μ-loop
-returns c = variable-found ((c .before .before .before .before .before .before .before .before .args) .log .now) ((c .before .before .before .before .before .before .loop) .left) (omega arith) ((c .before .before .before .before .record-at) .result) ((c .before .before .before .before .record-at) .ensures) ((c .before .before .before .before .before .before .before .before .args) .x) ((c .before .before .if1) .taken) ((c .if2) .taken) ∙ (c .before .before .before .before .before .before .loop) .inv .1
+returns c = variable-found ((c .before .before .before .before .before .before .before .before .before .args) .log .now) ((c .before .before .before .before .before .before .before .loop) .left) (omega arith) ((c .before .before .before .before .before .record-at) .result) ((c .before .before .before .before .before .record-at) .ensures) ((c .before .before .before .before .before .before .before .before .before .args) .x) ((c .before .before .before .if1) .taken) (sym ((c .before .variable) .ensures) ∙ (c .if2) .taken) ∙ (c .before .before .before .before .before .before .before .loop) .inv .1
 
 loop-less : tie.Need-loop-less Inv-loop μ-loop
 loop-less c = search needs
 
 loop-again : tie.Need-loop-again Inv-loop μ-loop
-loop-again c = (omega arith, variable-on ((c .before .before .before .before .before .before .before .before .args) .log .now) ((c .before .before .before .before .before .before .loop) .left) (omega arith) ((c .before .before .before .before .record-at) .result) ((c .before .before .before .before .record-at) .ensures) ((c .before .before .before .before .before .before .before .before .args) .x) ((c .before .before .if1) .taken) ((c .if2) .left) ∙ (c .before .before .before .before .before .before .loop) .inv .1)
+loop-again c = (omega arith, variable-on ((c .before .before .before .before .before .before .before .before .before .args) .log .now) ((c .before .before .before .before .before .before .before .loop) .left) (omega arith) ((c .before .before .before .before .before .record-at) .result) ((c .before .before .before .before .before .record-at) .ensures) ((c .before .before .before .before .before .before .before .before .before .args) .x) ((c .before .before .before .if1) .taken) (λ (e : (c .before .before .before .before .before .record-at) .result .lit / 2 ≡ (c .before .before .before .before .before .before .before .before .before .args) .x). (c .if2) .left ((c .before .variable) .ensures ∙ e)) ∙ (c .before .before .before .before .before .before .before .loop) .inv .1)
 
 loop-less-2 : tie.Need-loop-less-2 Inv-loop μ-loop
 loop-less-2 c = search needs
@@ -51,6 +57,8 @@ variable-stands-spec =
     loop-holds
     sub-left
     record-at-requires
+    cast-variable
+    variable-requires
     returns
     loop-less
     loop-again

@@ -13,15 +13,15 @@ use Rattle.sat.specs.Literal.{litOf}
 use Rattle.sat.proofs.Lit.from_i32.Statement.{statement}
 use Rattle.sat.proofs.Lit.from_i32.Tie as tie
 
-in-range-requires : tie.Need-in-range-requires
-in-range-requires c κs = search needs
+is-literal-requires : tie.Need-is-literal-requires
+is-literal-requires c κs = search needs
 
 to-nat-requires : tie.Need-to-nat-requires
 to-nat-requires c κs = search needs
 
 -- what the two callees answered, of the number itself
-tested : (c : tie.After-in-range) → c .in-range .result ≡ inRange (pos 8191) (c .before .args .n)
-tested c = c .in-range .ensures ∙ ap (inRange (pos 8191)) (toZ-ofZ (c .before .fits .n))
+tested : (c : tie.After-is-literal) → c .is-literal .result ≡ inRange (pos 8191) (c .before .args .n)
+tested c = c .is-literal .ensures ∙ ap (inRange (pos 8191)) (toZ-ofZ (c .before .fits .n))
 
 number : (c : tie.After-to-nat) → c .to-nat .result ≡ toNat (c .before .before .before .args .n)
 number c = c .to-nat .ensures ∙ ap toNat (toZ-ofZ (c .before .before .before .fits .n))
@@ -41,4 +41,4 @@ unfolding litOf
 returns-2 c = sym (pick-no _ _ (sym (tested (c .before)) ∙ c .if1 .left))
 
 pub from-i32-spec : {M : Type 1} → statement M
-from-i32-spec = tie.close (tie.spec in-range-requires to-nat-requires cast-t4 returns returns-2)
+from-i32-spec = tie.close (tie.spec is-literal-requires to-nat-requires cast-t4 returns returns-2)

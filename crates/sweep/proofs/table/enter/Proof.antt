@@ -9,6 +9,9 @@ use borrow.Author.Needs.{needs}
 use Rattle.sweep.proofs.table.enter.Statement.{statement}
 use Rattle.sweep.proofs.table.enter.Tie as tie
 
+variable-index-requires : tie.Need-variable-index-requires
+variable-index-requires c κs = search needs
+
 sign-requires : tie.Need-sign-requires
 sign-requires c κs = search needs
 
@@ -20,11 +23,11 @@ same-length c = search needs
 
 returns : tie.Need-returns
 unfolding enter sign
-returns c = ap (λ (x : ℕ). set (c .before .before .before .args .table .now) ((c .before .before .before .args .lit) / 2) x) (c .sign .ensures)
+returns c = ap₂ (λ (i x : ℕ). set (c .before .before .before .before .args .table .now) i x) (c .before .before .variable-index .ensures) (c .sign .ensures)
 
 returns-2 : tie.Need-returns-2
-unfolding enter
-returns-2 c = sym (set-out _ _ _ (c .if1 .left))
+unfolding enter sign
+returns-2 c = sym (set-out (c .before .before .before .args .table .now) ((c .before .before .before .args .lit) / 2) (sign (c .before .before .before .args .lit)) (omega arith))
 
 pub enter-spec : {M : Type 1} → statement M
-enter-spec = tie.close (tie.spec sign-requires slice-write-table same-length returns returns-2)
+enter-spec = tie.close (tie.spec variable-index-requires sign-requires slice-write-table same-length returns returns-2)
