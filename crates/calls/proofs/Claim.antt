@@ -16,7 +16,7 @@ use Rattle.division.specs.Division.{Valid, Describes}
 use Rattle.division.specs.Reasons.{Reason}
 use Rattle.division.specs.Noting.{In, Consistent, noteAll}
 use Rattle.division.specs.Runs.{fetched, reasonOf}
-use Rattle.division.proofs.Proposed.{Full}
+use Rattle.division.specs.Proposed.{Full}
 use Rattle.division.proofs.Whole.{exactly, nothing-left}
 use Rattle.calls.specs.Table.{has, knows}
 use Rattle.calls.specs.Look.{Looked, gone}

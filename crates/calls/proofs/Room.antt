@@ -12,12 +12,12 @@ use Rattle.division.specs.Plan.{Plan, Proper, left, right}
 use Rattle.division.specs.Regions.{within}
 use Rattle.division.specs.State.{State}
 use Rattle.division.specs.Reasons.{adjacentSameSizeRegions, Reason, edgeInSameGroup, edgeBetweenDifferentGroups, tooLargeIfRegionsAreMerged, regionAlreadyLarge, regionAlreadySmall, inconsistentBoundsIfRegionsAreMerged, boundPropagationWithinRegion, listOf, connectedPath}
-use Rattle.division.specs.Analysis.{Proposal}
+use Rattle.division.specs.Analysis.{Proposal, Each, nothing, also}
 use Rattle.division.specs.Noting.{noteAll, Consistent}
 use Rattle.division.specs.Runs.{analysis, Justifies, reasonOf}
-use Rattle.division.proofs.Noted.{Bounded, low-one, high-one}
-use Rattle.division.proofs.Explained.{Explains, byInGroup, byBetween, byTooLarge, byLarge, bySmall, byMismatch, bySpreadLow, bySpreadHigh, bySameSize}
-use Rattle.division.proofs.Proposed.{Each, nothing, also}
+use Rattle.division.specs.Noted.{Bounded}
+use Rattle.division.proofs.Noted.{low-one, high-one}
+use Rattle.division.specs.Explained.{Explains, byInGroup, byBetween, byTooLarge, byLarge, bySmall, byMismatch, bySpreadLow, bySpreadHigh, bySameSize}
 use Rattle.division.proofs.Walk.{within-joined}
 use Rattle.division.proofs.Fits.{path-short, decided-short, potential-short, decided-few}
 use Rattle.division.proofs.Noting.{noted-all}

@@ -18,7 +18,7 @@ use Rattle.sat.specs.Literal.{Holds}
 use Rattle.division.specs.Plan.{Plan, Proper, Plain}
 use Rattle.division.specs.Division.{Valid, Describes}
 use Rattle.division.specs.Noting.{noteAll, In}
-use Rattle.division.proofs.Explained.{Explains}
+use Rattle.division.specs.Explained.{Explains}
 use Rattle.division.proofs.Whole.{each-found, reason-there}
 use Rattle.noting.specs.Buffers.{listShort}
 use Rattle.refusals.specs.Calls.{litGiven}

@@ -12,10 +12,9 @@ use Rattle.sat.specs.Literal.{Holds}
 use Rattle.division.specs.Plan.{Plan}
 use Rattle.division.specs.Division.{Valid, Describes}
 use Rattle.division.specs.Reasons as abstract
-use Rattle.division.specs.Analysis.{Proposal}
+use Rattle.division.specs.Analysis.{Proposal, Each}
 use Rattle.division.specs.Noting.{In}
 use Rattle.division.specs.Runs.{reasonOf}
-use Rattle.division.proofs.Proposed.{Each}
 use Rattle.refusals.specs.Calls.{litGiven}
 use Rattle.calls.specs.Table.{codeOf, unsetIn, entered}
 use Rattle.calls.specs.Marks.{sign}

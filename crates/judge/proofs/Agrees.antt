@@ -9,7 +9,7 @@ use Rattle.division.specs.Analysis.{Out, analyzed}
 use Rattle.division.specs.Noting.{noteAll, Consistent}
 use Rattle.division.specs.Runs.{analysis}
 use Rattle.division.specs.Views.{viewOf}
-use Rattle.division.proofs.Agree.{SameState}
+use Rattle.division.specs.Agree.{SameState}
 use Rattle.division.proofs.Alike.{analysis-same}
 use Rattle.plan.specs.Plan.{planOf}
 use Rattle.plan.specs.Proper.{ProperWords}

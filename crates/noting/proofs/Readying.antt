@@ -18,7 +18,7 @@ use Rattle.plan.specs.Plan.{planOf}
 use Rattle.plan.specs.Check.{usedSlot}
 use Rattle.plan.specs.Proper.{ProperWords}
 use Rattle.division.specs.Noting.{noteAll, In}
-use Rattle.division.proofs.Noted.{Noted}
+use Rattle.division.specs.Noted.{Noted}
 use Rattle.noting.specs.Words.{edgeStateOf}
 use Rattle.noting.specs.Note.{noting, known, isOf}
 use Rattle.noting.specs.Undo.{recordsOf}

@@ -24,9 +24,9 @@ use Rattle.plan.specs.Proper.{ProperWords}
 use Rattle.division.specs.Plan.{Plan}
 use Rattle.division.specs.State.{State}
 use Rattle.division.specs.Noting.{noteOne, noteAll, In}
-use Rattle.division.proofs.Agree.{SameState}
+use Rattle.division.specs.Agree.{SameState}
 use Rattle.division.proofs.Alike.{note-same}
-use Rattle.division.proofs.Noted.{Noted}
+use Rattle.division.specs.Noted.{Noted}
 use Rattle.division.proofs.Noting.{noted-all}
 use Rattle.noting.specs.Words.{litsOf, stateOf, fresh}
 use Rattle.noting.specs.Note.{Noting, noting, boundary, levelPushed, placeIn, known, noteAt, note}

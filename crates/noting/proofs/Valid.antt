@@ -7,7 +7,7 @@ use lib.ListN.{length}
 use Rattle.plan.specs.Plan.{planOf}
 use Rattle.plan.specs.Proper.{ProperWords}
 use Rattle.division.specs.Noting.{noteAll}
-use Rattle.division.proofs.Agree.{SameState}
+use Rattle.division.specs.Agree.{SameState}
 use Rattle.noting.specs.Words.{stateOf, fresh}
 use Rattle.noting.specs.Note.{Noting, noting, known, note}
 use Rattle.noting.specs.Undo.{recordsOf, undo}

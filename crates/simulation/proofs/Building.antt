@@ -11,7 +11,7 @@ use Rattle.base.specs.Lists.{tab}
 use Rattle.base.proofs.Loop.{pick-yes}
 use Rattle.base.proofs.Filled.{filled-length}
 use Rattle.division.specs.Runs.{reasonOf}
-use Rattle.division.proofs.Proposed.{nothing}
+use Rattle.division.specs.Analysis.{nothing}
 use Rattle.noting.specs.Buffers.{logShort}
 use Rattle.noting.proofs.Valid.{fresh-valid}
 use Rattle.noting.proofs.Appending.{cursorAt}

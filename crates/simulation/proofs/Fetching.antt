@@ -16,7 +16,7 @@ use Rattle.undo_log.specs.declared.Cursor.{Cursor}
 use Rattle.division.specs.Reasons as abstract
 use Rattle.division.specs.Noting.{noteAll}
 use Rattle.division.specs.Runs as runs
-use Rattle.division.proofs.Agree.{SameState}
+use Rattle.division.specs.Agree.{SameState}
 use Rattle.division.proofs.Alike.{list-same}
 use Rattle.division.proofs.Whole.{each-found}
 use Rattle.plan.specs.Words.{word, verticesOf, edgesOf}

@@ -8,11 +8,10 @@ use lib.ListN.{length, replicate, length-replicate}
 use lib.Seq.{sets, length-sets}
 use Rattle.base.specs.Lists.{tab}
 use Rattle.undo_log.specs.declared.Cursor.{Cursor}
-use Rattle.division.specs.Analysis.{Proposal}
+use Rattle.division.specs.Analysis.{Proposal, Each}
 use Rattle.division.specs.Noting.{noteAll, Consistent}
 use Rattle.division.specs.Runs as runs
 use Rattle.division.specs.Runs.{analysis}
-use Rattle.division.proofs.Proposed.{Each}
 use Rattle.plan.specs.Words.{word, verticesOf, edgesOf, variablesOf, uniqueLitAt}
 use Rattle.noting.specs.Note.{Noting}
 use Rattle.noting.proofs.Valid.{Valid, standingOf}

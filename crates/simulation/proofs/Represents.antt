@@ -8,7 +8,7 @@ use Rattle.base.specs.Lists.{tab}
 use Rattle.undo_log.specs.declared.Cursor.{Cursor}
 use Rattle.division.specs.Plan.{Plan}
 use Rattle.division.specs.Runs.{reasonOf}
-use Rattle.division.proofs.Proposed.{Each}
+use Rattle.division.specs.Analysis.{Each}
 use Rattle.plan.specs.Words.{word, verticesOf, edgesOf, variablesOf, uniqueLitAt}
 use Rattle.plan.specs.Plan.{planOf}
 use Rattle.plan.specs.Proper.{ProperWords}
