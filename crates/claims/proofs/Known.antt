@@ -25,9 +25,9 @@ use Rattle.division.specs.Proposed.{Proposes, ruleInGroup, ruleBetween, ruleToo
 use Rattle.division.proofs.Whole.{each-found, reason-there, reasons, conflicts}
 use Rattle.calls.specs.Table.{knows, trueIn, entered}
 use Rattle.calls.specs.Look.{Looked, looked, listFor, falseList, stop, clashes, offered}
-use Rattle.calls.specs.Calls.{World, built, Query, reasonFor, lastLeft, Call, ask, Answer, consistent, conflicting, noted, undone, refused, reason, Outcome, refuse, taken, adding, noting, settledBy, answerTo, tell, onAsk, Going, joinBy, lastBy, finishBy, entry, call, after, run}
+use Rattle.calls.specs.Calls.{World, built, Query, reasonFor, lastLeft, Call, ask, Answer, consistent, conflicting, noted, undone, refused, reason, Outcome, refuse, taken, adding, noting, settledBy, answerTo, tell, onAsk, Going, joinBy, lastBy, finishBy, entry, call, after, run, answerList}
 use Rattle.calls.specs.Truths.{recordedIn}
-use Rattle.calls.proofs.Claim.{listIn, last-given}
+use Rattle.calls.proofs.Claim.{last-given}
 use Rattle.calls.proofs.Order.{swept-every}
 use Rattle.calls.proofs.Fetchable.{each-append, each-map, good, run-explained, is-known}
 use Rattle.calls.proofs.Looks.{first-in, offer-in, halted, saw-records}

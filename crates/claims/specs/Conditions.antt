@@ -17,7 +17,7 @@ use Rattle.division.specs.Noting.{In}
 use Rattle.division.specs.Runs.{reasonOf}
 use Rattle.refusals.specs.Calls.{litGiven}
 use Rattle.calls.specs.Table.{codeOf, unsetIn, entered}
-use Rattle.calls.specs.Marks.{sign}
+use Rattle.calls.specs.Marks.{currentCode}
 use Rattle.calls.specs.Calls as calls
 use Rattle.calls.specs.Calls.{World}
 use Rattle.calls.specs.Refusals.{roomOf, Applies, First}
@@ -51,7 +51,7 @@ counted d k (q ∷ qs) ls = counted d (keeping (reply k q)) qs (pick (accepted (
 -- Document 01, "Value table": "A handed-on literal is one that was unset; its entry becomes 3 or 4."
 pub record HandsOn (k : Kept) (q : Request) (l : ℕ) : Type 0 where
   pub unset : unsetIn (tableOf q) l ≡ true
-  pub set : codeOf (reply k q .table) l ≡ sign l
+  pub set : codeOf (reply k q .table) l ≡ currentCode l
 
 -- a refused call or a query, as a fetch is
 pub data Quiet (k : Kept) : Request → Type 0 where

@@ -14,7 +14,7 @@ use Rattle.division.specs.Division.{Valid, Describes}
 use Rattle.refusals.specs.Calls.{litGiven}
 use Rattle.calls.specs.Table.{unsetIn}
 use Rattle.calls.specs.Table as tables
-use Rattle.calls.specs.Marks.{sign}
+use Rattle.calls.specs.Marks.{currentCode}
 use Rattle.calls.specs.Claim.{Covers}
 use Rattle.graph_division.specs.declared.Outcome.{Outcome}
 use Rattle.graph_division.specs.declared.Answer.{Answer}
@@ -135,7 +135,7 @@ pub record BytesCondition3 (start : Kept) (d : Plan) : Type 0 where
   -- "no call hands on a literal", which was unset and whose entry becomes 3 or 4, "that fails in a valid division where its reason, fetched
   -- before any later accepted call but a fetch, holds"
   pub handed : {qs amid : List Request} {k mid late end : Kept} {q : Request} {list b rest buffer : List ℕ} {x y : Said} {lit : ℤ} →
-      AllHostMade start qs k → HostMade k q list x mid → unsetIn (tableOf q) (litGiven lit) ≡ true → entryOf (x .table) (litGiven lit) ≡ sign (litGiven lit) →
+      AllHostMade start qs k → HostMade k q list x mid → unsetIn (tableOf q) (litGiven lit) ≡ true → entryOf (x .table) (litGiven lit) ≡ currentCode (litGiven lit) →
       AllHostMade mid amid late → AllQuiet mid amid →
       HostMade late (ask (reasonFor lit) b rest) buffer y end → (n : ℕ) → y .code ≡ pos n →
       (σ : ℕ → Bool) → Valid d σ → Every (Holds σ) (literalsAt (y .list) n) → Holds σ (litGiven lit)

@@ -41,8 +41,7 @@ use Rattle.judge.proofs.False.{within-names}
 use Rattle.judge.proofs.Conflicts.{given-whole, list-taken}
 use Rattle.calls.specs.Look.{gone}
 use Rattle.calls.specs.Calls as calls
-use Rattle.calls.specs.Calls.{World}
-use Rattle.calls.proofs.Claim.{listIn}
+use Rattle.calls.specs.Calls.{World, answerList}
 use Rattle.calls.proofs.Alike.{gone-same}
 use Rattle.refusals.specs.Refusals.{litNumber, literalRefusal, fetchRefusal}
 use Rattle.refusals.specs.Calls.{litGiven, fetchRoom, refusedOr}
@@ -61,8 +60,8 @@ use Rattle.simulation.proofs.Rooms.{fetch-room}
 pub record SimulatesFetched (s : GraphDivision) (log : List ℕ) (c : Cursor) (before : List ℕ) (x : Fetched) (o : calls.Outcome) : Type 0 where
   pub answer : x .answer ≡ answerOf o
   -- the list stands whole from the buffer's start on, all else of it stays
-  pub buffer : x .buffer ≡ sets before 0 (listIn (o .answer))
-  pub whole : take (length (listIn (o .answer))) (x .buffer) ≡ listIn (o .answer)
+  pub buffer : x .buffer ≡ sets before 0 (answerList (o .answer))
+  pub whole : take (length (answerList (o .answer))) (x .buffer) ≡ answerList (o .answer)
   pub represents : Represents s log c (o .world)
 
 tab-length : (f : ℕ → ℕ) (n : ℕ) → length (tab f n) ≡ n
@@ -106,11 +105,11 @@ module _ (s : GraphDivision) (log : List ℕ) (c : Cursor) (w : World) (r : Repr
   fetched-by {z = z} {o = o} i j h = subst (λ (y : Fetched). SimulatesFetched s log c b y o) (sym i) (subst (SimulatesFetched s log c b z) (sym j) h)
 
   refused : (n : ℕ) → SimulatesFetched s log c b (fetched (answer.Refused n) b) (calls.refuse n w [])
-  unfolding calls.refuse answerOf answerFor listIn
+  unfolding calls.refuse answerOf answerFor answerList
   refused n = record { answer = refl; buffer = refl; whole = refl; represents = r }
 
   gives : (m : List ℕ) → length m ≤ length b → SimulatesFetched s log c b (fetched (answer.Reason (length m)) (sets b 0 m)) (calls.tell w (calls.reason m))
-  unfolding calls.tell answerOf answerFor listIn
+  unfolding calls.tell answerOf answerFor answerList
   gives m h = record { answer = refl; buffer = refl; whole = list-taken m b h; represents = r }
 
   buffer-long : number ≡ 0 → edgesOf ws + 2 * verticesOf ws + 4 ≤ length b

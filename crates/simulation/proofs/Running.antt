@@ -28,8 +28,7 @@ use Rattle.noting.proofs.Replaying.{log-fits}
 use Rattle.noting.proofs.Preserved.{standing-other, passes-other}
 use Rattle.calls.specs.Table.{badTable}
 use Rattle.calls.specs.Calls as calls
-use Rattle.calls.specs.Calls.{World}
-use Rattle.calls.proofs.Claim.{listIn}
+use Rattle.calls.specs.Calls.{World, answerList}
 use Rattle.calls.proofs.Marks.{call-marked}
 use Rattle.refusals.specs.Refusals.{stateBad, tableStateBad, initializeRefusal, propagateRefusal, undoRefusal, fetchRefusal}
 use Rattle.refusals.specs.Calls.{litGiven}
@@ -115,7 +114,7 @@ unfoldable pub valuesFor : Request → calls.Outcome → List ℕ
 valuesFor (initialize t list tail) o = o .handed
 valuesFor (propagate lit pending t list tail) o = o .handed
 valuesFor (undo lit tail) o = []
-valuesFor (ask q b tail) o = listIn (o .answer)
+valuesFor (ask q b tail) o = answerList (o .answer)
 
 -- reply y to a request is that of the definition's call, with outcome o
 pub record Replies (k : Kept) (q : Request) (y : Reply) (o : calls.Outcome) : Type 0 where
@@ -206,7 +205,7 @@ module _ (k : Kept) (w : World) (r : RepresentsKept k w) where
     asked-short lastLeft b = fetch-short b _
 
     short-ask : (q : Query) (b : List ℕ) → Replies k (ask q b tail) (reply k (ask q b tail)) (calls.call d (callOf k (ask q b tail)) w)
-    unfolding reply callOf calls.call repliedFetched tableOf listOf valuesFor listIn calls.onAsk calls.tell calls.refuse replied refuse
+    unfolding reply callOf calls.call repliedFetched tableOf listOf valuesFor answerList calls.onAsk calls.tell calls.refuse replied refuse
     short-ask q b =
         turned-away (ask q b tail) refl _ (ap (repliedFetched k (logFor k tail)) (asked-short q b)) _
         (ap (calls.tell w) (pick-yes _ _ (ap not (no-room (bufferShort q (k .state .plan) (length b))))))
