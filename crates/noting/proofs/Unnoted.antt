@@ -18,7 +18,7 @@ use Rattle.plan.specs.Proper.{ProperWords}
 use Rattle.division.specs.Noting.{unnoted}
 use Rattle.division.specs.Agree.{SameState}
 use Rattle.noting.specs.Words.{boundAt, litsOf, stateOf, capped, firstSize, lastSize, fresh}
-use Rattle.noting.proofs.Effects.{BoundsFit}
+use Rattle.noting.specs.Ready.{BoundsFit}
 
 capped-is : (n m : ℕ) → n ≤ m → capped n m ≡ n
 unfolding capped

@@ -14,7 +14,7 @@ use Rattle.division.specs.Runs.{reasonOf}
 use Rattle.division.specs.Analysis.{nothing}
 use Rattle.noting.specs.Buffers.{logShort}
 use Rattle.noting.proofs.Valid.{fresh-valid}
-use Rattle.noting.proofs.Appending.{cursorAt}
+use Rattle.noting.specs.Note.{cursorAt}
 use Rattle.reasons.specs.declared.reason.Reason.the-variants.{NotPropagated}
 use Rattle.reasons.specs.Reason.{meaning}
 use Rattle.recorded.specs.declared.Recorded.{Recorded}

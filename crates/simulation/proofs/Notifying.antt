@@ -14,7 +14,8 @@ use Rattle.division.specs.Runs as runs
 use Rattle.division.specs.Runs.{analysis}
 use Rattle.plan.specs.Words.{word, verticesOf, edgesOf, variablesOf, uniqueLitAt}
 use Rattle.noting.specs.Note.{Noting}
-use Rattle.noting.proofs.Valid.{Valid, standingOf}
+use Rattle.noting.specs.Standing.{standingOf}
+use Rattle.noting.specs.Good.{GoodLog}
 use Rattle.reasons.specs.Reason.{meaning}
 use Rattle.recorded.specs.declared.Reasons.{Reasons}
 use Rattle.recorded.specs.Recorded.{reasonAt, recorded}
@@ -75,7 +76,7 @@ pub record Analyzed (s : GraphDivision) (w : World) (after : Noting) (ls t propo
       handedOn (s .plan) (x .proposals) (handing t list at) ≡ handing (o .table) (sets list at (o .handed)) (at + length (o .handed))
 
 -- after: what is noted then, and ls stands; any buffers of the lengths that refusal 7 asks for
-module _ (s : GraphDivision) (log : List ℕ) (c : Cursor) (w : World) (r : Represents s log c w) (after : Noting) (ls : List ℕ) (v : Valid (s .plan) after) (e : ls ≡ standingOf after)
+module _ (s : GraphDivision) (log : List ℕ) (c : Cursor) (w : World) (r : Represents s log c w) (after : Noting) (ls : List ℕ) (v : GoodLog (s .plan) after) (e : ls ≡ standingOf after)
     (t proposals left : List ℕ) (room : 4 * variablesOf (s .plan) ≤ length proposals) (long : length left ≡ 260) where
   abbrev ws : List ℕ
   ws = s .plan

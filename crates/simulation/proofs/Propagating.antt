@@ -16,7 +16,9 @@ use Rattle.undo_log.specs.declared.Cursor.{Cursor}
 use Rattle.plan.specs.Words.{variablesOf, variableAt}
 use Rattle.noting.specs.Note.{Noting, noting}
 use Rattle.noting.specs.Buffers.{listShort}
-use Rattle.noting.proofs.Valid.{Valid, standingOf, note-valid}
+use Rattle.noting.specs.Standing.{standingOf}
+use Rattle.noting.specs.Good.{GoodLog}
+use Rattle.noting.proofs.Valid.{note-valid}
 use Rattle.sweep.specs.Sweep.{Handed, handing}
 use Rattle.judge.specs.declared.Judgement.{Judgement}
 use Rattle.judge.specs.Judge.{Judged, judgeWords}
@@ -63,7 +65,7 @@ module _ (s : GraphDivision) (log : List ℕ) (c : Cursor) (w : World) (r : Repr
     abbrev after : Noting
     after = notedIn s c l log
 
-    noted-valid : Valid ws after × (ls ≡ standingOf after)
+    noted-valid : GoodLog ws after × (ls ≡ standingOf after)
     unfolding notedIn
     noted-valid =
         let (g, k, h) = propagate-accepted ws ends (s .noted) log c (r .valid .words) t (length list) lit e in

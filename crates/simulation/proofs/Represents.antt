@@ -13,7 +13,8 @@ use Rattle.plan.specs.Words.{word, verticesOf, edgesOf, variablesOf, uniqueLitA
 use Rattle.plan.specs.Plan.{planOf}
 use Rattle.plan.specs.Proper.{ProperWords}
 use Rattle.noting.specs.Note.{Noting, noting}
-use Rattle.noting.proofs.Valid.{Valid, standingOf}
+use Rattle.noting.specs.Standing.{standingOf}
+use Rattle.noting.specs.Good.{GoodLog}
 use Rattle.reasons.specs.Reason.{meaning}
 use Rattle.recorded.specs.Recorded.{reasonAt}
 use Rattle.lists.specs.Within.{Within}
@@ -33,7 +34,7 @@ pub record Represents (s : GraphDivision) (log : List ℕ) (c : Cursor) (w : Wor
   pub words : 4360 ≤ length (s .plan)
   pub places : length (s .reasons .at) ≡ 4352
   -- edge states and bounds are what noting the log's literals gives, and these stand
-  pub valid : Valid (s .plan) (noting (s .noted) log c)
+  pub valid : GoodLog (s .plan) (noting (s .noted) log c)
   pub standing : w .standing ≡ standingOf (noting (s .noted) log c)
   -- the reason at each literal's place is the newest recorded
   pub reasons : (p : ℕ) → p < 2 * variablesOf (s .plan) → meaning (reasonAt (s .reasons) p) ≡ reasonOf (uniqueLitAt (s .plan) p) (w .reasons)
@@ -65,7 +66,7 @@ called-by s list {z = z} {o = o} a b h = subst (λ (y : Called). SimulatesCalled
 
 module _ (s : GraphDivision) (log : List ℕ) (c : Cursor) (w : World) (r : Represents s log c w) where
   -- nothing changes but what is noted
-  pub noted-represents : (x : Noting) → Valid (s .plan) x → (ls : List ℕ) → ls ≡ standingOf x →
+  pub noted-represents : (x : Noting) → GoodLog (s .plan) x → (ls : List ℕ) → ls ≡ standingOf x →
       Represents (withNoted (x .noted) s) (x .log) (x .cursor) (record { standing = ls; reasons = w .reasons; last = w .last; done = w .done })
   unfolding withNoted
   noted-represents x v ls e = record {

@@ -18,11 +18,11 @@ use Rattle.division.specs.Plan.{Plan}
 use Rattle.plan.specs.Check.{planBad}
 use Rattle.plan.specs.Words.{slotsOf}
 use Rattle.plan.specs.Plan.{planOf}
-use Rattle.noting.specs.Note.{noting}
+use Rattle.noting.specs.Note.{noting, cursorAt}
 use Rattle.noting.specs.Replay.{logBad}
 use Rattle.noting.specs.Buffers.{tableBad, logShort, listShort, reasonShort}
-use Rattle.noting.proofs.Appending.{cursorAt}
-use Rattle.noting.proofs.Valid.{Valid, standingOf}
+use Rattle.noting.specs.Standing.{standingOf}
+use Rattle.noting.specs.Good.{GoodLog}
 use Rattle.judge.proofs.Conflicts.{list-taken}
 use Rattle.noting.proofs.Replaying.{log-fits}
 use Rattle.noting.proofs.Preserved.{standing-other, passes-other}

@@ -25,12 +25,13 @@ use Rattle.division.proofs.Whole.{each-found, reason-there}
 use Rattle.plan.specs.Words.{word, variablesOf, variableAt, uniqueLitAt}
 use Rattle.plan.proofs.Abstract.{unique-rising}
 use Rattle.noting.specs.Note.{Noting, noting, known, note}
-use Rattle.noting.specs.Standing.{hasVariable}
+use Rattle.noting.specs.Standing.{hasVariable, standingOf}
 use Rattle.noting.specs.Buffers.{tableBad, tableLen, listShort}
 use Rattle.noting.proofs.Indexed.{is-known}
 use Rattle.noting.proofs.Logged.{known-small}
 use Rattle.noting.proofs.Rising.{rises}
-use Rattle.noting.proofs.Valid.{Valid, standingOf, note-valid}
+use Rattle.noting.specs.Good.{GoodLog}
+use Rattle.noting.proofs.Valid.{note-valid}
 use Rattle.recorded.specs.declared.Reasons.{Reasons}
 use Rattle.recorded.specs.Recorded.{recorded}
 use Rattle.judge.specs.Judge.{Judged}
@@ -209,7 +210,7 @@ module _ (s : GraphDivision) (log : List ℕ) (c : Cursor) (w : World) (r : Repr
       (record { up-to = refl; long = refl; ahead = λ q a b e. refl })
 
   -- ---- an analysis from there: ls stands, y is noted, and the table is u
-  module _ (a : calls.Going) (b : Rest) (k : Stands a b) (y : Noting) (ls u : List ℕ) (v : Valid ws y) (e : ls ≡ standingOf y) where
+  module _ (a : calls.Going) (b : Rest) (k : Stands a b) (y : Noting) (ls u : List ℕ) (v : GoodLog ws y) (e : ls ≡ standingOf y) where
     abbrev found : Judged
     found = judgedIn s y u (b .proposals) (b .left)
 
@@ -240,7 +241,7 @@ module _ (s : GraphDivision) (log : List ℕ) (c : Cursor) (w : World) (r : Repr
     abbrev j : Judged
     j = judgedIn s after (a .table) (b .proposals) (b .left)
 
-    noted-valid : Valid ws after × (ls ≡ standingOf after)
+    noted-valid : GoodLog ws after × (ls ≡ standingOf after)
     noted-valid =
         let f : hasVariable (lit p / 2) (standingOf (b .noted)) ≡ false =
         ap (hasVariable (lit p / 2)) (sym (k .represents .standing)) ∙ q .ahead p (omega arith) h due ∙ ap (hasVariable (lit p / 2)) (r .standing) ∙ free in
