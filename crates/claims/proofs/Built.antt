@@ -15,8 +15,8 @@ use Rattle.calls.specs.Calls as calls
 use Rattle.graph_division.specs.declared.Answer.the-variants.{Refused}
 use Rattle.graph_division.specs.New.{built}
 use Rattle.graph_division.specs.Runs.{Request, Kept}
-use Rattle.simulation.proofs.Represents.{planIn}
-use Rattle.simulation.proofs.Running.{fresh, fresh-represents}
+use Rattle.simulation.specs.Start.{statePlan, justBuilt}
+use Rattle.simulation.proofs.Running.{fresh-represents}
 use Rattle.claims.specs.Whole.{writtenOf}
 use Rattle.claims.specs.Conditions.{replyTo, outcomeTo, Condition1, Condition2, Condition3}
 use Rattle.claims.proofs.Replying.{At}
@@ -24,10 +24,10 @@ use Rattle.claims.proofs.Lists as lists
 
 module _ (vs : List ℤ) (n : ℕ) (es : List ℤ) (m : ℕ) (sameSize extraWalls : Bool) (z : built vs n es m sameSize extraWalls .refusal ≡ 0) where
   abbrev start : Kept
-  start = fresh (built vs n es m sameSize extraWalls)
+  start = justBuilt (built vs n es m sameSize extraWalls)
 
   abbrev d : Plan
-  d = planIn (start .state)
+  d = statePlan (start .state)
 
   at-start : At d start calls.built
   at-start = record { represents = fresh-represents vs n es m sameSize extraWalls z; plan = refl }

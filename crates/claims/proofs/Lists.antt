@@ -46,8 +46,8 @@ use Rattle.graph_division.specs.Runs.{Query, reasonFor, lastLeft, Request, init
 use Rattle.claims.specs.Whole.{literalsOf, writtenBy, writtenOf}
 use Rattle.claims.specs.Conditions.{accepted, counts, counted, HandsOn, Quiet, aQuery, turnedAway, AllQuiet, done, next, standingThen, Condition1, Condition2, Condition3}
 use Rattle.graph_division.specs.Outcomes.{answerOf}
-use Rattle.simulation.proofs.Represents.{planIn}
-use Rattle.simulation.proofs.Running.{RepresentsKept, Replies}
+use Rattle.simulation.specs.Start.{statePlan}
+use Rattle.simulation.specs.Represents.{RepresentsKept, Replies}
 use Rattle.claims.proofs.Refusing.{refused-unchanged}
 use Rattle.claims.proofs.Replying.{conflict-back, refused-range, refused-is, accepted-is, consistent-is, At, reply-at, next-at, after-at}
 use Rattle.claims.proofs.Known.{reason-known}

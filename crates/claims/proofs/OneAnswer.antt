@@ -23,8 +23,8 @@ use Rattle.calls.proofs.View.{Did, away, added, agreed, clashed, took, asked, b
 use Rattle.graph_division.specs.Answers.{numberOf, valuesOf}
 use Rattle.graph_division.specs.Outcomes.{answerFor, answerOf}
 use Rattle.graph_division.specs.Runs.{Request, initialize, propagate, undo, ask, tableOf, listOf, tailOf, Kept, logFor, Reply, reply, keeping, roomFor, callOf}
-use Rattle.simulation.proofs.Represents.{Represents}
-use Rattle.simulation.proofs.Running.{valuesFor, with-tail}
+use Rattle.simulation.specs.Represents.{Represents, valuesFor}
+use Rattle.simulation.proofs.Running.{with-tail}
 use Rattle.claims.specs.Whole.{literalsOf, writtenBy, writtenOf, Whole}
 use Rattle.claims.specs.Conditions.{accepted}
 use Rattle.claims.proofs.Replying.{accepted-is, At, reply-at}

@@ -37,7 +37,7 @@ use Rattle.graph_division.specs.Calls.{Called, Fetched, propagated, undone, rea
 use Rattle.graph_division.specs.Initialize.{initialized}
 use Rattle.graph_division.specs.Runs as runs
 use Rattle.graph_division.specs.Runs.{Request, initialize, propagate, undo, Query, reasonFor, lastLeft, ask, tableOf, tailOf, Kept, kept, logFor, Reply, replied, repliedCalled, repliedFetched, reply, keeping, roomFor, callOf}
-use Rattle.simulation.proofs.Running.{valuesFor, RepresentsKept, Replies}
+use Rattle.simulation.specs.Represents.{valuesFor, RepresentsKept, Replies}
 use Rattle.claims.proofs.Replying.{At, reply-at, next-at}
 use Rattle.claims.proofs.Past.{reply-log}
 use Rattle.sessions.specs.Follow.{bytesOf}
@@ -48,7 +48,7 @@ use Rattle.text.specs.declared.Line.the-variants.{O, P, G, «V», I, N, U, R, R
 use Rattle.plan.specs.Plan.{planOf}
 use Rattle.calls.specs.Table.{knows}
 use Rattle.refusals.proofs.Known.{outside-unknown}
-use Rattle.simulation.proofs.Represents.{planIn}
+use Rattle.simulation.specs.Start.{statePlan}
 
 -- ---- what is printed, by what a call did
 module _ (d : Plan) (w : World) where

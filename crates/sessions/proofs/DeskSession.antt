@@ -22,7 +22,7 @@ use Rattle.calls.proofs.Stands.{quiet-same}
 use Rattle.text.specs.declared.Line.{Line}
 use Rattle.text.specs.declared.Line.the-variants.{O, P, G, «V», I, N, U, R, RLast, Malformed}
 use Rattle.graph_division.specs.New.{built}
-use Rattle.simulation.proofs.Represents.{planIn}
+use Rattle.simulation.specs.Start.{statePlan}
 use Rattle.simulation.proofs.Running.{fresh-represents}
 use Rattle.claims.proofs.Replying.{At}
 use Rattle.text.specs.Fields.{linesOf}
@@ -105,7 +105,7 @@ begin = record { world = calls.built; table = replicate 4096 0; printed = [] }
 -- from a plan that is built
 module _ (vs : List ℤ) (n : ℕ) (es : List ℤ) (m : ℕ) (p e : Bool) (z : built vs n es m p e .refusal ≡ 0) where
   abbrev plan : Plan
-  plan = planIn (built vs n es m p e .state)
+  plan = statePlan (built vs n es m p e .state)
 
   first-stands : Stands plan (atFirst (built vs n es m p e .state)) begin
   unfolding atFirst
@@ -144,7 +144,7 @@ module _ (input : List ℕ) (r : Reading) (wf : wellFormed input ≡ true) (t : 
   refused-session k e = whole ∙ pick-no _ _ (ap (λ (n : ℕ). eqb n 0) e ∙ never k) ∙ ap (λ (n : ℕ). answerLine 69 (n ∷ [])) e
 
   -- and one that is built
-  pub built-session : given .refusal ≡ 0 → session input ≡ said (followAll (planIn (given .state)) (linesOf (drop (r .at) input)) begin .printed)
+  pub built-session : given .refusal ≡ 0 → session input ≡ said (followAll (statePlan (given .state)) (linesOf (drop (r .at) input)) begin .printed)
   unfolding builtOf
   built-session e =
       let c = r .draft .counts in

@@ -26,7 +26,7 @@ use Rattle.builder.proofs.Given.{given-length}
 use Rattle.builder.proofs.Built.{new-proper}
 use Rattle.calls.specs.Calls as calls
 use Rattle.graph_division.specs.New.{built}
-use Rattle.simulation.proofs.Represents.{Represents}
+use Rattle.simulation.specs.Represents.{Represents}
 
 no-reason-at : (p : ℕ) → p < 4352 → meaning (reasonAt noReasons p) ≡ []
 unfolding reasonAt noReasons meaning

@@ -65,7 +65,9 @@ use Rattle.graph_division.specs.declared.Answer.the-variants as answer
 use Rattle.graph_division.specs.Calls.{Called, called, refuse}
 use Rattle.graph_division.specs.Initialize.{notedAt, notedUpTo, takenOver, entering, finished, taking, endedBy, begun, initialized}
 use Rattle.graph_division.specs.Outcomes.{answerFor, answerOf}
-use Rattle.simulation.proofs.Represents.{planIn, Represents, SimulatesCalled, called-by, refused-called}
+use Rattle.simulation.specs.Start.{statePlan}
+use Rattle.simulation.specs.Represents.{Represents, SimulatesCalled}
+use Rattle.simulation.proofs.Represents.{called-by, refused-called}
 use Rattle.simulation.proofs.Noted.{note-noted}
 use Rattle.simulation.proofs.Notifying.{changed, judgedIn, Analyzed, analyzed}
 use Rattle.simulation.proofs.LastPass.{lastFrom, unset-looked}
@@ -120,7 +122,7 @@ module _ (s : GraphDivision) (log : List ℕ) (c : Cursor) (w : World) (r : Repr
   ends = s .edges .ends
 
   abbrev d : Plan
-  d = planIn s
+  d = statePlan s
 
   abbrev places : ℕ
   places = 2 * variablesOf ws
@@ -509,10 +511,10 @@ module _ (s : GraphDivision) (log : List ℕ) (c : Cursor) (w : World) (r : Repr
   -- what the definition does where nothing is refused
   abbrev worked : calls.Outcome
   worked =
-      let a = calls.propagateAll (planIn s) (entered (planIn s) t) (calls.entry w t) in
-      calls.finishBy (planIn s) w t a (a .judgement)
+      let a = calls.propagateAll (statePlan s) (entered (statePlan s) t) (calls.entry w t) in
+      calls.finishBy (statePlan s) w t a (a .judgement)
 
-  defined : calls.onInitialize (planIn s) w (tableRoom (s .plan) (s .edges .ends) (s .noted) (length list) log c) t ≡ refusedOr number w t worked
+  defined : calls.onInitialize (statePlan s) w (tableRoom (s .plan) (s .edges .ends) (s .noted) (length list) log c) t ≡ refusedOr number w t worked
   defined =
       initialize-call (s .plan) (s .edges .ends) (s .noted) log c w t (length list)
       ∙ ap (λ (b : Bool). refusedOr (initializeRefusal (s .plan) (s .edges .ends) (s .noted) t (length list) log c b) w t worked) (sym (r .done))
@@ -523,7 +525,7 @@ module _ (s : GraphDivision) (log : List ℕ) (c : Cursor) (w : World) (r : Repr
       let (g, _) = initialize-accepted (s .plan) (s .edges .ends) (s .noted) log c (r .valid .words) t (length list) (s .initialized) e in
       begun-simulated s log c w r t list (ltb-false (length list) (2 * variablesOf (s .plan)) (g .list)) (g .table)
 
-  pub initialize-simulated : SimulatesCalled s list (initialized s c t log list) (calls.onInitialize (planIn s) w (tableRoom (s .plan) (s .edges .ends) (s .noted) (length list) log c) t)
+  pub initialize-simulated : SimulatesCalled s list (initialized s c t log list) (calls.onInitialize (statePlan s) w (tableRoom (s .plan) (s .edges .ends) (s .noted) (length list) log c) t)
   unfolding initialized refusedOr
   initialize-simulated = tested (eqb number 0)
       (λ y. called-by s list (pick-yes _ _ y) (defined ∙ pick-yes _ _ y) (accepted (eqb-true number 0 y)))
