@@ -25,10 +25,19 @@ use Rattle.calls.specs.Truths.{Walked, Recorded, Analyzes, Backed}
 use Rattle.calls.specs.Claim.{addUpTo, tail, Covers}
 use Rattle.graph_division.specs.declared.Answer.{Answer}
 use Rattle.graph_division.specs.declared.Answer.the-variants.{Consistent, Conflict, Noted, Undone, Reason, Refused}
+use Rattle.graph_division.specs.New.{built}
 use Rattle.graph_division.specs.Answers.{numberOf, isConsistent}
 use Rattle.graph_division.specs.Calls.{refuse}
 use Rattle.graph_division.specs.Runs.{Query, reasonFor, lastLeft, Request, initialize, propagate, undo, ask, tableOf, listOf, tailOf, Kept, logFor, Reply, replied, reply, keeping, after, callOf, callsOf}
+use Rattle.simulation.specs.Start.{statePlan, justBuilt}
 use Rattle.claims.specs.Whole.{literalsOf, Whole}
+
+-- "from the freshly built state": the state that is built of these numbers, with nothing in the log, and its plan
+abbrev pub builtStart : List ℤ → ℕ → List ℤ → ℕ → Bool → Bool → Kept
+builtStart vs n es m sameSize extraWalls = justBuilt (built vs n es m sameSize extraWalls)
+
+abbrev pub builtPlan : List ℤ → ℕ → List ℤ → ℕ → Bool → Bool → Plan
+builtPlan vs n es m sameSize extraWalls = statePlan (builtStart vs n es m sameSize extraWalls .state)
 
 -- an answer whose number is 0 is accepted: no refusal has that number
 unfoldable pub accepted : Answer → Bool
