@@ -19,20 +19,21 @@ use Rattle.undo_log.specs.Log.{wordOf, pushWords}
 use Rattle.plan.specs.Words.{verticesOf, edgesOf, startAt, occurrenceAt}
 use Rattle.plan.specs.Proper.{ProperWords}
 use Rattle.noting.specs.Words.{edgeStateOf, lowerOf, upperOf, lowerLitOf, upperLitOf}
-use Rattle.noting.specs.Note.{Noting, noting, boundary, oneMore, levelPushed, placeIn, known, noteAt, note}
+use Rattle.noting.specs.Note.{Noting, noting, boundary, oneMore, levelPushed, placeIn, known, noteAt, note, cursorAt}
 use Rattle.noting.specs.Undo.{recordsOf}
-use Rattle.noting.specs.Standing.{standing, hasVariable}
+use Rattle.noting.specs.Standing.{standing, hasVariable, standingOf, OneEach as Distinct, AllKnown}
 use Rattle.noting.specs.Replay.{Followed, followed, place, followAt, edgeDiffers, vertexDiffers, notedDiffers, afresh, logBad}
 use Rattle.noting.specs.Buffers.{logShort}
 use Rattle.noting.proofs.UndoNote.{push-moves}
-use Rattle.noting.proofs.Logged.{Logged, one-on, logged-length, logged-good, zeros-length}
-use Rattle.noting.proofs.Appending.{cursorAt, push-held, loop-over}
+use Rattle.noting.specs.Logged.{Logged}
+use Rattle.noting.proofs.Logged.{one-on, logged-length, logged-good, zeros-length}
+use Rattle.noting.proofs.Appending.{push-held, loop-over}
 use Rattle.noting.proofs.Passing.{logged-passes}
 use Rattle.noting.proofs.Differs.{same-edge, same-vertex}
 use Rattle.noting.proofs.Alike.{same-alike, alike-same, alike-trans}
-use Rattle.noting.proofs.Distinct.{Distinct, AllKnown}
 use Rattle.noting.proofs.Replaying.{parts, counts, log-fits, passed-logged, standing-distinct, standing-known}
-use Rattle.noting.proofs.Valid.{Valid, standingOf, fresh-valid, note-valid}
+use Rattle.noting.specs.Good.{GoodLog as Valid}
+use Rattle.noting.proofs.Valid.{fresh-valid, note-valid}
 use Rattle.as_noted.specs.AsNoted.{literalsIn, notedAfresh, Notable, none, one, SameNoted, AsNoted}
 
 -- ---- noted alike, by the test and as stated

@@ -31,7 +31,8 @@ use Rattle.builder.specs.Index.{variableOf, isOf, Indexing, indexed}
 use Rattle.builder.specs.Given.{Given}
 use Rattle.builder.specs.Build.{flag, header, given, closed, totals, withIndex, planWords, edgeStep, edgeTable}
 use Rattle.builder.proofs.Refusal.{Counted, counted}
-use Rattle.builder.proofs.Lowest.{Clean, clean}
+use Rattle.builder.specs.Applies.{Clean}
+use Rattle.builder.proofs.Lowest.{clean}
 use Rattle.builder.proofs.Least.{below, and-both}
 use Rattle.builder.proofs.Rounds as rounds
 use Rattle.builder.proofs.Rounds.{Good, Group, Kept, indexed-good, end-inner, end-last}

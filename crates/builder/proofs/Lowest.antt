@@ -1,5 +1,5 @@
 -- "Building gives the lowest number that applies": refused with k exactly when k is the lowest of 1 to 6 that applies.
-use mathlib.Core.Path.{_≡_, refl, sym, ap, subst, _∙_}
+use mathlib.Core.Path.{_≡_, refl, sym, subst, _∙_}
 use mathlib.Core.Bool.{Bool, true, false, true≢false}
 use mathlib.Core.List.{List}
 use Prim.Native.Nat.{ℕ, zero, suc, _<_, _≤_}
@@ -11,21 +11,12 @@ use Rattle.base.specs.Iter.{pick}
 use Rattle.base.proofs.Loop.{pick-yes, pick-no, tested}
 use Rattle.base.proofs.Tests.{le-or-lt}
 use Rattle.builder.specs.Input.{tooMany, weightOutside, sizesWrong, litCountWrong, litOutside, endWrong, refusal}
-use Rattle.builder.specs.Applies.{applies}
+use Rattle.builder.specs.Applies.{applies, Clean, Lowest}
 use lib.Dec.{eqb}
 
 -- the first of a row of tests that passes, counted from 1, or 0
 unfoldable first6 : Bool → Bool → Bool → Bool → Bool → Bool → ℕ
 first6 a b c d e f = pick a 1 (pick b 2 (pick c 3 (pick d 4 (pick e 5 (pick f 6 0)))))
-
--- no refusal: none applies
-pub record Clean (vs : List ℤ) (n : ℕ) (es : List ℤ) (m : ℕ) : Type 0 where
-  pub counts : tooMany vs n m ≡ false
-  pub weights : weightOutside vs n ≡ false
-  pub sizes : sizesWrong vs n ≡ false
-  pub litCounts : litCountWrong vs n ≡ false
-  pub lits : litOutside vs n es m ≡ false
-  pub ends : endWrong n es m ≡ false
 
 none6 : (a b c d e f : Bool) → first6 a b c d e f ≡ 0 → (a ≡ false) × (b ≡ false) × (c ≡ false) × (d ≡ false) × (e ≡ false) × (f ≡ false)
 unfolding first6 pick
@@ -46,11 +37,6 @@ clean vs n es m z =
 -- the six tests by their numbers
 unfoldable test6 : Bool → Bool → Bool → Bool → Bool → Bool → ℕ → Bool
 test6 a b c d e f k = pick (eqb k 1) a (pick (eqb k 2) b (pick (eqb k 3) c (pick (eqb k 4) d (pick (eqb k 5) e (pick (eqb k 6) f false)))))
-
--- k passes and none below it does
-pub record Lowest (t : ℕ → Bool) (k : ℕ) : Type 0 where
-  pub passes : t k ≡ true
-  pub below : (j : ℕ) → j < k → t j ≡ false
 
 lowest6 : (a b c d e f : Bool) → 0 < first6 a b c d e f → Lowest (test6 a b c d e f) (first6 a b c d e f)
 unfolding first6 test6 pick

@@ -2,7 +2,7 @@
 use Prim.Native.Nat.{ℕ, _+_, _-_, _*_, _/_, _%_}
 use native.Mathlib.Omega.{arith}
 use mathlib.Core.Path.{_≡_, refl, sym, _∙_, ap, subst}
-use mathlib.Core.Logic.{_⊎_, ⊎-elim, _↔_}
+use mathlib.Core.Logic.{⊎-elim, _↔_}
 use mathlib.Core.Bool.{Bool, true, false, not, _||_, true≢false, false≢true}
 use mathlib.Core.List.{List, [], _∷_, _++_, List·Memᴰ·head, List·Memᴰ·tail, List·Memᴰ·not-nil, List·Memᴰ·cases-cons}
 use lib.Dec.{eqb}
@@ -16,11 +16,11 @@ use Rattle.division.specs.Division.{Valid, Describes}
 use Rattle.division.specs.Reasons.{Reason}
 use Rattle.division.specs.Noting.{In, Consistent, noteAll}
 use Rattle.division.specs.Runs.{fetched, reasonOf}
-use Rattle.division.proofs.Proposed.{Full}
+use Rattle.division.specs.Proposed.{Full}
 use Rattle.division.proofs.Whole.{exactly, nothing-left}
 use Rattle.calls.specs.Table.{has, knows}
 use Rattle.calls.specs.Look.{Looked, gone}
-use Rattle.calls.specs.Calls.{World, built, Query, reasonFor, lastLeft, Call, propagate, ask, Answer, consistent, conflicting, noted, undone, refused, reason, accepted, Outcome, refuse, noting, settledBy, giveReason, answerTo, tell, onAsk, call, after, run}
+use Rattle.calls.specs.Calls.{World, built, Query, reasonFor, lastLeft, Call, propagate, ask, Answer, consistent, conflicting, refused, reason, accepted, Outcome, refuse, noting, settledBy, giveReason, answerTo, tell, onAsk, call, after, run, answerList}
 use Rattle.calls.specs.Claim.{counted, Covers, AllQuiet, answered, Condition3}
 use Rattle.calls.proofs.View.{Saw, saw, Did, away, added, agreed, clashed, did}
 use Rattle.calls.proofs.Looks.{clash-not-fine, saw-fine, looked-fine}
@@ -94,14 +94,6 @@ did-exact d k pl w g (clashed room t l p pf o e f q bt kn) a v =
           absurd (clash-not-fine (sym q ∙ ap (λ (z : Looked). z .judgement) e ∙ looked-fine d (l ∷ w .standing) t (exactly d k _ c pl (s .σ) x .1 (s .valid)) (nothing-left d k _ c (s .σ) x))),
     )
 
-unfoldable pub listIn : Answer → List ℕ
-listIn consistent = []
-listIn conflicting = []
-listIn noted = []
-listIn undone = []
-listIn (refused n) = []
-listIn (reason ls) = ls
-
 refused-no-list : {n : ℕ} {list : List ℕ} → refused n ≡ reason list → ⊥
 unfolding accepted
 refused-no-list e = false≢true (ap accepted e)
@@ -114,7 +106,7 @@ ask-given d w room q list e = pick-ind (λ (a : Answer). a ≡ reason list → a
 -- a fetch of a literal gives the list of the newest reason that is recorded for it, whose paths are there
 pub fetch-open : (d : Plan) (w : World) (room : Bool) (l : ℕ) (list : List ℕ) → call d (ask room (reasonFor l)) w .answer ≡ reason list →
     (r : Reason) × (reasonOf l (w .reasons) ≡ r ∷ []) × (gone d (noteAll d (w .standing)) r ≡ false) × (fetched d (w .standing) r ≡ list)
-unfolding answerTo giveReason listIn
+unfolding answerTo giveReason answerList
 fetch-open d w room l list e =
     pick-ind (λ (a : Answer). a ≡ reason list → Open) (not (knows d l)) _ _ (λ _ z. absurd (refused-no-list z)) (λ _ z. by (reasonOf l (w .reasons)) refl z) (ask-given d w room (reasonFor l) list e)
   where
@@ -125,12 +117,12 @@ fetch-open d w room l list e =
     by [] q z = absurd (refused-no-list z)
     by (r ∷ rs) q z =
         pick-ind (λ (a : Answer). a ≡ reason list → Open) (gone d (noteAll d (w .standing)) r) _ _ (λ _ y. absurd (refused-no-list y))
-        (λ n y. (r, q ∙ ap (λ (x : List Reason). r ∷ x) (one-reason l (w .reasons) r rs q), n, ap listIn y)) z
+        (λ n y. (r, q ∙ ap (λ (x : List Reason). r ∷ x) (one-reason l (w .reasons) r rs q), n, ap answerList y)) z
 
 -- and one without a literal the list last left
 pub last-given : (d : Plan) (w : World) (room : Bool) (list : List ℕ) → call d (ask room lastLeft) w .answer ≡ reason list → w .last ≡ list
-unfolding answerTo listIn
-last-given d w room list e = ap listIn (ask-given d w room lastLeft list e)
+unfolding answerTo answerList
+last-given d w room list e = ap answerList (ask-given d w room lastLeft list e)
 
 after-one : (d : Plan) (cs : List Call) (c : Call) (w : World) → after d w (cs ++ (c ∷ [])) ≡ call d c (after d w cs) .world
 unfolding after

@@ -22,7 +22,7 @@ use Rattle.division.proofs.Rules.{proposed-explained}
 use Rattle.division.proofs.Whole.{each-found, reason-there}
 use Rattle.calls.specs.Table.{most, knows, variables, rising, badTable, enter}
 use Rattle.calls.specs.Look.{Looked, offers, handOn, stop, clashes, offered, looked}
-use Rattle.calls.specs.Calls.{World, Call, Outcome, refuse, noting, settledBy, tell, Going, joinBy, lastBy, finishBy, entry, call, run}
+use Rattle.calls.specs.Calls.{World, Call, Outcome, refuse, noting, settledBy, tell, Going, joinBy, lastBy, finishBy, entry, run}
 use Rattle.calls.specs.Claim.{answered}
 use Rattle.calls.specs.Marks.{Marked}
 use Rattle.calls.proofs.View.{Saw, saw, sawStop, sawConflict, sawFalse, sawFine, Steps, over, more, ends, halts, Did, away, added, agreed, clashed, took, asked, began, beganLast, beganClash, did}
@@ -31,10 +31,7 @@ use Rattle.calls.proofs.Stands.{add-consistent, or-left, fine-on, clash
 use Rattle.calls.proofs.Fetchable.{good, is-known}
 use Rattle.calls.proofs.Order.{swept-in}
 use Rattle.calls.proofs.Marks.{unmarked, marked-then, marked-set, enter-same, enter-long, hand-marked, looked-marked}
-
-pub data Distinct : List ℕ → Type 0 where
-  alone : Distinct []
-  with : {x : ℕ} {l : List ℕ} → (In l x → ⊥) → Distinct l → Distinct (x ∷ l)
+use Rattle.calls.specs.Order.{Distinct}
 
 distinct-append : (h i : List ℕ) → Distinct h → Distinct i → ((x : ℕ) → In h x → In i x → ⊥) → Distinct (h ++ i)
 distinct-append [] i a b f = b

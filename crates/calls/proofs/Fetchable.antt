@@ -13,12 +13,12 @@ use Rattle.division.specs.Division.{Valid}
 use Rattle.division.specs.Regions.{within}
 use Rattle.division.specs.State.{State, Same}
 use Rattle.division.specs.Reasons.{Reason}
-use Rattle.division.specs.Analysis.{Proposal}
+use Rattle.division.specs.Analysis.{Proposal, Each, nothing, also}
 use Rattle.division.specs.Noting.{noteAll, In, Consistent}
 use Rattle.division.specs.Views.{viewOf}
 use Rattle.division.specs.Runs.{analysis, fetched, reasonOf, Run, start, note, look}
-use Rattle.division.proofs.Explained.{Explains, byInGroup, byBetween, byTooLarge, byLarge, bySmall, byMismatch, bySpreadLow, bySpreadHigh, bySameSize}
-use Rattle.division.proofs.Proposed.{Each, nothing, also, Good}
+use Rattle.division.specs.Explained.{Explains, byInGroup, byBetween, byTooLarge, byLarge, bySmall, byMismatch, bySpreadLow, bySpreadHigh, bySameSize}
+use Rattle.division.specs.Proposed.{Good}
 use Rattle.division.proofs.Walk.{joined-within}
 use Rattle.division.proofs.Fetch.{reason-explained}
 use Rattle.division.proofs.Judged.{analyzed-good}

@@ -12,7 +12,7 @@ use Rattle.base.proofs.Loop.{pick-ind}
 use Rattle.division.specs.Plan.{Plan}
 use Rattle.division.specs.Noting.{In}
 use Rattle.division.specs.Runs.{analysis}
-use Rattle.calls.specs.Marks.{sign, Marked}
+use Rattle.calls.specs.Marks.{currentCode, Marked}
 use Rattle.calls.specs.Table.{codeOf, unsetIn, enter}
 use Rattle.calls.specs.Look.{Looked, offers, handOn, enterAll, stop, clashes, offered, looked}
 use Rattle.calls.specs.Calls.{World, Call, Outcome, tableOf, refuse, settledBy, tell, Going, joinBy, lastBy, finishBy, entry, call}
@@ -20,17 +20,17 @@ use Rattle.calls.proofs.View.{Saw, saw, sawStop, sawConflict, sawFalse,
 use Rattle.calls.proofs.Looks.{halted}
 use Rattle.calls.proofs.Stands.{fine-on, clash-on, not-halted}
 
-sign-set : (l : ℕ) → eqb (sign l) 0 ≡ false
-unfolding sign
-sign-set l = pick-ind (λ x. eqb x 0 ≡ false) (eqb (l % 2) 0) 3 4 (λ _. refl) (λ _. refl)
+current-set : (l : ℕ) → eqb (currentCode l) 0 ≡ false
+unfolding currentCode
+current-set l = pick-ind (λ x. eqb x 0 ≡ false) (eqb (l % 2) 0) 3 4 (λ _. refl) (λ _. refl)
 
 same-code : (t u : List ℕ) (l : ℕ) → codeOf u l ≡ codeOf t l → unsetIn u l ≡ unsetIn t l
 unfolding unsetIn
 same-code t u l e = ap (λ c. eqb c 0) e
 
-pub marked-set : (u : List ℕ) (x : ℕ) → codeOf u x ≡ sign x → unsetIn u x ≡ false
+pub marked-set : (u : List ℕ) (x : ℕ) → codeOf u x ≡ currentCode x → unsetIn u x ≡ false
 unfolding unsetIn
-marked-set u x e = ap (λ c. eqb c 0) e ∙ sign-set x
+marked-set u x e = ap (λ c. eqb c 0) e ∙ current-set x
 
 pub unmarked : (t : List ℕ) → Marked t [] t
 unmarked t = record { long = refl; rest = λ v n. refl; kept = λ l e. refl; shown = λ l m. absurd (List·Memᴰ·not-nil m) }
@@ -43,10 +43,10 @@ marked-then t h u i v a b = record {
   shown = λ l m k. ⊎-elim (λ n. early l n k) (λ n. late l n k) (List·Memᴰ·append-cases h m);
 }
   where
-    early : (l : ℕ) → In h l → l / 2 < length t → (unsetIn t l ≡ true) × (codeOf v l ≡ sign l)
+    early : (l : ℕ) → In h l → l / 2 < length t → (unsetIn t l ≡ true) × (codeOf v l ≡ currentCode l)
     early l n k = let p = a .shown l n k in (p .0, b .kept l (marked-set u l (p .1)) ∙ p .1)
 
-    late : (l : ℕ) → In i l → l / 2 < length t → (unsetIn t l ≡ true) × (codeOf v l ≡ sign l)
+    late : (l : ℕ) → In i l → l / 2 < length t → (unsetIn t l ≡ true) × (codeOf v l ≡ currentCode l)
     late l n k =
         let p = b .shown l n (subst (λ z. l / 2 < z) (sym (a .long)) k) in
         (unset-then (unsetIn t l) refl (p .0), p .1)
@@ -55,8 +55,8 @@ marked-then t h u i v a b = record {
         unset-then true e q = e
         unset-then false e q = absurd (true≢false (sym q ∙ same-code t u l (a .kept l e) ∙ e))
 
-pub enter-same : (t : List ℕ) (l : ℕ) → l / 2 < length t → codeOf (enter t l) l ≡ sign l
-unfolding codeOf enter sign
+pub enter-same : (t : List ℕ) (l : ℕ) → l / 2 < length t → codeOf (enter t l) l ≡ currentCode l
+unfolding codeOf enter currentCode
 enter-same t l h = getD-set-same t (l / 2) _ 0 h
 
 enter-other : (t : List ℕ) (l m : ℕ) → (m / 2 ≡ l / 2 → ⊥) → codeOf (enter t l) m ≡ codeOf t m
@@ -81,7 +81,7 @@ entered-one t p e = record {
   long = enter-long t p;
   rest = λ v n. enter-rest t p v (λ q. n p (List·Memᴰ·head refl) (sym q));
   kept = λ l f. enter-other t p l (λ q. true≢false (sym e ∙ sym (same-variable t p l q) ∙ f));
-  shown = λ l m h. ⊎-elim (λ q. subst (λ z. (unsetIn t z ≡ true) × (codeOf (enter t p) z ≡ sign z)) (sym q) (e, enter-same t p (subst (λ z. z / 2 < length t) q h)))
+  shown = λ l m h. ⊎-elim (λ q. subst (λ z. (unsetIn t z ≡ true) × (codeOf (enter t p) z ≡ currentCode z)) (sym q) (e, enter-same t p (subst (λ z. z / 2 < length t) q h)))
       (λ n. absurd (List·Memᴰ·not-nil n)) (List·Memᴰ·cases-cons m);
 }
 

@@ -12,12 +12,12 @@ use Rattle.division.specs.Plan.{Plan, Proper, left, right}
 use Rattle.division.specs.Regions.{within}
 use Rattle.division.specs.State.{State}
 use Rattle.division.specs.Reasons.{adjacentSameSizeRegions, Reason, edgeInSameGroup, edgeBetweenDifferentGroups, tooLargeIfRegionsAreMerged, regionAlreadyLarge, regionAlreadySmall, inconsistentBoundsIfRegionsAreMerged, boundPropagationWithinRegion, listOf, connectedPath}
-use Rattle.division.specs.Analysis.{Proposal}
+use Rattle.division.specs.Analysis.{Proposal, Each, nothing, also}
 use Rattle.division.specs.Noting.{noteAll, Consistent}
 use Rattle.division.specs.Runs.{analysis, Justifies, reasonOf}
-use Rattle.division.proofs.Noted.{Bounded, low-one, high-one}
-use Rattle.division.proofs.Explained.{Explains, byInGroup, byBetween, byTooLarge, byLarge, bySmall, byMismatch, bySpreadLow, bySpreadHigh, bySameSize}
-use Rattle.division.proofs.Proposed.{Each, nothing, also}
+use Rattle.division.specs.Noted.{Bounded}
+use Rattle.division.proofs.Noted.{low-one, high-one}
+use Rattle.division.specs.Explained.{Explains, byInGroup, byBetween, byTooLarge, byLarge, bySmall, byMismatch, bySpreadLow, bySpreadHigh, bySameSize}
 use Rattle.division.proofs.Walk.{within-joined}
 use Rattle.division.proofs.Fits.{path-short, decided-short, potential-short, decided-few}
 use Rattle.division.proofs.Noting.{noted-all}
@@ -55,6 +55,7 @@ explained-formed d s l r (bySpreadLow p u ls b j hp hu m e a w i) = formedSpread
 explained-formed d s l r (bySpreadHigh p u ls b j hp hu m e a w i) = formedSpread p u ls hp (high-one d p w)
 explained-formed d s l r (bySameSize p lp up q lq uq u g o h e hp hq hu xa ya xb yb) = formedSameSize p lp up q lq uq u hp hq hu xa ya xb yb
 
+-- what a reason buffer must hold
 abbrev room : Plan → ℕ
 room d = d .edges + d .vertices + d .vertices + 4
 
@@ -161,11 +162,13 @@ module _ (d : Plan) (k : Proper d) where
       head q = cc
 
   -- whatever was called before: the list of a fetch of a literal fits, and so does the list last left
-  pub fetch-fits : (before : List Call) (full : Bool) (l : ℕ) (list : List ℕ) → answered d before (ask full (reasonFor l)) .answer ≡ reason list → length list ≤ room d
+  pub fetch-fits : (before : List Call) (full : Bool) (l : ℕ) (list : List ℕ) →
+      answered d before (ask full (reasonFor l)) .answer ≡ reason list → length list ≤ d .edges + d .vertices + d .vertices + 4
   fetch-fits before full l list e =
       let w = run d before in
       let (r, q, n, f) = fetch-open d w full l list e in
       subst (λ (z : List ℕ). length z ≤ room d) f (formed-fits (noteAll d (w .standing)) (noted-all d (w .standing) (run-consistent d before) .bounded) r (heads-formed l r [] _ (run-formed before) q) n)
 
-  pub last-fits : (before : List Call) (full : Bool) (list : List ℕ) → answered d before (ask full lastLeft) .answer ≡ reason list → length list ≤ room d
+  pub last-fits : (before : List Call) (full : Bool) (list : List ℕ) →
+      answered d before (ask full lastLeft) .answer ≡ reason list → length list ≤ d .edges + d .vertices + d .vertices + 4
   last-fits before full list e = subst (λ (z : List ℕ). length z ≤ room d) (last-given d (run d before) full list e) (run-left before)

@@ -17,11 +17,11 @@ use Rattle.sat.proofs.Literal.{variable-negate}
 use Rattle.division.specs.Plan.{Plan, Proper, left, right}
 use Rattle.division.specs.State.{State, Same}
 use Rattle.division.specs.Reasons.{Reason, connectedPath, decidedRegion, listOf}
-use Rattle.division.specs.Analysis.{Proposal}
+use Rattle.division.specs.Analysis.{Proposal, Each, nothing, also}
 use Rattle.division.specs.Noting.{noteAll, In, Consistent}
 use Rattle.division.specs.Runs.{analysis, fetched, reasonOf, Justifies}
-use Rattle.division.proofs.Noted.{Noted}
-use Rattle.division.proofs.Proposed.{Proposes, ruleInGroup, ruleBetween, ruleTooLarge, ruleLarge, ruleSmall, ruleMismatch, ruleSpreadLow, ruleSpreadHigh, ruleSameSize, Each, nothing, also}
+use Rattle.division.specs.Noted.{Noted}
+use Rattle.division.specs.Proposed.{Proposes, ruleInGroup, ruleBetween, ruleTooLarge, ruleLarge, ruleSmall, ruleMismatch, ruleSpreadLow, ruleSpreadHigh, ruleSameSize}
 use Rattle.division.proofs.Stands.{path-stands, decided-stands, potential-stands}
 use Rattle.division.proofs.Walk.{within-joined}
 use Rattle.division.proofs.Noting.{noted-all}

@@ -53,6 +53,15 @@ accepted undone = true
 accepted (refused n) = false
 accepted (reason ls) = true
 
+-- the list that an answer gives: a reason's, else none
+unfoldable pub answerList : Answer → List ℕ
+answerList consistent = []
+answerList conflicting = []
+answerList noted = []
+answerList undone = []
+answerList (refused n) = []
+answerList (reason ls) = ls
+
 -- the table that a call is lent; one that is lent none has the empty one
 unfoldable pub tableOf : Call → List ℕ
 tableOf (initialize room t) = t

@@ -2,7 +2,7 @@
 use Prim.Native.Nat.{ℕ}
 use mathlib.Core.Path.{_≡_, refl}
 use mathlib.Core.List.{List, [], _∷_}
-use Rattle.division.proofs.Plans.{planWith, plan, planB, planD, planE, planG, planH, planS}
+use Rattle.division.specs.Plans.{planWith, plan, planB, planD, planE, planG, planH, planS}
 use Rattle.calls.specs.Lines.{value, init, told, only, back, why, last, output}
 use Rattle.calls.proofs.Computes.{answers}
 

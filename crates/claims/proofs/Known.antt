@@ -15,19 +15,19 @@ use Rattle.sat.proofs.Literal.{variable-negate}
 use Rattle.division.specs.Plan.{Plan, Proper}
 use Rattle.division.specs.State.{State}
 use Rattle.division.specs.Reasons.{Reason}
-use Rattle.division.specs.Analysis.{Proposal}
+use Rattle.division.specs.Analysis.{Proposal, Each, nothing, also}
 use Rattle.division.specs.Noting.{noteAll, In, Consistent}
 use Rattle.division.specs.Runs.{analysis, fetched, reasonOf, Justifies, look, start}
-use Rattle.division.proofs.Noted.{Noted}
+use Rattle.division.specs.Noted.{Noted}
 use Rattle.division.proofs.Noting.{noted-all}
-use Rattle.division.proofs.Explained.{Explains}
-use Rattle.division.proofs.Proposed.{Proposes, ruleInGroup, ruleBetween, ruleTooLarge, ruleLarge, ruleSmall, ruleMismatch, ruleSpreadLow, ruleSpreadHigh, ruleSameSize, Each, nothing, also}
+use Rattle.division.specs.Explained.{Explains}
+use Rattle.division.specs.Proposed.{Proposes, ruleInGroup, ruleBetween, ruleTooLarge, ruleLarge, ruleSmall, ruleMismatch, ruleSpreadLow, ruleSpreadHigh, ruleSameSize}
 use Rattle.division.proofs.Whole.{each-found, reason-there, reasons, conflicts}
 use Rattle.calls.specs.Table.{knows, trueIn, entered}
 use Rattle.calls.specs.Look.{Looked, looked, listFor, falseList, stop, clashes, offered}
-use Rattle.calls.specs.Calls.{World, built, Query, reasonFor, lastLeft, Call, ask, Answer, consistent, conflicting, noted, undone, refused, reason, Outcome, refuse, taken, adding, noting, settledBy, answerTo, tell, onAsk, Going, joinBy, lastBy, finishBy, entry, call, after, run}
+use Rattle.calls.specs.Calls.{World, built, Query, reasonFor, lastLeft, Call, ask, Answer, consistent, conflicting, noted, undone, refused, reason, Outcome, refuse, taken, adding, noting, settledBy, answerTo, tell, onAsk, Going, joinBy, lastBy, finishBy, entry, call, after, run, answerList}
 use Rattle.calls.specs.Truths.{recordedIn}
-use Rattle.calls.proofs.Claim.{listIn, last-given}
+use Rattle.calls.proofs.Claim.{last-given}
 use Rattle.calls.proofs.Order.{swept-every}
 use Rattle.calls.proofs.Fetchable.{each-append, each-map, good, run-explained, is-known}
 use Rattle.calls.proofs.Looks.{first-in, offer-in, halted, saw-records}

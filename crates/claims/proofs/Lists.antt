@@ -18,21 +18,21 @@ use Rattle.sat.specs.Literal.{Holds}
 use Rattle.division.specs.Plan.{Plan, Proper, Plain}
 use Rattle.division.specs.Division.{Valid, Describes}
 use Rattle.division.specs.Noting.{noteAll, In}
-use Rattle.division.proofs.Explained.{Explains}
+use Rattle.division.specs.Explained.{Explains}
 use Rattle.division.proofs.Whole.{each-found, reason-there}
 use Rattle.noting.specs.Buffers.{listShort}
 use Rattle.refusals.specs.Calls.{litGiven}
 use Rattle.calls.specs.Table.{codeOf, unsetIn, variables, tooHigh, badTable, knows}
-use Rattle.calls.specs.Marks.{sign, Marked}
+use Rattle.calls.specs.Marks.{currentCode, Marked}
 use Rattle.calls.specs.Calls as calls
-use Rattle.calls.specs.Calls.{World}
+use Rattle.calls.specs.Calls.{World, answerList}
 use Rattle.calls.specs.Refusals.{roomOf}
 use Rattle.calls.specs.Truths.{Walked, Backed}
 use Rattle.calls.specs.Claim as claim
 use Rattle.calls.specs.Claim.{Covers}
 use Rattle.calls.proofs.Marks.{call-marked}
 use Rattle.calls.proofs.Refusals.{refusals, acceptances}
-use Rattle.calls.proofs.Claim.{listIn, last-given, condition-3}
+use Rattle.calls.proofs.Claim.{last-given, condition-3}
 use Rattle.calls.proofs.Count.{known-below}
 use Rattle.calls.proofs.Fetchable.{run-explained, is-known, handed-fetched}
 use Rattle.calls.proofs.Recent.{did-recent}
@@ -46,8 +46,8 @@ use Rattle.graph_division.specs.Runs.{Query, reasonFor, lastLeft, Request, init
 use Rattle.claims.specs.Whole.{literalsOf, writtenBy, writtenOf}
 use Rattle.claims.specs.Conditions.{accepted, counts, counted, HandsOn, Quiet, aQuery, turnedAway, AllQuiet, done, next, standingThen, Condition1, Condition2, Condition3}
 use Rattle.graph_division.specs.Outcomes.{answerOf}
-use Rattle.simulation.proofs.Represents.{planIn}
-use Rattle.simulation.proofs.Running.{RepresentsKept, Replies}
+use Rattle.simulation.specs.Start.{statePlan}
+use Rattle.simulation.specs.Represents.{RepresentsKept, Replies}
 use Rattle.claims.proofs.Refusing.{refused-unchanged}
 use Rattle.claims.proofs.Replying.{conflict-back, refused-range, refused-is, accepted-is, consistent-is, At, reply-at, next-at, after-at}
 use Rattle.claims.proofs.Known.{reason-known}
@@ -59,9 +59,9 @@ unfolding pick
 pick-set true z = absurd (omega arith)
 pick-set false z = absurd (omega arith)
 
-sign-set : (l : ℕ) → sign l ≡ 0 → ⊥
-unfolding sign
-sign-set l e = pick-set (eqb (l % 2) 0) e
+current-set : (l : ℕ) → currentCode l ≡ 0 → ⊥
+unfolding currentCode
+current-set l e = pick-set (eqb (l % 2) 0) e
 
 -- some literal of the list has variable v, or none has
 data Has (h : List ℕ) (v : ℕ) : Type 0 where
@@ -86,8 +86,8 @@ search-in (x ∷ xs) v = tested (eqb (x / 2) v)
     more a (hasNot n) = hasNot (not-more x v xs a n)
 
 -- the literal is given by its variable and the code that it gets
-same-lit : (l m : ℕ) → l / 2 ≡ m / 2 → sign l ≡ sign m → l ≡ m
-unfolding sign
+same-lit : (l m : ℕ) → l / 2 ≡ m / 2 → currentCode l ≡ currentCode m → l ≡ m
+unfolding currentCode
 same-lit l m e f = tested (eqb (l % 2) 0)
     (λ a. tested (eqb (m % 2) 0)
     (λ b. omega (arith, eqb-true (l % 2) 0 a, eqb-true (m % 2) 0 b))
@@ -99,16 +99,16 @@ same-lit l m e f = tested (eqb (l % 2) 0)
     odd : (l m : ℕ) → l / 2 ≡ m / 2 → (l % 2 ≡ 0 → ⊥) → (m % 2 ≡ 0 → ⊥) → l ≡ m
     odd l m e y z = omega arith
 
-marked-in : (t h u : List ℕ) → Marked t h u → (l : ℕ) → unsetIn t l ≡ true → codeOf u l ≡ sign l → In h l
+marked-in : (t h u : List ℕ) → Marked t h u → (l : ℕ) → unsetIn t l ≡ true → codeOf u l ≡ currentCode l → In h l
 unfolding codeOf unsetIn
 marked-in t h u k l a b = go (search-in h (l / 2))
   where
     go : Has h (l / 2) → In h l
     go (has m i e) = ⊎-elim
-        (λ (out : length t ≤ l / 2). absurd (sign-set l (sym b ∙ List·getD-eq-default u 0 (omega (arith, k .long)))))
+        (λ (out : length t ≤ l / 2). absurd (current-set l (sym b ∙ List·getD-eq-default u 0 (omega (arith, k .long)))))
         (λ (q : l / 2 < length t). subst (In h) (same-lit m l e (sym (k .shown m i (omega arith) .1) ∙ ap (λ (v : ℕ). getD u v 0) e ∙ b)) i)
         (le-or-lt (length t) (l / 2))
-    go (hasNot n) = absurd (sign-set l (sym b ∙ k .rest (l / 2) n ∙ eqb-true _ 0 a))
+    go (hasNot n) = absurd (current-set l (sym b ∙ k .rest (l / 2) n ∙ eqb-true _ 0 a))
 
 -- a table that a call hands on from is long enough for the plan's variables
 long-enough : (d : Plan) (t : List ℕ) → badTable d t ≡ false → variables d ≤ length t

@@ -13,10 +13,9 @@ use Rattle.as_noted.specs.AsNoted.{AsNoted}
 use Rattle.as_noted.proofs.Afresh.{as-noted}
 use Rattle.division.specs.Plan.{Plan}
 use Rattle.calls.specs.Calls as calls
-use Rattle.calls.specs.Calls.{World}
+use Rattle.calls.specs.Calls.{World, answerList}
 use Rattle.calls.specs.Marks.{Marked}
 use Rattle.calls.specs.Refusals.{roomOf, Applies}
-use Rattle.calls.proofs.Claim.{listIn}
 use Rattle.calls.proofs.Marks.{call-marked}
 use Rattle.calls.proofs.Refusals.{acceptances}
 use Rattle.calls.proofs.Queries.{not-false, Answered, denied, given, answer-judged}
@@ -24,8 +23,8 @@ use Rattle.calls.proofs.View.{Did, away, added, agreed, clashed, took, asked, b
 use Rattle.graph_division.specs.Answers.{numberOf, valuesOf}
 use Rattle.graph_division.specs.Outcomes.{answerFor, answerOf}
 use Rattle.graph_division.specs.Runs.{Request, initialize, propagate, undo, ask, tableOf, listOf, tailOf, Kept, logFor, Reply, reply, keeping, roomFor, callOf}
-use Rattle.simulation.proofs.Represents.{Represents}
-use Rattle.simulation.proofs.Running.{valuesFor, with-tail}
+use Rattle.simulation.specs.Represents.{Represents, valuesFor}
+use Rattle.simulation.proofs.Running.{with-tail}
 use Rattle.claims.specs.Whole.{literalsOf, writtenBy, writtenOf, Whole}
 use Rattle.claims.specs.Conditions.{accepted}
 use Rattle.claims.proofs.Replying.{accepted-is, At, reply-at}
@@ -43,7 +42,7 @@ unfoldable writtenTo : calls.Call → calls.Outcome → List ℕ
 writtenTo (calls.initialize room t) o = o .handed
 writtenTo (calls.propagate room t l pending) o = o .handed
 writtenTo (calls.undo room l) o = []
-writtenTo (calls.ask room q) o = listIn (o .answer)
+writtenTo (calls.ask room q) o = answerList (o .answer)
 
 values-to : (k : Kept) (q : Request) (o : calls.Outcome) → valuesFor q o ≡ writtenTo (callOf k q) o
 unfolding valuesFor writtenTo callOf
@@ -53,14 +52,14 @@ values-to k (undo lit tail) o = refl
 values-to k (ask q b tail) o = refl
 
 away-written : (c : calls.Call) (n : ℕ) (w : World) (t : List ℕ) → writtenTo c (calls.refuse n w t) ≡ []
-unfolding writtenTo calls.refuse listIn
+unfolding writtenTo calls.refuse answerList
 away-written (calls.initialize room t) n w u = refl
 away-written (calls.propagate room t l pending) n w u = refl
 away-written (calls.undo room l) n w u = refl
 away-written (calls.ask room q) n w u = refl
 
-list-written : (a : calls.Answer) → listIn a ≡ writtenBy a []
-unfolding listIn writtenBy
+list-written : (a : calls.Answer) → answerList a ≡ writtenBy a []
+unfolding answerList writtenBy
 list-written calls.consistent = refl
 list-written calls.conflicting = refl
 list-written calls.noted = refl
@@ -100,16 +99,16 @@ unfolding valuesOf answerFor writtenBy
 reason-values a h ls e = ap (λ (x : calls.Answer). valuesOf (answerFor x (length h)) (writtenBy x h)) e ∙ take-length ls
 
 -- a query that is accepted gives a list
-told : (d : Plan) (w : World) (q : calls.Query) {a : calls.Answer} → Answered d w q a → calls.accepted a ≡ true → a ≡ calls.reason (listIn a)
-unfolding calls.accepted listIn
+told : (d : Plan) (w : World) (q : calls.Query) {a : calls.Answer} → Answered d w q a → calls.accepted a ≡ true → a ≡ calls.reason (answerList a)
+unfolding calls.accepted answerList
 told d w q (denied n e x f) t = absurd (false≢true (sym (ap calls.accepted e) ∙ t))
-told d w q {a} (given list e f) t = e ∙ ap calls.reason (sym (ap listIn e))
+told d w q {a} (given list e f) t = e ∙ ap calls.reason (sym (ap answerList e))
 
 pub ask-told : (d : Plan) (w : World) (room : Bool) (q : calls.Query) →
     let a = calls.call d (calls.ask room q) w .answer in
-    calls.accepted a ≡ true → a ≡ calls.reason (listIn a)
+    calls.accepted a ≡ true → a ≡ calls.reason (answerList a)
 unfolding calls.call calls.onAsk calls.tell calls.accepted
-ask-told d w room q = pick-ind (λ (a : calls.Answer). calls.accepted a ≡ true → a ≡ calls.reason (listIn a)) (not room) (calls.refused 7) (calls.answerTo d w q)
+ask-told d w room q = pick-ind (λ (a : calls.Answer). calls.accepted a ≡ true → a ≡ calls.reason (answerList a)) (not room) (calls.refused 7) (calls.answerTo d w q)
     (λ _ e. absurd (false≢true e)) (λ _ e. told d w q (answer-judged d w q) e)
 
 -- ---- the log of a call that is accepted is long enough

@@ -20,8 +20,9 @@ use Rattle.graph_division.specs.Answers.{numberOf, isConsistent}
 use Rattle.graph_division.specs.Runs.{Request, Kept, Reply, reply, keeping, after, callOf, callsOf}
 use Rattle.claims.specs.Conditions.{accepted}
 use Rattle.graph_division.specs.Outcomes.{answerFor, answerOf}
-use Rattle.simulation.proofs.Represents.{planIn}
-use Rattle.simulation.proofs.Running.{RepresentsKept, Replies, reply-is, Leads, after-leads}
+use Rattle.simulation.specs.Start.{statePlan}
+use Rattle.simulation.specs.Represents.{RepresentsKept, Replies, Leads}
+use Rattle.simulation.proofs.Running.{reply-is, after-leads}
 
 -- ---- answers
 unfoldable pub kindOf : Answer → ℕ
@@ -142,7 +143,7 @@ consistent-is o = (consistent-to (o .answer) (length (o .handed)), λ e. ap (λ 
 module _ (D : Plan) where
   pub record At (k : Kept) (w : World) : Type 0 where
     pub represents : RepresentsKept k w
-    pub plan : planIn (k .state) ≡ D
+    pub plan : statePlan (k .state) ≡ D
 
   module _ (k : Kept) (w : World) (a : At k w) where
     pub reply-at : (q : Request) → Replies k q (reply k q) (calls.call D (callOf k q) w)

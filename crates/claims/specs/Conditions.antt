@@ -12,13 +12,12 @@ use Rattle.sat.specs.Literal.{Holds}
 use Rattle.division.specs.Plan.{Plan}
 use Rattle.division.specs.Division.{Valid, Describes}
 use Rattle.division.specs.Reasons as abstract
-use Rattle.division.specs.Analysis.{Proposal}
+use Rattle.division.specs.Analysis.{Proposal, Each}
 use Rattle.division.specs.Noting.{In}
 use Rattle.division.specs.Runs.{reasonOf}
-use Rattle.division.proofs.Proposed.{Each}
 use Rattle.refusals.specs.Calls.{litGiven}
 use Rattle.calls.specs.Table.{codeOf, unsetIn, entered}
-use Rattle.calls.specs.Marks.{sign}
+use Rattle.calls.specs.Marks.{currentCode}
 use Rattle.calls.specs.Calls as calls
 use Rattle.calls.specs.Calls.{World}
 use Rattle.calls.specs.Refusals.{roomOf, Applies, First}
@@ -26,10 +25,19 @@ use Rattle.calls.specs.Truths.{Walked, Recorded, Analyzes, Backed}
 use Rattle.calls.specs.Claim.{addUpTo, tail, Covers}
 use Rattle.graph_division.specs.declared.Answer.{Answer}
 use Rattle.graph_division.specs.declared.Answer.the-variants.{Consistent, Conflict, Noted, Undone, Reason, Refused}
+use Rattle.graph_division.specs.New.{built}
 use Rattle.graph_division.specs.Answers.{numberOf, isConsistent}
 use Rattle.graph_division.specs.Calls.{refuse}
 use Rattle.graph_division.specs.Runs.{Query, reasonFor, lastLeft, Request, initialize, propagate, undo, ask, tableOf, listOf, tailOf, Kept, logFor, Reply, replied, reply, keeping, after, callOf, callsOf}
+use Rattle.simulation.specs.Start.{statePlan, justBuilt}
 use Rattle.claims.specs.Whole.{literalsOf, Whole}
+
+-- "from the freshly built state": the state that is built of these numbers, with nothing in the log, and its plan
+abbrev pub builtStart : List ℤ → ℕ → List ℤ → ℕ → Bool → Bool → Kept
+builtStart vs n es m sameSize extraWalls = justBuilt (built vs n es m sameSize extraWalls)
+
+abbrev pub builtPlan : List ℤ → ℕ → List ℤ → ℕ → Bool → Bool → Plan
+builtPlan vs n es m sameSize extraWalls = statePlan (builtStart vs n es m sameSize extraWalls .state)
 
 -- an answer whose number is 0 is accepted: no refusal has that number
 unfoldable pub accepted : Answer → Bool
@@ -52,7 +60,7 @@ counted d k (q ∷ qs) ls = counted d (keeping (reply k q)) qs (pick (accepted (
 -- Document 01, "Value table": "A handed-on literal is one that was unset; its entry becomes 3 or 4."
 pub record HandsOn (k : Kept) (q : Request) (l : ℕ) : Type 0 where
   pub unset : unsetIn (tableOf q) l ≡ true
-  pub set : codeOf (reply k q .table) l ≡ sign l
+  pub set : codeOf (reply k q .table) l ≡ currentCode l
 
 -- a refused call or a query, as a fetch is
 pub data Quiet (k : Kept) : Request → Type 0 where

@@ -23,8 +23,9 @@ use Rattle.division.specs.Analysis.{analyzed}
 use Rattle.division.specs.Views.{weightOf, earlier, insert, sorted, cellsOf, membersOf, viewOf}
 use Rattle.division.proofs.Walk.{joined-below}
 use Rattle.division.proofs.Views.{sorted-every}
-use Rattle.division.proofs.Proposed.{IsConflict, isDisconnected, isOver, isUnder, isCrowded, isApart}
-use Rattle.division.proofs.Agree.{SameState, SameView, pick-same, lowest-same, analyzed-same, view-in-range}
+use Rattle.division.specs.Proposed.{IsConflict, isDisconnected, isOver, isUnder, isCrowded, isApart}
+use Rattle.division.specs.Agree.{SameState, SameView}
+use Rattle.division.proofs.Agree.{pick-same, lowest-same, analyzed-same, view-in-range}
 
 iter-same : {A : Type 0} (f g : ℕ → A → A) (n : ℕ) (a : A) → ((i : ℕ) → i < n → (x : A) → f i x ≡ g i x) → iter f n a ≡ iter g n a
 unfolding iter

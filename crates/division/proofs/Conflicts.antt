@@ -15,9 +15,9 @@ use Rattle.division.specs.Regions.{within, weightFrom}
 use Rattle.division.specs.State.{State, potential, Same, Near, decidedWeight, potentialWeight}
 use Rattle.division.specs.Reasons.{connectedPath, decidedRegion, potentialRegion}
 use Rattle.division.specs.Conflicts.{spans, sumLower, greedy, Conflict, conflictList}
-use Rattle.division.proofs.Together.{mark, graphOf, regionWeight, Computed}
-use Rattle.division.proofs.Noted.{Bounded}
-use Rattle.division.proofs.Proposed.{Spaced, IsConflict, isDisconnected, isOver, isUnder, isCrowded, isApart}
+use Rattle.division.specs.Together.{mark, graphOf, regionWeight, Computed}
+use Rattle.division.specs.Noted.{Bounded}
+use Rattle.division.specs.Proposed.{Spaced, IsConflict, isDisconnected, isOver, isUnder, isCrowded, isApart}
 use Rattle.division.proofs.Sums.{total-parts}
 use Rattle.division.proofs.Walk.{joined-below, within-joined, joined-within, weight-same}
 use Rattle.division.proofs.Sound.{path-sound, decided-weight, potential-from, potential-weight, low-sound, high-sound}

@@ -11,7 +11,7 @@ use Rattle.graph.specs.Paths.{Chain, here, there}
 use Rattle.division.specs.Plan.{Plan, Proper}
 use Rattle.division.specs.Division.{Region, further, RegionWeight, Valid}
 use Rattle.division.specs.Regions.{within, weightFrom}
-use Rattle.division.proofs.Together.{mark, graphOf, Together, regionWeight, Computed}
+use Rattle.division.specs.Together.{mark, graphOf, Together, regionWeight, Computed}
 use Rattle.division.proofs.Sums.{total-le}
 use Rattle.division.proofs.Walk.{within-joined, joined-within}
 use Rattle.division.proofs.Sound.{connected-fails, fails-connected}

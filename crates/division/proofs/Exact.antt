@@ -16,9 +16,9 @@ use Rattle.graph.specs.Search.{passes, isOpen}
 use Rattle.division.specs.Plan.{Plan, Proper, left, right}
 use Rattle.division.specs.State.{State, decided, potential, Same, decidedWeight, potentialWeight}
 use Rattle.division.specs.Conflicts.{Conflict}
-use Rattle.division.proofs.Together.{mark, graphOf, Together, regionWeight, Computed}
-use Rattle.division.proofs.Noted.{Lower, Upper, Noted}
-use Rattle.division.proofs.Proposed.{IsConflict, isDisconnected, isOver, isUnder, Full}
+use Rattle.division.specs.Together.{mark, graphOf, Together, regionWeight, Computed}
+use Rattle.division.specs.Noted.{Lower, Upper, Noted}
+use Rattle.division.specs.Proposed.{IsConflict, isDisconnected, isOver, isUnder, Full}
 use Rattle.division.proofs.Walk.{joined-map, weight-le}
 use Rattle.division.proofs.Sound.{connected-fails, fails-connected, rising-le, low-sound, high-sound}
 use Rattle.division.proofs.Conflicts.{conflict-sound}

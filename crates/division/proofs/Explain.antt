@@ -20,9 +20,9 @@ use Rattle.division.specs.Plan.{Plain, Plan, Proper, left, right}
 use Rattle.division.specs.Regions.{within, weightFrom}
 use Rattle.division.specs.State.{State, decided, potential, Same, decidedWeight, potentialWeight}
 use Rattle.division.specs.Reasons.{connectedLit, connectedPath, decidedRegion, Reason, listOf}
-use Rattle.division.proofs.Together.{mark, Together, regionWeight, Computed}
-use Rattle.division.proofs.Noted.{Bounded, Lower, Upper, Later}
-use Rattle.division.proofs.Explained.{mergedWeight, Explains, byInGroup, byBetween, byTooLarge, byLarge, bySmall, byMismatch, bySpreadLow, bySpreadHigh, bySameSize}
+use Rattle.division.specs.Together.{mark, Together, regionWeight, Computed}
+use Rattle.division.specs.Noted.{Bounded, Lower, Upper, Later}
+use Rattle.division.specs.Explained.{mergedWeight, Explains, byInGroup, byBetween, byTooLarge, byLarge, bySmall, byMismatch, bySpreadLow, bySpreadHigh, bySameSize}
 use Rattle.division.proofs.Sums.{total-le}
 use Rattle.division.proofs.Walk.{joined-map, within-joined, joined-within, weight-same, weight-le}
 use Rattle.division.proofs.Sound.{fails-together, path-sound, decided-sound, decided-weight, potential-weight, low-sound, high-sound, next-up}

@@ -15,10 +15,10 @@ use Rattle.division.specs.Plan.{Plain, Plan, Proper, left, right}
 use Rattle.division.specs.State.{State, Same}
 use Rattle.division.specs.Reasons.{connectedPath, decidedRegion, Reason, edgeInSameGroup, edgeBetweenDifferentGroups, tooLargeIfRegionsAreMerged, regionAlreadyLarge, regionAlreadySmall, inconsistentBoundsIfRegionsAreMerged, boundPropagationWithinRegion, adjacentSameSizeRegions, listOf}
 use Rattle.division.specs.Analysis.{place}
-use Rattle.division.proofs.Together.{Computed}
-use Rattle.division.proofs.Noted.{Lower, Upper, Bounded, Noted, Later}
-use Rattle.division.proofs.Explained.{Explains, byInGroup, byBetween, byTooLarge, byLarge, bySmall, byMismatch, bySpreadLow, bySpreadHigh, bySameSize}
-use Rattle.division.proofs.Proposed.{Between, Proposes, ruleInGroup, ruleBetween, ruleTooLarge, ruleLarge, ruleSmall, ruleMismatch, ruleSpreadLow, ruleSpreadHigh, ruleSameSize}
+use Rattle.division.specs.Together.{Computed}
+use Rattle.division.specs.Noted.{Lower, Upper, Bounded, Noted, Later}
+use Rattle.division.specs.Explained.{Explains, byInGroup, byBetween, byTooLarge, byLarge, bySmall, byMismatch, bySpreadLow, bySpreadHigh, bySameSize}
+use Rattle.division.specs.Proposed.{Between, Proposes, ruleInGroup, ruleBetween, ruleTooLarge, ruleLarge, ruleSmall, ruleMismatch, ruleSpreadLow, ruleSpreadHigh, ruleSameSize}
 use Rattle.division.proofs.Sound.{rising-le}
 use Rattle.division.proofs.Explain.{explain-sound, explain-later, false-sound, same-later}
 use Rattle.division.proofs.Stands.{path-stands, decided-stands, potential-stands}

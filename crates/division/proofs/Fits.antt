@@ -25,9 +25,10 @@ use Rattle.division.specs.Regions.{within}
 use Rattle.division.specs.State.{decided, State, potential, Same}
 use Rattle.division.specs.Reasons.{connectedPath, decidedRegion, leaves, potentialRegion, Reason, listOf}
 use Rattle.division.specs.Conflicts.{spans, Conflict, conflictList}
-use Rattle.division.proofs.Noted.{low-one, high-one, Bounded}
-use Rattle.division.proofs.Explained.{Explains, byInGroup, byBetween, byTooLarge, byLarge, bySmall, byMismatch, bySpreadLow, bySpreadHigh, bySameSize}
-use Rattle.division.proofs.Proposed.{Spaced, IsConflict, isDisconnected, isOver, isUnder, isCrowded, isApart}
+use Rattle.division.specs.Noted.{Bounded}
+use Rattle.division.proofs.Noted.{low-one, high-one}
+use Rattle.division.specs.Explained.{Explains, byInGroup, byBetween, byTooLarge, byLarge, bySmall, byMismatch, bySpreadLow, bySpreadHigh, bySameSize}
+use Rattle.division.specs.Proposed.{Spaced, IsConflict, isDisconnected, isOver, isUnder, isCrowded, isApart}
 use Rattle.division.proofs.Walk.{finds, joined-below}
 use Rattle.division.proofs.Sums.{total-parts}
 

@@ -17,8 +17,8 @@ use Rattle.division.specs.State.{stateOf, State, Same, decided, decidedW
 use Rattle.division.specs.Reasons.{edgeBetweenDifferentGroups, tooLargeIfRegionsAreMerged, inconsistentBoundsIfRegionsAreMerged}
 use Rattle.division.specs.Conflicts.{sumLower, greedy, disconnectedInside, over, under}
 use Rattle.division.specs.Analysis.{sameSize, sameSizeReason, parted, partsAt, place, View, Out, lid, rid, inside, matches, loose, matched, uncrossed, overfull, raises, merges, cuts, crowds, meets, parts, spreadsLow, spreadsHigh, spreads, best, forks}
-use Rattle.division.proofs.Noted.{Lower, Bounded}
-use Rattle.division.proofs.Proposed.{isDisconnected, isOver, isUnder, isCrowded, isApart, Between, Proposes, ruleInGroup, ruleBetween, ruleTooLarge, ruleLarge, ruleSmall, ruleMismatch, ruleSpreadLow, ruleSpreadHigh, Good, ruleSameSize}
+use Rattle.division.specs.Noted.{Lower, Bounded}
+use Rattle.division.specs.Proposed.{isDisconnected, isOver, isUnder, isCrowded, isApart, Between, Proposes, ruleInGroup, ruleBetween, ruleTooLarge, ruleLarge, ruleSmall, ruleMismatch, ruleSpreadLow, ruleSpreadHigh, Good, ruleSameSize}
 use Rattle.division.proofs.Shown.{Held, Shows}
 use Rattle.division.proofs.Sums.{total-most}
 use Rattle.division.proofs.Conflicts.{greedy-taken, greedy-every}

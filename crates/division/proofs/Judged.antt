@@ -11,10 +11,10 @@ use Rattle.sat.specs.Literal.{Holds}
 use Rattle.division.specs.Plan.{Plain, Plan, Proper, left, right}
 use Rattle.division.specs.State.{State, Same, decidedWeight, potentialWeight, stateOf}
 use Rattle.division.specs.Conflicts.{Conflict, conflictList}
-use Rattle.division.specs.Analysis.{View, Verdict, going, conflict, crossed, inside, matched, uncrossed, overfull, raises, merges, cuts, crowds, meets, parts, spreads, partsAt, begun, step1, step2, step3, step4, step5, analyzed}
-use Rattle.division.proofs.Together.{Computed}
-use Rattle.division.proofs.Noted.{Bounded, Noted}
-use Rattle.division.proofs.Proposed.{Full, nothing, Right, rightGoing, rightConflict, rightCrossed, rightZero, Good}
+use Rattle.division.specs.Analysis.{View, Verdict, going, conflict, crossed, inside, matched, uncrossed, overfull, raises, merges, cuts, crowds, meets, parts, spreads, partsAt, begun, step1, step2, step3, step4, step5, analyzed, nothing}
+use Rattle.division.specs.Together.{Computed}
+use Rattle.division.specs.Noted.{Bounded, Noted}
+use Rattle.division.specs.Proposed.{Full, Right, rightGoing, rightConflict, rightCrossed, rightZero, Good}
 use Rattle.division.proofs.Shown.{Shows}
 use Rattle.division.proofs.Sound.{low-sound, high-sound}
 use Rattle.division.proofs.Conflicts.{conflict-sound}

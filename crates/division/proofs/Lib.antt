@@ -1,8 +1,5 @@
 pub mod Noted
 pub mod Shown
-pub mod Explained
-pub mod Proposed
-pub mod Together
 pub mod Sums
 pub mod Walk
 pub mod Sound
@@ -21,7 +18,6 @@ pub mod Judged
 pub mod Views
 pub mod Whole
 pub mod Computes
-pub mod Plans
 pub mod Stale
 pub mod Labels
 pub mod Verdicts

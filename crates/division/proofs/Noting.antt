@@ -19,7 +19,7 @@ use Rattle.graph.proofs.Mark.{lt-cases}
 use Rattle.division.specs.Plan.{Plan}
 use Rattle.division.specs.State.{State}
 use Rattle.division.specs.Noting.{Bound, raise, lessen, turn, lowBound, highBound, noteOne, unnoted, noteAll, In, Consistent}
-use Rattle.division.proofs.Noted.{Lower, Upper, Noted}
+use Rattle.division.specs.Noted.{Lower, Upper, Noted}
 
 -- a lower bound on the way, after the first j entries were looked at
 record Raised (d : Plan) (l : ℕ) (ls : List ℕ) (v from j : ℕ) (a : Bound) : Type 0 where

@@ -16,9 +16,9 @@ use Rattle.division.specs.Plan.{Plan}
 use Rattle.division.specs.State.{State}
 use Rattle.division.specs.Reasons.{Reason}
 use Rattle.division.specs.Conflicts.{Conflict}
-use Rattle.division.specs.Analysis.{Verdict, going, conflict, crossed, zeroSize, Out, still, propose, ends, guarded, best}
+use Rattle.division.specs.Analysis.{Verdict, going, conflict, crossed, zeroSize, Out, still, propose, ends, guarded, best, also}
 use Rattle.division.specs.Regions.{lowest}
-use Rattle.division.proofs.Proposed.{IsConflict, Proposes, also, rightConflict, rightCrossed, rightZero, Good}
+use Rattle.division.specs.Proposed.{IsConflict, Proposes, rightConflict, rightCrossed, rightZero, Good}
 
 pub record Inv (d : Plan) (s : State) (F : Type 0) (o : Out) : Type 0 where
   pub good : Good d s o

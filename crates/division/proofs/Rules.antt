@@ -17,9 +17,10 @@ use Rattle.division.specs.Regions.{within, weightFrom}
 use Rattle.division.specs.State.{State, decided, Same, decidedWeight, stateOf}
 use Rattle.division.specs.Reasons.{Reason}
 use Rattle.division.specs.Analysis.{place}
-use Rattle.division.proofs.Noted.{low-one, high-one, Bounded, Noted}
-use Rattle.division.proofs.Explained.{mergedWeight, Explains, byInGroup, byBetween, byTooLarge, byLarge, bySmall, byMismatch, bySpreadLow, bySpreadHigh, bySameSize}
-use Rattle.division.proofs.Proposed.{Between, Proposes, ruleInGroup, ruleBetween, ruleTooLarge, ruleLarge, ruleSmall, ruleMismatch, ruleSpreadLow, ruleSpreadHigh, ruleSameSize, Full}
+use Rattle.division.specs.Noted.{Bounded, Noted}
+use Rattle.division.proofs.Noted.{low-one, high-one}
+use Rattle.division.specs.Explained.{mergedWeight, Explains, byInGroup, byBetween, byTooLarge, byLarge, bySmall, byMismatch, bySpreadLow, bySpreadHigh, bySameSize}
+use Rattle.division.specs.Proposed.{Between, Proposes, ruleInGroup, ruleBetween, ruleTooLarge, ruleLarge, ruleSmall, ruleMismatch, ruleSpreadLow, ruleSpreadHigh, ruleSameSize, Full}
 use Rattle.division.proofs.Sums.{total-le, total-parts}
 use Rattle.division.proofs.Walk.{within-joined}
 use Rattle.division.proofs.Sound.{rising-le}

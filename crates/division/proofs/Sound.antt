@@ -26,8 +26,8 @@ use Rattle.division.specs.Plan.{Plan, Proper, left, right}
 use Rattle.division.specs.Regions.{within, weightFrom}
 use Rattle.division.specs.State.{State, decided, potential, Same, Near, decidedWeight, potentialWeight}
 use Rattle.division.specs.Reasons.{connectedLit, connectedPath, decidedRegion, leaves, potentialRegion}
-use Rattle.division.proofs.Together.{mark, graphOf, Together, regionWeight, Computed}
-use Rattle.division.proofs.Noted.{Lower, Upper}
+use Rattle.division.specs.Together.{mark, graphOf, Together, regionWeight, Computed}
+use Rattle.division.specs.Noted.{Lower, Upper}
 use Rattle.division.proofs.Sums.{total-most}
 use Rattle.division.proofs.Walk.{joined-below, finds, within-joined, joined-within, weight-le}
 

@@ -20,9 +20,9 @@ use Rattle.division.specs.Analysis.{inside}
 use Rattle.division.specs.Noting.{noteAll}
 use Rattle.division.specs.Runs.{analysis}
 use Rattle.division.proofs.Divided.{computed-valid}
-use Rattle.division.proofs.Together.{mark, graphOf, Together, regionWeight, Computed}
+use Rattle.division.specs.Together.{mark, graphOf, Together, regionWeight, Computed}
 use Rattle.division.proofs.Walk.{joined-within}
-use Rattle.division.proofs.Plans.{planWith, plan, planG}
+use Rattle.division.specs.Plans.{planWith, plan, planG}
 use Rattle.division.proofs.Computes.{computes}
 
 abbrev domainsG : List (List ℕ)

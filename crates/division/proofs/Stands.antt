@@ -19,8 +19,8 @@ use Rattle.division.specs.Regions.{within}
 use Rattle.division.specs.State.{State, decided, Same, Near}
 use Rattle.division.specs.Reasons.{connectedLit, connectedPath, decidedRegion, leaves, potentialRegion}
 use Rattle.division.specs.Conflicts.{spans, Conflict, conflictList}
-use Rattle.division.proofs.Noted.{Noted}
-use Rattle.division.proofs.Proposed.{IsConflict, isDisconnected, isOver, isUnder, isCrowded, isApart}
+use Rattle.division.specs.Noted.{Noted}
+use Rattle.division.specs.Proposed.{IsConflict, isDisconnected, isOver, isUnder, isCrowded, isApart}
 use Rattle.division.proofs.Walk.{finds, joined-below}
 
 module _ (d : Plan) (Stands : ℕ → Type 0) (s : State) (k : Proper d) (n : Noted d Stands s) where

@@ -17,13 +17,13 @@ use Rattle.division.specs.Division.{Valid}
 use Rattle.division.specs.State.{State}
 use Rattle.division.specs.Reasons.{Reason}
 use Rattle.division.specs.Conflicts.{Conflict, conflictList}
-use Rattle.division.specs.Analysis.{going, conflict, Proposal}
+use Rattle.division.specs.Analysis.{going, conflict, Proposal, Each, nothing, also}
 use Rattle.division.specs.Noting.{noteAll, In, Consistent}
 use Rattle.division.specs.Views.{viewOf}
 use Rattle.division.specs.Runs.{analysis, Refutes, Justifies, reasonOf, Run, start, note, look}
 use Rattle.division.proofs.Divided.{valid-computed, computed-valid}
-use Rattle.division.proofs.Noted.{Noted}
-use Rattle.division.proofs.Proposed.{Proposes, Full, Each, nothing, also, Right, rightConflict, Good}
+use Rattle.division.specs.Noted.{Noted}
+use Rattle.division.specs.Proposed.{Proposes, Full, Right, rightConflict, Good}
 use Rattle.division.proofs.Conflicts.{conflict-sound}
 use Rattle.division.proofs.Stands.{conflict-stands}
 use Rattle.division.proofs.Rules.{silent, full-silent}

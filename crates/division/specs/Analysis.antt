@@ -41,9 +41,15 @@ pub data Verdict : Type 0 where
   -- refusal 13
   zeroSize : Verdict
 
+-- a literal and the reason for which it is proposed
 pub record Proposal : Type 0 where
   pub lit : ℕ
   pub why : Reason
+
+-- P holds of the literal and the reason of each proposal in a list
+pub data Each (P : ℕ → Reason → Type 0) : List Proposal → Type 0 where
+  nothing : Each P []
+  also : {x : Proposal} {l : List Proposal} → P (x .lit) (x .why) → Each P l → Each P (x ∷ l)
 
 -- the newest proposal first
 pub record Out : Type 0 where

@@ -9,3 +9,9 @@ pub mod Analysis
 pub mod Refusals
 pub mod Views
 pub mod Runs
+pub mod Agree
+pub mod Together
+pub mod Noted
+pub mod Explained
+pub mod Proposed
+pub mod Plans

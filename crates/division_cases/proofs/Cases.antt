@@ -10,7 +10,7 @@ use Rattle.division.specs.Analysis.{zeroSize, Verdict, going, conflict, crossed
 use Rattle.division.specs.Noting.{noteAll}
 use Rattle.division.specs.Runs.{analysis}
 use Rattle.division.proofs.Computes.{computes}
-use Rattle.division.proofs.Plans.{planWith, plan, planB, planD, planE, planG, planH, planS}
+use Rattle.division.specs.Plans.{planWith, plan, planB, planD, planE, planG, planH, planS}
 
 -- 0 and no list where the analysis goes on, 1 and the list of a conflict, 2 where bounds are crossed, 3 where a fixed size is 0
 code : Plan → List ℕ → Verdict → List ℕ

@@ -23,7 +23,7 @@ use Rattle.calls.specs.Calls as calls
 use Rattle.graph_division.specs.declared.Answer.the-variants.{Refused}
 use Rattle.graph_division.specs.New.{built}
 use Rattle.graph_division.specs.Runs.{Request, Kept, kept, reply, after}
-use Rattle.simulation.proofs.Running.{fresh}
+use Rattle.simulation.specs.Start.{justBuilt}
 use Rattle.claims.specs.Whole.{literalsOf, writtenOf}
 use Rattle.claims.specs.Conditions.{replyTo, outcomeTo, Condition1, Condition2, Condition3}
 use Rattle.claims.proofs.Built as claims
@@ -43,7 +43,7 @@ use Rattle.host_claims.proofs.Third.{bytes-condition}
 
 -- built by the host, with a cursor of zeros
 start-is : (vs : List ℤ) (n : ℕ) (es : List ℤ) (m : ℕ) (a b : ℤ) (before state log : List ℕ) → buildRefused vs n es m before ≡ false → BuiltIn vs n es m a b before state →
-    keptIn state (replicate 8 0) log ≡ fresh (built vs n es m (isOn a) (isOn b))
+    keptIn state (replicate 8 0) log ≡ justBuilt (built vs n es m (isOn a) (isOn b))
 unfolding cursorIn wordAt
 start-is vs n es m a b before state log r s = ap (λ x. kept x (record { used = 0; standing = 0 }) []) (s .is r)
 
@@ -74,7 +74,7 @@ unfolding inRange
 off = refl
 
 off-condition : (vs : List ℤ) (n : ℕ) (es : List ℤ) (m : ℕ) (a b : Bool) → a ≡ false → b ≡ false → built vs n es m a b .refusal ≡ 0 →
-    let k = fresh (built vs n es m a b) in Condition3 k (planOf (k .state .plan) (k .state .edges .ends))
+    let k = justBuilt (built vs n es m a b) in Condition3 k (planOf (k .state .plan) (k .state .edges .ends))
 off-condition vs n es m true b e f z = absurd (true≢false e)
 off-condition vs n es m false true e f z = absurd (true≢false f)
 off-condition vs n es m false false e f z = claims.condition-3 vs n es m z
@@ -83,7 +83,7 @@ module _ (vs : List ℤ) (n : ℕ) (es : List ℤ) (m : ℕ) (a b : ℤ) (before
   abbrev start : Kept
   start = keptIn state (replicate 8 0) log
 
-  start-fresh : start ≡ fresh (built vs n es m (isOn a) (isOn b))
+  start-fresh : start ≡ justBuilt (built vs n es m (isOn a) (isOn b))
   start-fresh = start-is vs n es m a b before state log (build-accepted vs n es m before c .1) s
 
   accepted : built vs n es m (isOn a) (isOn b) .refusal ≡ 0
@@ -95,7 +95,7 @@ module _ (vs : List ℤ) (n : ℕ) (es : List ℤ) (m : ℕ) (a b : ℤ) (before
 
   -- what holds of the built state and its plan holds of what the bytes stand for
   of-start : (P : Kept → Plan → Type 0) →
-      (let k = fresh (built vs n es m (isOn a) (isOn b)) in P k (planOf (k .state .plan) (k .state .edges .ends))) →
+      (let k = justBuilt (built vs n es m (isOn a) (isOn b)) in P k (planOf (k .state .plan) (k .state .edges .ends))) →
       P start (planOf (stateIn state .plan) (stateIn state .edges .ends))
   of-start P x = subst (λ (k : Kept). P k (planOf (k .state .plan) (k .state .edges .ends))) (sym start-fresh) x
 

@@ -41,7 +41,7 @@ use Rattle.byte_calls.specs.Stores.{putList}
 use Rattle.byte_calls.specs.Host.{Left, left, tooShort, hostInitialized, hostPropagated, Back, back, hostUndone, givenIn, hostReason, hostLast}
 use Rattle.byte_calls.proofs.Filling.{capped-most, capped-less}
 use Rattle.byte_calls.proofs.Leaving.{list-room}
-use Rattle.host_claims.specs.HostRuns.{keptIn, tailIn, LentFor, Said, said, hostAsked, HostMade, initializes, propagates, undoes, asks, AllHostMade, none, next, HostAnswers, ShortRefused}
+use Rattle.host_claims.specs.HostRuns.{keptIn, tailIn, LentFor, Said, saying, hostAsked, HostMade, initializes, propagates, undoes, asks, AllHostMade, none, next, HostAnswers, ShortRefused}
 use Rattle.host_claims.proofs.Signed.{up, up-negated, up-is}
 use Rattle.host_claims.proofs.Replies.{HostReplies, initialize-replies, propagate-replies, undo-code, undo-keeps, ask-replies, ask-table, ask-keeps, asked-given}
 
@@ -51,7 +51,7 @@ pub record Made (h : Kept) (q : Request) (list : List ℕ) (x : Said) (k′ : Ke
   pub keeps : k′ ≡ keeping (reply h q)
 
 made-left : (k h : Kept) (q : Request) (r : ℤ) (list state′ t′ list′ log′ cursor′ : List ℕ) (l : Left) → h ≡ k → left r t′ list′ log′ cursor′ ≡ l →
-    HostReplies h q list l state′ → Made k q list (said r t′ list′) (keptIn state′ cursor′ log′)
+    HostReplies h q list l state′ → Made k q list (saying r t′ list′) (keptIn state′ cursor′ log′)
 made-left k h q r list state′ t′ list′ log′ cursor′ l e f y =
     let z : HostReplies k q list (left r t′ list′ log′ cursor′) state′ =
     subst (λ (x : Kept). HostReplies x q list (left r t′ list′ log′ cursor′) state′) e (subst (λ (x : Left). HostReplies h q list x state′) (sym f) y) in

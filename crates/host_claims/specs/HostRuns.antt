@@ -14,7 +14,7 @@ use Rattle.division.specs.Division.{Valid, Describes}
 use Rattle.refusals.specs.Calls.{litGiven}
 use Rattle.calls.specs.Table.{unsetIn}
 use Rattle.calls.specs.Table as tables
-use Rattle.calls.specs.Marks.{sign}
+use Rattle.calls.specs.Marks.{currentCode}
 use Rattle.calls.specs.Claim.{Covers}
 use Rattle.graph_division.specs.declared.Outcome.{Outcome}
 use Rattle.graph_division.specs.declared.Answer.{Answer}
@@ -56,8 +56,8 @@ pub record Said : Type 0 where
   pub table : List ℕ
   pub list : List ℕ
 
-abbrev pub said : ℤ → List ℕ → List ℕ → Said
-said r table list = record { code = r; table = table; list = list }
+abbrev pub saying : ℤ → List ℕ → List ℕ → Said
+saying r table list = record { code = r; table = table; list = list }
 
 -- the two fetches
 unfoldable pub hostAsked : List ℕ → List ℕ → List ℕ → Query → List ℕ → Back
@@ -70,18 +70,18 @@ pub data HostMade (k : Kept) : Request → List ℕ → Said → Kept → Type 0
   initializes : (r : ℤ) (state t list log cursor state′ t′ list′ log′ cursor′ : List ℕ) → LentFor k state log cursor →
       left r t′ list′ log′ cursor′ ≡ hostInitialized state t list log cursor →
       Leaves (tooShort state cursor) (initializedIn state t list log cursor .outcome) state state′ →
-      HostMade k (initialize t (listIn list) (tailIn cursor log)) list (said r t′ list′) (keptIn state′ cursor′ log′)
+      HostMade k (initialize t (listIn list) (tailIn cursor log)) list (saying r t′ list′) (keptIn state′ cursor′ log′)
   propagates : (r lit pending : ℤ) (state t list log cursor state′ t′ list′ log′ cursor′ : List ℕ) → LentFor k state log cursor →
       left r t′ list′ log′ cursor′ ≡ hostPropagated state t list log cursor lit pending →
       Leaves (tooShort state cursor) (propagatedIn state t list log cursor lit pending .outcome) state state′ →
-      HostMade k (propagate lit pending t (listIn list) (tailIn cursor log)) list (said r t′ list′) (keptIn state′ cursor′ log′)
+      HostMade k (propagate lit pending t (listIn list) (tailIn cursor log)) list (saying r t′ list′) (keptIn state′ cursor′ log′)
   undoes : (r lit : ℤ) (state log cursor state′ cursor′ : List ℕ) → LentFor k state log cursor →
       back r cursor′ ≡ hostUndone state log cursor lit →
       Leaves (tooShort state cursor) (undoneIn state log cursor lit) state state′ →
-      HostMade k (undo lit (tailIn cursor log)) [] (said r [] []) (keptIn state′ cursor′ log)
+      HostMade k (undo lit (tailIn cursor log)) [] (saying r [] []) (keptIn state′ cursor′ log)
   asks : (r : ℤ) (q : Query) (state log cursor buffer buffer′ : List ℕ) → LentFor k state log cursor →
       back r buffer′ ≡ hostAsked state log cursor q buffer →
-      HostMade k (ask q (bufferIn buffer) (tailIn cursor log)) buffer (said r [] buffer′) (keptIn state cursor log)
+      HostMade k (ask q (bufferIn buffer) (tailIn cursor log)) buffer (saying r [] buffer′) (keptIn state cursor log)
 
 -- a list of them
 pub data AllHostMade : Kept → List Request → Kept → Type 0 where
@@ -135,7 +135,8 @@ pub record BytesCondition3 (start : Kept) (d : Plan) : Type 0 where
   -- "no call hands on a literal", which was unset and whose entry becomes 3 or 4, "that fails in a valid division where its reason, fetched
   -- before any later accepted call but a fetch, holds"
   pub handed : {qs amid : List Request} {k mid late end : Kept} {q : Request} {list b rest buffer : List ℕ} {x y : Said} {lit : ℤ} →
-      AllHostMade start qs k → HostMade k q list x mid → unsetIn (tableOf q) (litGiven lit) ≡ true → entryOf (x .table) (litGiven lit) ≡ sign (litGiven lit) →
+      AllHostMade start qs k → HostMade k q list x mid →
+      unsetIn (tableOf q) (litGiven lit) ≡ true → entryOf (x .table) (litGiven lit) ≡ currentCode (litGiven lit) →
       AllHostMade mid amid late → AllQuiet mid amid →
       HostMade late (ask (reasonFor lit) b rest) buffer y end → (n : ℕ) → y .code ≡ pos n →
       (σ : ℕ → Bool) → Valid d σ → Every (Holds σ) (literalsAt (y .list) n) → Holds σ (litGiven lit)

@@ -9,7 +9,7 @@ use Rattle.division.specs.Analysis.{Out, analyzed}
 use Rattle.division.specs.Noting.{noteAll, Consistent}
 use Rattle.division.specs.Runs.{analysis}
 use Rattle.division.specs.Views.{viewOf}
-use Rattle.division.proofs.Agree.{SameState}
+use Rattle.division.specs.Agree.{SameState}
 use Rattle.division.proofs.Alike.{analysis-same}
 use Rattle.plan.specs.Plan.{planOf}
 use Rattle.plan.specs.Proper.{ProperWords}
@@ -18,7 +18,9 @@ use Rattle.noting.specs.Words.{stateOf}
 use Rattle.noting.specs.Note.{Noting}
 use Rattle.noting.proofs.Distinct.{never-both}
 use Rattle.noting.proofs.Replaying.{standing-distinct}
-use Rattle.noting.proofs.Valid.{Valid, standingOf, valid-state}
+use Rattle.noting.specs.Standing.{standingOf}
+use Rattle.noting.specs.Good.{GoodLog as Valid}
+use Rattle.noting.proofs.Valid.{valid-state}
 use Rattle.reasons.specs.Verdicts.{ranOf}
 use Rattle.lists.specs.Within.{Held}
 use Rattle.analysis.specs.Placed.{placeOfLit}

@@ -19,7 +19,7 @@ use Rattle.division.specs.Noting.{noteAll}
 use Rattle.division.specs.Runs.{analysis}
 use Rattle.division.specs.Views.{viewOf}
 use Rattle.division.proofs.Alike.{within-same, conflict-same}
-use Rattle.division.proofs.Proposed.{IsConflict, isCrowded, Right, rightConflict}
+use Rattle.division.specs.Proposed.{IsConflict, isCrowded, Right, rightConflict}
 use Rattle.division.proofs.Whole.{conflicts}
 use Rattle.calls.specs.Look.{unjoined}
 use Rattle.calls.proofs.Fetchable.{good}

@@ -21,7 +21,8 @@ use Rattle.plan.specs.Words.{verticesOf, edgesOf, variablesOf, uniqueLitAt}
 use Rattle.plan.specs.Plan.{planOf}
 use Rattle.plan.specs.Proper.{ProperWords}
 use Rattle.noting.specs.Note.{Noting}
-use Rattle.noting.proofs.Valid.{Valid, standingOf}
+use Rattle.noting.specs.Standing.{standingOf}
+use Rattle.noting.specs.Good.{GoodLog as Valid}
 use Rattle.reasons.specs.Words.{stored}
 use Rattle.reasons.specs.Verdicts.{verdictOf, ranOf}
 use Rattle.analysis.specs.Relabel.{relabelled}

@@ -15,10 +15,11 @@ use Rattle.division.specs.Reasons.{Reason}
 use Rattle.division.specs.Noting.{noteAll, In, Consistent}
 use Rattle.division.specs.Runs.{analysis}
 use Rattle.division.proofs.Walk.{joined-within}
-use Rattle.division.proofs.Noted.{Lower, Upper}
+use Rattle.division.specs.Noted.{Lower, Upper}
 use Rattle.division.proofs.Noting.{noted-all}
 use Rattle.division.proofs.Fetch.{reason-explained}
-use Rattle.division.proofs.Proposed.{Proposes, ruleInGroup, ruleBetween, ruleTooLarge, ruleLarge, ruleSmall, ruleMismatch, ruleSpreadLow, ruleSpreadHigh, ruleSameSize, Each}
+use Rattle.division.specs.Analysis.{Each}
+use Rattle.division.specs.Proposed.{Proposes, ruleInGroup, ruleBetween, ruleTooLarge, ruleLarge, ruleSmall, ruleMismatch, ruleSpreadLow, ruleSpreadHigh, ruleSameSize}
 use Rattle.calls.specs.Table.{knows}
 use Rattle.calls.specs.Look.{unjoined, gone}
 use Rattle.calls.specs.Refusals.{Known, ofEdge, ofDomain}

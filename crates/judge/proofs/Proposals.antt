@@ -8,10 +8,9 @@ use mathlib.Core.Bool.{true}
 use lib.ListN.{length}
 use Rattle.base.specs.Iter.{pick}
 use Rattle.base.specs.Lists.{Every}
-use Rattle.division.specs.Analysis.{Verdict, Proposal}
+use Rattle.division.specs.Analysis.{Verdict, Proposal, Each, nothing, also}
 use Rattle.division.specs.Runs as runs
 use Rattle.division.specs.Runs.{analysis}
-use Rattle.division.proofs.Proposed.{Each, nothing, also}
 use Rattle.calls.specs.Look.{inOrder, offers}
 use Rattle.plan.specs.Words.{variablesOf, uniqueLitAt}
 use Rattle.plan.specs.Plan.{planOf}

@@ -9,7 +9,7 @@ use Rattle.division.specs.Reasons as abstract
 use Rattle.division.specs.Conflicts.{spans, Conflict, disconnectedInside, over, under, crowded, apart, conflictList}
 use Rattle.division.specs.Analysis as analysis
 use Rattle.division.proofs.Walk.{joined-within}
-use Rattle.division.proofs.Proposed.{IsConflict, isDisconnected, isOver, isUnder, isCrowded, isApart}
+use Rattle.division.specs.Proposed.{IsConflict, isDisconnected, isOver, isUnder, isCrowded, isApart}
 use Rattle.calls.specs.Look.{unjoined}
 use Rattle.plan.specs.Plan.{planOf}
 use Rattle.noting.specs.Words.{stateOf, litsOf, lowerLitOf, upperLitOf}

@@ -14,8 +14,8 @@ use Rattle.division.specs.State.{State}
 use Rattle.division.specs.Reasons as abstract
 use Rattle.division.proofs.Walk.{within-joined}
 use Rattle.division.proofs.Fits.{path-short, decided-short, decided-few, potential-short}
-use Rattle.division.proofs.Proposed.{Proposes, ruleInGroup, ruleBetween, ruleTooLarge, ruleLarge, ruleSmall, ruleMismatch, ruleSpreadLow, ruleSpreadHigh, ruleSameSize}
-use Rattle.division.proofs.Explained.{Explains, byInGroup, byBetween, byTooLarge, byLarge, bySmall, byMismatch, bySpreadLow, bySpreadHigh, bySameSize}
+use Rattle.division.specs.Proposed.{Proposes, ruleInGroup, ruleBetween, ruleTooLarge, ruleLarge, ruleSmall, ruleMismatch, ruleSpreadLow, ruleSpreadHigh, ruleSameSize}
+use Rattle.division.specs.Explained.{Explains, byInGroup, byBetween, byTooLarge, byLarge, bySmall, byMismatch, bySpreadLow, bySpreadHigh, bySameSize}
 use Rattle.calls.specs.Look.{unjoined, gone}
 use Rattle.plan.specs.Words.{verticesOf, edgesOf}
 use Rattle.plan.specs.Plan.{planOf}

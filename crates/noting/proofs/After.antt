@@ -1,6 +1,6 @@
 -- What stands in the noted words after an effect.
 use mathlib.Core.Path.{_≡_, refl, sym, subst, _∙_}
-use mathlib.Core.Logic.{_⊎_, ⊎-elim}
+use mathlib.Core.Logic.{⊎-elim}
 use mathlib.Core.Bool.{true}
 use mathlib.Core.List.{List}
 use Prim.Native.Nat.{ℕ, _+_, _-_, _/_, _%_, _≤_, _<_}
@@ -19,7 +19,8 @@ use Rattle.plan.specs.Proper.{ProperWords}
 use Rattle.noting.specs.declared.note.Effect.{Effect}
 use Rattle.noting.specs.Words.{edgeStateOf, boundAt}
 use Rattle.noting.specs.Note.{undoRecord, boundSet, edgeSet, applied}
-use Rattle.noting.proofs.Effects.{Effective, idle, edge, low, high, BoundsFit, slot-vertex}
+use Rattle.noting.specs.Ready.{Effective, idle, edge, low, high, BoundsFit, SizesFit}
+use Rattle.noting.proofs.Effects.{slot-vertex}
 
 -- what stands in a list after a store is what was stored or what stood there
 pub set-holds : (P : ℕ → Type 0) (m : List ℕ) (q r a : ℕ) → P a → P (getD m r 0) → P (getD (set m q a) r 0)
@@ -43,10 +44,6 @@ lits-fit P noted from v x l r f h pl pn =
     pick-ind (λ (z : List ℕ). P (getD z r 0)) (ltb v 64) _ _
     (λ t. let k = ltb-true v 64 t in set-holds P (set noted (from + v) x) (from + 128 + v) r l pl (subst P (sym (getD-set-other noted (from + v) r x 0 (λ (e : r ≡ from + v). omega arith))) pn))
     (λ _. pn)
-
--- the sizes that a slot in use may set fit a u32
-abbrev pub SizesFit : List ℕ → Type 0
-SizesFit ws = (s : ℕ) → usedSlot ws s ≡ true → s < 2048 → (domainOf ws (s / 32) (s % 32) < 4294967296) × (domainOf ws (s / 32) (s % 32 + 1) < 4294967296)
 
 pub sizes-fit : (ws : List ℕ) (ends : List (List ℕ)) → ProperWords ws ends → SizesFit ws
 unfolding usedSlot

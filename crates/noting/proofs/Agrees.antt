@@ -21,7 +21,8 @@ use Rattle.division.specs.Noting.{Bound}
 use Rattle.noting.specs.declared.note.Effect.{Effect}
 use Rattle.noting.specs.Words.{edgeStateOf, boundAt, lowerOf, upperOf, lowerLitOf, upperLitOf, litsOf}
 use Rattle.noting.specs.Note.{Noting, noting, effect, nothing, sizeEffect, edgeEffect, effectOf, boundSet, edgeSet, applied, noteSlot, isOf, levelPushed, noteLit}
-use Rattle.noting.proofs.Effects.{Effective, idle, edge, low, high, effective}
+use Rattle.noting.specs.Ready.{Effective, idle, edge, low, high}
+use Rattle.noting.proofs.Effects.{effective}
 use Rattle.noting.proofs.Block.{block, iter-same}
 
 -- the noted words after slot s

@@ -25,19 +25,13 @@ use Rattle.noting.specs.Words.{edgeStateOf, boundAt, fresh}
 use Rattle.noting.specs.Note.{Noting, noting, effect, nothing, sizeEffect, effectOf, undoRecord, boundSet, edgeSet, applied, pushedTo, noteSlot, levelPushed, placeIn, known, noteAt, note, isOf}
 use Rattle.noting.specs.Undo.{recordsOf, restored, undone, kept, undo}
 use Rattle.noting.specs.Replay.{edgeDiffers, vertexDiffers, notedDiffers}
-use Rattle.noting.proofs.Effects.{Effective, idle, edge, low, high, effective, slot-vertex}
+use Rattle.noting.specs.Ready.{Effective, idle, edge, low, high}
+use Rattle.noting.proofs.Effects.{effective, slot-vertex}
 use Rattle.noting.proofs.Indexed.{at-of}
 use Rattle.noting.proofs.Unnoted.{fresh-length, edge-word, low-word, high-word, low-lit-word, high-lit-word}
 use Rattle.noting.proofs.Logged.{known-place}
 use Rattle.noting.proofs.Differs.{same-edge, same-vertex}
-
--- the places of the plan's edges, and of its vertices' bounds and their literals
-abbrev pub Held : List ℕ → ℕ → Type 0
-Held ws i = (i < edgesOf ws) ⊎ ((128 ≤ i) × (i < 384) × ((i - 128) % 64 < verticesOf ws))
-
-pub record Alike (ws a b : List ℕ) : Type 0 where
-  pub long : length a ≡ length b
-  pub same : (i : ℕ) → Held ws i → getD a i 0 ≡ getD b i 0
+use Rattle.noting.specs.Alike.{UsedPlace, Alike, Twins}
 
 pub alike-trans : (ws a b c : List ℕ) → Alike ws a b → Alike ws b c → Alike ws a c
 alike-trans ws a b c p q = record { long = p .long ∙ q .long; same = λ i h. p .same i h ∙ q .same i h }
@@ -46,7 +40,7 @@ pub alike-sym : (ws a b : List ℕ) → Alike ws a b → Alike ws b a
 alike-sym ws a b p = record { long = sym (p .long); same = λ i h. sym (p .same i h) }
 
 -- a place that is held is an edge's, or one of a vertex's four
-by-part : (ws : List ℕ) (P : ℕ → Type 0) → ((g : ℕ) → g < edgesOf ws → P g) → ((from v : ℕ) → (from ≡ 128) ⊎ ((from ≡ 192) ⊎ ((from ≡ 256) ⊎ (from ≡ 320))) → v < verticesOf ws → v < 64 → P (from + v)) → (i : ℕ) → Held ws i → P i
+by-part : (ws : List ℕ) (P : ℕ → Type 0) → ((g : ℕ) → g < edgesOf ws → P g) → ((from v : ℕ) → (from ≡ 128) ⊎ ((from ≡ 192) ⊎ ((from ≡ 256) ⊎ (from ≡ 320))) → v < verticesOf ws → v < 64 → P (from + v)) → (i : ℕ) → UsedPlace ws i → P i
 by-part ws P f g i h = ⊎-elim (λ (a : i < edgesOf ws). f i a) (λ (a : (128 ≤ i) × (i < 384) × ((i - 128) % 64 < verticesOf ws)). part a) h
   where
     put : (from : ℕ) → (from ≡ 128) ⊎ ((from ≡ 192) ⊎ ((from ≡ 256) ⊎ (from ≡ 320))) → from ≤ i → i < from + 64 → i - from < verticesOf ws → P i
@@ -95,11 +89,6 @@ undone-alike : (ws a b : List ℕ) (rs : List Record) → Alike ws a b → Alike
 unfolding undone restored
 undone-alike ws a b [] p = p
 undone-alike ws a b (r ∷ rs) p = two (Alike ws) (eqb (r .kind) 0) p (undone-alike ws _ _ rs (applied-alike ws a b _ (r .lit) p))
-
-pub record Twins (ws : List ℕ) (x y : Noting) : Type 0 where
-  pub noted : Alike ws (x .noted) (y .noted)
-  pub log : x .log ≡ y .log
-  pub cursor : x .cursor ≡ y .cursor
 
 pub undo-twins : (ws : List ℕ) (x y : Noting) → Twins ws x y → Twins ws (undo x) (undo y)
 unfolding undo

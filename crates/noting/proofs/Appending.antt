@@ -3,7 +3,7 @@
 use mathlib.Core.Path.{_≡_, refl, sym, ap, ap₂, subst, _∙_}
 use mathlib.Core.Bool.{true, _&&_, true≢false, false≢true}
 use mathlib.Core.List.{List}
-use Prim.Native.Nat.{ℕ, zero, suc, _+_, _-_, _≤_, _<_}
+use Prim.Native.Nat.{ℕ, zero, suc, _+_, _≤_, _<_}
 use native.Mathlib.Omega.{arith}
 use lib.Dec.{eqb, ltb}
 use lib.ListN.{length, getD, set}
@@ -16,14 +16,11 @@ use Rattle.undo_log.specs.declared.Record.{Record}
 use Rattle.undo_log.specs.declared.Cursor.{Cursor}
 use Rattle.undo_log.specs.Log.{wordOf, pushWords}
 use Rattle.noting.specs.declared.note.Effect.{Effect}
-use Rattle.noting.specs.Note.{Noting, noting, effectOf, undoRecord, applied, pushedTo, noteSlot}
+use Rattle.noting.specs.Note.{Noting, noting, effectOf, undoRecord, applied, pushedTo, noteSlot, cursorAt}
 use Rattle.noting.specs.Replay.{Followed, followed, place, holdsAt, followSlot}
 use Rattle.noting.proofs.Pushing.{push-length}
 use Rattle.noting.proofs.UndoNote.{push-set, push-moves}
 use Rattle.noting.proofs.Prefix.{slot-was, Covers, loop-other}
-
-abbrev pub cursorAt : ℕ → ℕ → Cursor
-cursorAt a b = record { used = a; standing = b }
 
 -- a record that stands in the log is pushed there
 pub push-held : (log : List ℕ) (c : Cursor) (r : Record) → c .used < length log → getD log (c .used) 0 ≡ wordOf r → pushWords log c r ≡ log

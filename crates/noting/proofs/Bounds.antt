@@ -20,7 +20,8 @@ use Rattle.division.specs.Noting.{Bound}
 use Rattle.noting.specs.declared.note.Effect.{Effect}
 use Rattle.noting.specs.Words.{boundAt, lowerOf, upperOf, lowerLitOf, upperLitOf, litsOf}
 use Rattle.noting.specs.Note.{effect, nothing, sizeEffect, effectOf, boundSet, edgeSet, applied, isOf}
-use Rattle.noting.proofs.Effects.{Effective, idle, edge, low, high, effective}
+use Rattle.noting.specs.Ready.{Effective, idle, edge, low, high}
+use Rattle.noting.proofs.Effects.{effective}
 use Rattle.noting.proofs.Block.{block}
 use Rattle.noting.proofs.Agrees.{slotNoted, slot-noted-length, bound-other, bound-now, lit-now, edge-keeps}
 

@@ -14,16 +14,10 @@ use Rattle.base.proofs.Tests.{and-left}
 use Rattle.plan.specs.Words.{word, verticesOf, domainOf, litOf}
 use Rattle.plan.specs.Check.{usedSlot}
 use Rattle.noting.specs.declared.note.Effect.{Effect}
-use Rattle.noting.specs.Words.{edgeStateOf, boundAt, lowerOf, upperOf, lowerLitOf, upperLitOf}
-use Rattle.noting.specs.Note.{effect, nothing, sizeEffect, edgeEffect, effectOf, undoRecord, boundSet, edgeSet, applied}
+use Rattle.noting.specs.Words.{edgeStateOf, boundAt, lowerOf, upperOf}
+use Rattle.noting.specs.Note.{sizeEffect, edgeEffect, effectOf, undoRecord, boundSet, edgeSet, applied}
 use Rattle.noting.specs.Undo.{restored}
-
--- slot s has no effect, decides an edge, or tightens a bound
-pub data Effective (ws noted : List ℕ) (l s : ℕ) : Effect → Type 0 where
-  idle : Effective ws noted l s nothing
-  edge : 2048 ≤ s → s < 2176 → Effective ws noted l s (effect 1 (s - 2048) (pick (eqb (litOf ws s) l) 1 2))
-  low : s < 2048 → lowerOf noted (s / 32) < domainOf ws (s / 32) (s % 32 + 1) → Effective ws noted l s (effect 2 (s / 32) (domainOf ws (s / 32) (s % 32 + 1)))
-  high : s < 2048 → domainOf ws (s / 32) (s % 32) < upperOf noted (s / 32) → Effective ws noted l s (effect 3 (s / 32) (domainOf ws (s / 32) (s % 32)))
+use Rattle.noting.specs.Ready.{Effective, idle, edge, low, high, BoundsFit}
 
 pub effective : (ws noted : List ℕ) (l s : ℕ) → Effective ws noted l s (effectOf ws noted l s)
 unfolding effectOf sizeEffect edgeEffect
@@ -66,13 +60,6 @@ module _ (noted : List ℕ) where
       pick-ind (λ (n : ℕ). n ≡ 0 → pick (ltb g 128) (set (pick (ltb g 128) (set noted g x) noted) g 0) (pick (ltb g 128) (set noted g x) noted) ≡ noted) (ltb g 128) (word noted g) 0
       (λ y e. pick-yes _ _ y ∙ ap (λ (z : List ℕ). set z g 0) (pick-yes _ _ y) ∙ ap (λ (n : ℕ). set (set noted g x) g n) (sym e) ∙ set-back g x)
       (λ n _. pick-no _ _ n ∙ pick-no _ _ n)
-
--- the vertices' bounds fit their words, and what they are due to are literals, or none
-pub record BoundsFit (ws noted : List ℕ) : Type 0 where
-  pub lower : (v : ℕ) → v < verticesOf ws → v < 64 → lowerOf noted v < 4294967296
-  pub upper : (v : ℕ) → v < verticesOf ws → v < 64 → upperOf noted v < 4294967296
-  pub lowerLit : (v : ℕ) → v < verticesOf ws → v < 64 → lowerLitOf noted v < 65536
-  pub upperLit : (v : ℕ) → v < verticesOf ws → v < 64 → upperLitOf noted v < 65536
 
 -- a size literal's slot is a vertex's
 pub slot-vertex : (ws : List ℕ) (s : ℕ) → usedSlot ws s ≡ true → s < 2048 → s / 32 < verticesOf ws

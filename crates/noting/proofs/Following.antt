@@ -21,8 +21,9 @@ use Rattle.noting.specs.Note.{Noting, effectOf, undoRecord, applied, not
 use Rattle.noting.specs.Undo.{recordsOf}
 use Rattle.noting.specs.Standing.{standing}
 use Rattle.noting.specs.Replay.{Followed, followed, place, holdsAt, followSlot}
-use Rattle.noting.proofs.Effects.{effective, BoundsFit}
-use Rattle.noting.proofs.After.{SizesFit, applied-bounds, record-fits}
+use Rattle.noting.specs.Ready.{BoundsFit, SizesFit}
+use Rattle.noting.proofs.Effects.{effective}
+use Rattle.noting.proofs.After.{applied-bounds, record-fits}
 use Rattle.noting.proofs.Agrees.{slot-words, applied-length, idle-applied}
 use Rattle.noting.proofs.Prefix.{slot-was}
 

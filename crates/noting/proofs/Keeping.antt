@@ -13,18 +13,21 @@ use Rattle.undo_log.specs.Log.{wordOf, pushWords}
 use Rattle.plan.specs.Words.{startAt, occurrenceAt}
 use Rattle.plan.specs.Proper.{ProperWords}
 use Rattle.noting.specs.Words.{fresh}
-use Rattle.noting.specs.Note.{Noting, noting, boundary, oneMore, levelPushed, placeIn, known, noteAt, note}
+use Rattle.noting.specs.Note.{Noting, noting, boundary, oneMore, levelPushed, placeIn, known, noteAt, note, cursorAt}
 use Rattle.noting.specs.Undo.{undo}
 use Rattle.noting.specs.Standing.{standing, hasVariable}
 use Rattle.noting.specs.Replay.{Followed, followed, place, followAt, logBad}
 use Rattle.noting.specs.Buffers.{logShort}
 use Rattle.noting.proofs.Pushing.{push-length}
 use Rattle.noting.proofs.UndoNote.{push-set, push-moves}
-use Rattle.noting.proofs.Undoing.{occurrences, undo-note}
-use Rattle.noting.proofs.Logged.{Logged, one-on, logged-other, logged-length, logged-good, zeros-length}
-use Rattle.noting.proofs.Appending.{cursorAt, push-held, loop-over, loop-adds}
+use Rattle.noting.specs.Ready.{occurrences}
+use Rattle.noting.proofs.Undoing.{undo-note}
+use Rattle.noting.specs.Logged.{Logged}
+use Rattle.noting.proofs.Logged.{one-on, logged-other, logged-length, logged-good, zeros-length}
+use Rattle.noting.proofs.Appending.{push-held, loop-over, loop-adds}
 use Rattle.noting.proofs.Passing.{logged-passes}
-use Rattle.noting.proofs.Alike.{Alike, fresh-alike, alike-same}
+use Rattle.noting.specs.Alike.{Alike}
+use Rattle.noting.proofs.Alike.{fresh-alike, alike-same}
 use Rattle.noting.proofs.Readying.{ready}
 
 -- a notification's first record, with room

@@ -1,6 +1,6 @@
--- The logs that noting gives: notifications of known literals one after another, no two of one variable.
+-- What holds of the logs that noting gives.
 use mathlib.Core.Path.{_≡_, refl, sym, ap, subst, _∙_}
-use mathlib.Core.Bool.{true, false}
+use mathlib.Core.Bool.{true}
 use mathlib.Core.List.{List, [], _∷_}
 use Prim.Native.Nat.{ℕ, _+_, _-_, _/_, _≤_, _<_}
 use native.Mathlib.Omega.{arith}
@@ -10,27 +10,20 @@ use lib.ListN.{length, getD, replicate, length-replicate}
 use borrow.Author.Tests.{ltb-true, eqb-true}
 use Rattle.base.specs.Iter.{pick}
 use Rattle.base.proofs.Tests.{and-left, and-right}
-use Rattle.undo_log.specs.Log.{wordOf}
 use Rattle.plan.specs.Words.{variablesOf, variableAt, startAt, occurrenceAt}
 use Rattle.plan.specs.Check.{usedSlot}
 use Rattle.plan.specs.Proper.{ProperWords}
 use Rattle.noting.specs.Words.{fresh}
 use Rattle.noting.specs.Note.{noting, boundary, placeIn, known, isOf}
 use Rattle.noting.specs.Undo.{recordsOf}
-use Rattle.noting.specs.Standing.{standing, hasVariable}
+use Rattle.noting.specs.Standing.{standing}
 use Rattle.noting.specs.Replay.{Followed, followed, place, followAt}
 use Rattle.noting.proofs.After.{sizes-fit}
 use Rattle.noting.proofs.Unnoted.{fresh-length, fresh-bounds}
 use Rattle.noting.proofs.Indexed.{at-of}
 use Rattle.noting.proofs.Prefix.{Covers, loop-on, loop-other}
 use Rattle.noting.proofs.Following.{Good, standing-next, loop-goes}
-
--- Noting the literals afresh, the newest first in the list, gives the log's first words, as many as the number says, and
--- the noted words.
-pub data Logged (ws log : List ℕ) : List ℕ → ℕ → List ℕ → Type 0 where
-  none : Logged ws log [] 0 (fresh ws (replicate 384 0))
-  one : {ls : List ℕ} {at : ℕ} {noted : List ℕ} {l to : ℕ} {after : List ℕ} → Logged ws log ls at noted → known ws (l / 2) ≡ true → hasVariable (l / 2) ls ≡ false → getD log at 0 ≡ wordOf (boundary l) →
-      followAt ws log to l (placeIn ws (l / 2)) (followed noted (place true (at + 1))) ≡ followed after (place true to) → Logged ws log (l ∷ ls) to after
+use Rattle.noting.specs.Logged.{Logged}
 
 module _ (ws log : List ℕ) (used l k : ℕ) (y : Followed) where
   pub follow-on : (y .place .at ≤ followAt ws log used l k y .place .at) × (followAt ws log used l k y .place .at ≤ y .place .at + (startAt ws (k + 1) - startAt ws k))

@@ -19,7 +19,7 @@ use Rattle.plan.specs.Check.{usedSlot}
 use Rattle.plan.specs.Plan.{planOf}
 use Rattle.plan.specs.Proper.{ProperWords}
 use Rattle.division.specs.Noting.{Bound, raise, lessen, turn, noteOne}
-use Rattle.division.proofs.Agree.{SameState}
+use Rattle.division.specs.Agree.{SameState}
 use Rattle.noting.specs.declared.note.Effect.{Effect}
 use Rattle.noting.specs.Words.{edgeStateOf, stateOf}
 use Rattle.noting.specs.Note.{Noting, effect, edgeEffect, edgeSet, effectOf, applied, isOf, levelPushed, note, noteLit}

@@ -19,11 +19,11 @@ use Rattle.plan.specs.Words.{variableAt}
 use Rattle.plan.specs.Proper.{ProperWords}
 use Rattle.noting.specs.Words.{fresh}
 use Rattle.noting.specs.Note.{boundary, placeIn, known}
-use Rattle.noting.specs.Standing.{standing, hasVariable}
+use Rattle.noting.specs.Standing.{standing, hasVariable, AllKnown}
 use Rattle.noting.specs.Replay.{Replayed, replayed, place, marked, setMark, litAt, replayLevel, replay, notedDiffers, afresh, logBad}
 use Rattle.noting.proofs.Follow.{opens-known, level-past, level-yes}
-use Rattle.noting.proofs.Logged.{Logged, one-on, one-other, logged-length, logged-good, known-place, known-small, zeros-length}
-use Rattle.noting.proofs.Distinct.{AllKnown}
+use Rattle.noting.specs.Logged.{Logged}
+use Rattle.noting.proofs.Logged.{one-on, one-other, logged-length, logged-good, known-place, known-small, zeros-length}
 use Rattle.noting.proofs.Room.{logged-known}
 
 -- the marks that replaying the literals leaves

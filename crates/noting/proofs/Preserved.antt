@@ -11,18 +11,19 @@ use Rattle.base.proofs.Loop.{tested}
 use Rattle.base.proofs.Tests.{not-false}
 use Rattle.undo_log.specs.declared.Cursor.{Cursor}
 use Rattle.plan.specs.Proper.{ProperWords}
-use Rattle.noting.specs.Note.{Noting, noting, known, note}
+use Rattle.noting.specs.Note.{Noting, noting, known, note, cursorAt}
 use Rattle.noting.specs.Undo.{recordsOf, undo}
 use Rattle.noting.specs.Standing.{standing, hasVariable, newest, notNewest}
 use Rattle.noting.specs.Replay.{afresh, logBad}
 use Rattle.noting.specs.Buffers.{logShort}
 use Rattle.noting.proofs.UndoNote.{records-same}
-use Rattle.noting.proofs.Logged.{Logged, known-small, logged-other, logged-length, logged-good}
-use Rattle.noting.proofs.Appending.{cursorAt}
+use Rattle.noting.specs.Logged.{Logged}
+use Rattle.noting.proofs.Logged.{known-small, logged-other, logged-length, logged-good}
 use Rattle.noting.proofs.Replaying.{parts, counts, log-fits, passed-logged}
 use Rattle.noting.proofs.Room.{room}
 use Rattle.noting.proofs.Passing.{logged-passes}
-use Rattle.noting.proofs.Alike.{Alike, Twins, undo-twins, same-alike, alike-same, note-twins}
+use Rattle.noting.specs.Alike.{Alike, Twins}
+use Rattle.noting.proofs.Alike.{undo-twins, same-alike, alike-same, note-twins}
 use Rattle.noting.proofs.Keeping.{Grown, grown, Shrunk, shrunk}
 
 -- what lies past the records in the log does not change what stands

@@ -18,18 +18,17 @@ use Rattle.plan.specs.Plan.{planOf}
 use Rattle.plan.specs.Check.{usedSlot}
 use Rattle.plan.specs.Proper.{ProperWords}
 use Rattle.division.specs.Noting.{noteAll, In}
-use Rattle.division.proofs.Noted.{Noted}
+use Rattle.division.specs.Noted.{Noted}
 use Rattle.noting.specs.Words.{edgeStateOf}
 use Rattle.noting.specs.Note.{noting, known, isOf}
 use Rattle.noting.specs.Undo.{recordsOf}
 use Rattle.noting.specs.Standing.{standing, hasVariable}
 use Rattle.noting.specs.Replay.{edgeDiffers, vertexDiffers, notedDiffers, afresh, logBad}
 use Rattle.noting.specs.Buffers.{logShort}
-use Rattle.noting.proofs.Effects.{BoundsFit}
+use Rattle.noting.specs.Ready.{BoundsFit, Ready}
 use Rattle.noting.proofs.After.{sizes-fit}
 use Rattle.noting.proofs.Vertex.{negate-other}
 use Rattle.noting.proofs.Noted.{edge-lit}
-use Rattle.noting.proofs.Undoing.{Ready}
 use Rattle.noting.proofs.Logged.{known-small, logged-good, logged-length}
 use Rattle.noting.proofs.Differs.{state-word, same-vertex}
 use Rattle.noting.proofs.Distinct.{member-variable}

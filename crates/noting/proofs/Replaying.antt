@@ -24,23 +24,24 @@ use Rattle.plan.specs.Proper.{ProperWords}
 use Rattle.division.specs.Plan.{Plan}
 use Rattle.division.specs.State.{State}
 use Rattle.division.specs.Noting.{noteOne, noteAll, In}
-use Rattle.division.proofs.Agree.{SameState}
+use Rattle.division.specs.Agree.{SameState}
 use Rattle.division.proofs.Alike.{note-same}
-use Rattle.division.proofs.Noted.{Noted}
+use Rattle.division.specs.Noted.{Noted}
 use Rattle.division.proofs.Noting.{noted-all}
 use Rattle.noting.specs.Words.{litsOf, stateOf, fresh}
 use Rattle.noting.specs.Note.{Noting, noting, boundary, levelPushed, placeIn, known, noteAt, note}
 use Rattle.noting.specs.Undo.{recordsOf}
-use Rattle.noting.specs.Standing.{standing, hasVariable}
+use Rattle.noting.specs.Standing.{standing, hasVariable, OneEach, none, one, AllKnown}
 use Rattle.noting.specs.Replay.{Followed, followed, place, Replayed, replayed, marked, setMark, litAt, opens, followAt, replayLevel, replay, edgeDiffers, vertexDiffers, notedDiffers, afresh, logBad}
 use Rattle.noting.proofs.Differs.{state-word, same-edge, same-vertex}
-use Rattle.noting.proofs.Distinct.{Distinct, none, one, AllKnown, never-both}
+use Rattle.noting.proofs.Distinct.{never-both}
 use Rattle.noting.proofs.After.{sizes-fit}
 use Rattle.noting.proofs.Indexed.{one-place}
 use Rattle.noting.proofs.Noted.{note-agrees}
 use Rattle.noting.proofs.Unnoted.{fresh-agrees}
 use Rattle.noting.proofs.Following.{Good, standing-next, Goes, loop-goes}
-use Rattle.noting.proofs.Logged.{Logged, follow-other, zeros-length, zeros-good, occurrences-used}
+use Rattle.noting.specs.Logged.{Logged}
+use Rattle.noting.proofs.Logged.{follow-other, zeros-length, zeros-good, occurrences-used}
 
 pub same-trans : (d : Plan) (s t u : State) → SameState d s t → SameState d t u → SameState d s u
 same-trans d s t u a b = record {
@@ -62,7 +63,7 @@ module _ (ws : List ℕ) (ends : List (List ℕ)) (p : ProperWords ws ends) (log
     state : SameState (planOf ws ends) (stateOf (x .follow .noted)) (noteAll (planOf ws ends) (ls (x .follow .place .at)))
     down : x .follow .place .at ≤ used
     far : (i ≤ x .follow .place .at) ⊎ (used ≤ x .follow .place .at)
-    distinct : Distinct (ls (x .follow .place .at))
+    distinct : OneEach (ls (x .follow .place .at))
     knows : AllKnown ws (ls (x .follow .place .at))
     room : length (x .marks) ≡ 2176
     free : (k : ℕ) → k < variablesOf ws → marked (x .marks) k ≡ false → hasVariable (variableAt ws k) (ls (x .follow .place .at)) ≡ false
@@ -163,7 +164,7 @@ module _ (ws : List ℕ) (ends : List (List ℕ)) (p : ProperWords ws ends) (log
           state = subst (λ (m : List ℕ). SameState (planOf ws ends) (stateOf (z .noted)) (noteAll (planOf ws ends) m)) (sym after) state-next;
           down = goes .down;
           far = ⊎-elim (λ (a : i ≤ at). inl (omega (arith, goes .up))) (λ (a : used ≤ at). absurd (omega arith)) (st .far);
-          distinct = subst Distinct (sym after) (one fresh-variable (st .distinct));
+          distinct = subst OneEach (sym after) (one fresh-variable (st .distinct));
           knows = subst (AllKnown ws) (sym after) (AllKnown.one is-known (st .knows));
           room = pick-ind (λ (m : List ℕ). length m ≡ 2176) (ltb k 2176) _ _ (λ _. length-set (x .marks) k 1 ∙ st .room) (λ _. st .room);
           free = λ j a b. subst (λ (m : List ℕ). hasVariable (variableAt ws j) m ≡ false) (sym after) (free-next j a b);
@@ -213,7 +214,7 @@ module _ (ws : List ℕ) (ends : List (List ℕ)) (p : ProperWords ws ends) (log
   }
 
   pub record Stands (noted : List ℕ) : Type 0 where
-    pub distinct : Distinct (ls used)
+    pub distinct : OneEach (ls used)
     pub known : AllKnown ws (ls used)
     pub state : SameState (planOf ws ends) (stateOf noted) (noteAll (planOf ws ends) (ls used))
     pub logged : Logged ws log (ls used) used noted
@@ -225,7 +226,7 @@ module _ (ws : List ℕ) (ends : List (List ℕ)) (p : ProperWords ws ends) (log
       let x = iter (λ _ y. replayLevel ws log used y) used (replayed (replicate 2176 0) (fresh ws (replicate 384 0)) (place true 0)) in
       let e : x .follow .place .at ≡ used = ⊎-elim (λ (a : used ≤ x .follow .place .at). omega (arith, st .down)) (λ (a : used ≤ x .follow .place .at). omega (arith, st .down)) (st .far) in
       record {
-        distinct = subst (λ (n : ℕ). Distinct (ls n)) e (st .distinct);
+        distinct = subst (λ (n : ℕ). OneEach (ls n)) e (st .distinct);
         known = subst (λ (n : ℕ). AllKnown ws (ls n)) e (st .knows);
         state = subst (λ (n : ℕ). SameState (planOf ws ends) (stateOf (x .follow .noted)) (noteAll (planOf ws ends) (ls n))) e (st .state);
         logged = subst (λ (n : ℕ). Logged ws log (ls n) n (x .follow .noted)) e (st .logged);
@@ -272,7 +273,7 @@ module _ (ws : List ℕ) (ends : List (List ℕ)) (p : ProperWords ws ends) (not
   passed-logged = replayed-stands .logged
 
   -- no two standing literals are of one variable, so never both signs
-  pub standing-distinct : Distinct now
+  pub standing-distinct : OneEach now
   standing-distinct = replayed-stands .distinct
 
   pub standing-known : AllKnown ws now

@@ -17,12 +17,12 @@ use Rattle.plan.specs.Words.{variablesOf, slotsOf, variableAt, startAt}
 use Rattle.plan.specs.Proper.{ProperWords}
 use Rattle.noting.specs.Note.{placeIn, known}
 use Rattle.noting.specs.Undo.{recordsOf}
-use Rattle.noting.specs.Standing.{standing, hasVariable}
+use Rattle.noting.specs.Standing.{standing, hasVariable, OneEach, AllKnown}
 use Rattle.noting.specs.Replay.{logBad}
 use Rattle.noting.specs.Buffers.{logShort}
-use Rattle.noting.proofs.Undoing.{occurrences}
-use Rattle.noting.proofs.Logged.{Logged, one-on, known-place}
-use Rattle.noting.proofs.Distinct.{Distinct, AllKnown}
+use Rattle.noting.specs.Ready.{occurrences}
+use Rattle.noting.specs.Logged.{Logged}
+use Rattle.noting.proofs.Logged.{one-on, known-place}
 use Rattle.noting.proofs.Replaying.{passed-logged}
 
 -- the occurrences of all the literals' variables, and of those whose place is below n
@@ -34,9 +34,9 @@ unfoldable placed : List ℕ → ℕ → List ℕ → ℕ
 placed ws n [] = 0
 placed ws n (l ∷ ls) = pick (ltb (placeIn ws (l / 2)) n) (occurrences ws (l / 2)) 0 + placed ws n ls
 
-pub logged-distinct : (ws log : List ℕ) {ls : List ℕ} {at : ℕ} {noted : List ℕ} → Logged ws log ls at noted → Distinct ls
-logged-distinct ws log Logged.none = Distinct.none
-logged-distinct ws log (Logged.one x k h b f) = Distinct.one h (logged-distinct ws log x)
+pub logged-distinct : (ws log : List ℕ) {ls : List ℕ} {at : ℕ} {noted : List ℕ} → Logged ws log ls at noted → OneEach ls
+logged-distinct ws log Logged.none = OneEach.none
+logged-distinct ws log (Logged.one x k h b f) = OneEach.one h (logged-distinct ws log x)
 
 pub logged-known : (ws log : List ℕ) {ls : List ℕ} {at : ℕ} {noted : List ℕ} → Logged ws log ls at noted → AllKnown ws ls
 logged-known ws log Logged.none = AllKnown.none
@@ -71,10 +71,10 @@ module _ (ws : List ℕ) (ends : List (List ℕ)) (p : ProperWords ws ends) wher
           (le-or-lt n (placeIn ws (l / 2)))
 
   -- at most one literal's place is n
-  placed-more : (n : ℕ) (ls : List ℕ) → Distinct ls → AllKnown ws ls → placed ws (suc n) ls ≤ placed ws n ls + (startAt ws (suc n) - startAt ws n)
+  placed-more : (n : ℕ) (ls : List ℕ) → OneEach ls → AllKnown ws ls → placed ws (suc n) ls ≤ placed ws n ls + (startAt ws (suc n) - startAt ws n)
   unfolding placed
-  placed-more n [] Distinct.none AllKnown.none = omega arith
-  placed-more n (l ∷ ls) (Distinct.one h d) (AllKnown.one k a) =
+  placed-more n [] OneEach.none AllKnown.none = omega arith
+  placed-more n (l ∷ ls) (OneEach.one h d) (AllKnown.one k a) =
       let (_, e) = known-place ws ends p (l / 2) k in
       ⊎-elim
       (λ (q : placeIn ws (l / 2) ≡ n).
@@ -102,7 +102,7 @@ module _ (ws : List ℕ) (ends : List (List ℕ)) (p : ProperWords ws ends) wher
   placed-none [] = refl
   placed-none (l ∷ ls) = ap₂ (λ (i j : ℕ). i + j) (pick-no _ _ (le-ltb (placeIn ws (l / 2)) 0 (omega arith))) (placed-none ls)
 
-  placed-few : (n : ℕ) (ls : List ℕ) → n ≤ variablesOf ws → Distinct ls → AllKnown ws ls → placed ws n ls ≤ startAt ws n
+  placed-few : (n : ℕ) (ls : List ℕ) → n ≤ variablesOf ws → OneEach ls → AllKnown ws ls → placed ws n ls ≤ startAt ws n
   placed-few zero ls h d a = omega (arith, placed-none ls)
   placed-few (suc n) ls h d a = let s = p .listed n (omega arith) .some in omega (arith, placed-few n ls (omega arith) d a, placed-more n ls d a)
 
@@ -111,7 +111,7 @@ module _ (ws : List ℕ) (ends : List (List ℕ)) (p : ProperWords ws ends) wher
   placed-all [] AllKnown.none = refl
   placed-all (l ∷ ls) (AllKnown.one k a) = ap₂ (λ (i j : ℕ). i + j) (pick-yes _ _ (lt-ltb _ _ (known-place ws ends p (l / 2) k .0))) (placed-all ls a)
 
-  whole-few : (ls : List ℕ) → Distinct ls → AllKnown ws ls → whole ws ls ≤ slotsOf ws
+  whole-few : (ls : List ℕ) → OneEach ls → AllKnown ws ls → whole ws ls ≤ slotsOf ws
   whole-few ls d a = omega (arith, placed-all ls a, placed-few (variablesOf ws) ls (omega arith) d a, p .end)
 
   whole-many : (ls : List ℕ) → AllKnown ws ls → length ls ≤ whole ws ls
@@ -138,7 +138,7 @@ module _ (ws : List ℕ) (ends : List (List ℕ)) (p : ProperWords ws ends) wher
       let a = logged-known ws log x in
       let d = logged-distinct ws log x in
       let m = ltb-false (length log) (2 * slotsOf ws) long in
-      omega (arith, logged-few log x, whole-few (l ∷ ls) (Distinct.one h d) (AllKnown.one k a), whole-many (l ∷ ls) (AllKnown.one k a))
+      omega (arith, logged-few log x, whole-few (l ∷ ls) (OneEach.one h d) (AllKnown.one k a), whole-many (l ∷ ls) (AllKnown.one k a))
 
 -- There is room in the log wherever refusals 7, 9 and 10 do not apply.
 pub room : (ws : List ℕ) (ends : List (List ℕ)) → ProperWords ws ends → (noted log : List ℕ) (c : Cursor) → logBad ws noted log c ≡ false → logShort ws (length log) ≡ false →

@@ -21,8 +21,9 @@ use Rattle.noting.specs.declared.note.Effect.{Effect}
 use Rattle.noting.specs.Words.{edgeStateOf}
 use Rattle.noting.specs.Note.{Noting, noting, effectOf, undoRecord, applied, pushedTo, noteSlot}
 use Rattle.noting.specs.Undo.{recordsOf, restored, undone, kept}
-use Rattle.noting.proofs.Effects.{Effective, effective, BoundsFit, restore-applied}
-use Rattle.noting.proofs.After.{SizesFit, applied-bounds, applied-edge, record-fits}
+use Rattle.noting.specs.Ready.{Effective, BoundsFit, SizesFit}
+use Rattle.noting.proofs.Effects.{effective, restore-applied}
+use Rattle.noting.proofs.After.{applied-bounds, applied-edge, record-fits}
 use Rattle.noting.proofs.Pushing.{push-length}
 
 -- what stands past the records does not matter

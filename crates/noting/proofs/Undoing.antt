@@ -16,28 +16,13 @@ use Rattle.undo_log.specs.Log.{pushWords}
 use Rattle.plan.specs.Words.{variablesOf, variableAt, startAt, occurrenceAt}
 use Rattle.plan.specs.Check.{usedSlot}
 use Rattle.plan.specs.Proper.{ProperWords}
-use Rattle.noting.specs.Words.{edgeStateOf}
 use Rattle.noting.specs.Note.{Noting, noting, noteSlot, boundary, oneMore, levelPushed, placeIn, known, noteAt, note, isOf}
 use Rattle.noting.specs.Undo.{recordsOf, undone, kept, undo}
-use Rattle.noting.proofs.Effects.{BoundsFit}
-use Rattle.noting.proofs.After.{SizesFit}
+use Rattle.noting.specs.Ready.{occurrences, Ready}
 use Rattle.noting.proofs.Pushing.{push-length}
 use Rattle.noting.proofs.Back.{records-length}
 use Rattle.noting.proofs.UndoNote.{At, all, push-moves, records-push}
 use Rattle.noting.proofs.Indexed.{at-rising, at-of}
-
--- how many occurrences variable x has
-unfoldable pub occurrences : List ℕ → ℕ → ℕ
-occurrences ws x = pick (known ws x) (startAt ws (placeIn ws x + 1) - startAt ws (placeIn ws x)) 0
-
--- what a literal wants to be noted: room in the log, and that its edges are undecided
-pub record Ready (ws : List ℕ) (l : ℕ) (x : Noting) : Type 0 where
-  pub lit : l < 65536
-  pub sizes : SizesFit ws
-  pub bounds : BoundsFit ws (x .noted)
-  pub room : x .cursor .used + 1 + occurrences ws (l / 2) ≤ length (x .log)
-  pub counted : x .cursor .standing ≤ x .cursor .used
-  pub undecided : (s : ℕ) → isOf ws (l / 2) s ≡ true → 2048 ≤ s → edgeStateOf (x .noted) (s - 2048) ≡ 0
 
 module _ (ws : List ℕ) (l : ℕ) (x : Noting) (r : Ready ws l x) where
   abbrev y : Noting

@@ -16,9 +16,9 @@ use Rattle.plan.specs.Words.{verticesOf, edgesOf, domainLenOf, domainOf}
 use Rattle.plan.specs.Plan.{planOf}
 use Rattle.plan.specs.Proper.{ProperWords}
 use Rattle.division.specs.Noting.{unnoted}
-use Rattle.division.proofs.Agree.{SameState}
+use Rattle.division.specs.Agree.{SameState}
 use Rattle.noting.specs.Words.{boundAt, litsOf, stateOf, capped, firstSize, lastSize, fresh}
-use Rattle.noting.proofs.Effects.{BoundsFit}
+use Rattle.noting.specs.Ready.{BoundsFit}
 
 capped-is : (n m : ℕ) → n ≤ m → capped n m ≡ n
 unfolding capped

@@ -7,45 +7,35 @@ use lib.ListN.{length}
 use Rattle.plan.specs.Plan.{planOf}
 use Rattle.plan.specs.Proper.{ProperWords}
 use Rattle.division.specs.Noting.{noteAll}
-use Rattle.division.proofs.Agree.{SameState}
+use Rattle.division.specs.Agree.{SameState}
 use Rattle.noting.specs.Words.{stateOf, fresh}
-use Rattle.noting.specs.Note.{Noting, noting, known, note}
+use Rattle.noting.specs.Note.{Noting, noting, known, note, cursorAt}
 use Rattle.noting.specs.Undo.{recordsOf, undo}
-use Rattle.noting.specs.Standing.{standing, hasVariable, notNewest}
+use Rattle.noting.specs.Standing.{standing, hasVariable, notNewest, standingOf}
 use Rattle.noting.specs.Replay.{logBad}
 use Rattle.noting.specs.Buffers.{logShort}
 use Rattle.noting.proofs.Undoing.{undo-note}
 use Rattle.noting.proofs.Unnoted.{fresh-length}
-use Rattle.noting.proofs.Appending.{cursorAt}
 use Rattle.noting.proofs.Replaying.{state-stands}
 use Rattle.noting.proofs.Readying.{ready}
 use Rattle.noting.proofs.Keeping.{fresh-passes}
 use Rattle.noting.proofs.Preserved.{newest-stands, note-log-length, note-noted-length, note-standing, note-passes, undo-log, undo-noted-length, undo-standing, undo-passes}
-
--- what a call is lent passes refusal 7: log, cursor and noted words, and the log's length
-pub record Valid (ws : List ℕ) (x : Noting) : Type 0 where
-  pub words : length (x .noted) ≡ 384
-  pub passes : logBad ws (x .noted) (x .log) (x .cursor) ≡ false
-  pub long : logShort ws (length (x .log)) ≡ false
-
--- the standing literals, the newest first
-abbrev pub standingOf : Noting → List ℕ
-standingOf x = standing (recordsOf (x .log) (x .cursor .used))
+use Rattle.noting.specs.Good.{GoodLog}
 
 module _ (ws : List ℕ) (ends : List (List ℕ)) (p : ProperWords ws ends) where
   -- nothing noted: any log of the length that refusal 7 asks for
-  pub fresh-valid : (noted log : List ℕ) → length noted ≡ 384 → logShort ws (length log) ≡ false → Valid ws (noting (fresh ws noted) log (cursorAt 0 0)) × (standingOf (noting (fresh ws noted) log (cursorAt 0 0)) ≡ [])
+  pub fresh-valid : (noted log : List ℕ) → length noted ≡ 384 → logShort ws (length log) ≡ false → GoodLog ws (noting (fresh ws noted) log (cursorAt 0 0)) × (standingOf (noting (fresh ws noted) log (cursorAt 0 0)) ≡ [])
   unfolding recordsOf standing
   fresh-valid noted log len long = (record { words = fresh-length ws noted len ends p; passes = fresh-passes ws ends p noted log len; long = long }, refl)
 
-  module _ (x : Noting) (v : Valid ws x) where
+  module _ (x : Noting) (v : GoodLog ws x) where
     -- the state is what the standing literals give
     pub valid-state : SameState (planOf ws ends) (stateOf (x .noted)) (noteAll (planOf ws ends) (standingOf x))
     valid-state = state-stands ws ends p (x .noted) (x .log) (x .cursor) (v .passes)
 
     -- a literal that refusals 9 and 10 leave is noted
     module _ (l : ℕ) (k : known ws (l / 2) ≡ true) (n : hasVariable (l / 2) (standingOf x) ≡ false) where
-      pub note-valid : Valid ws (note ws l x) × (standingOf (note ws l x) ≡ l ∷ standingOf x)
+      pub note-valid : GoodLog ws (note ws l x) × (standingOf (note ws l x) ≡ l ∷ standingOf x)
       note-valid = (
         record {
           words = note-noted-length ws ends p (x .noted) (x .log) (x .cursor) (v .passes) (v .words) (v .long) l k n;
@@ -60,7 +50,7 @@ module _ (ws : List ℕ) (ends : List (List ℕ)) (p : ProperWords ws ends) wher
       note-undone = undo-note ws l x (ready ws ends p (x .noted) (x .log) (x .cursor) (v .passes) (v .long) l k n) ends p
 
     -- the literal that refusals 9 and 11 leave is undone
-    pub undo-valid : (l : ℕ) (ls : List ℕ) → standingOf x ≡ l ∷ ls → Valid ws (undo x) × (standingOf (undo x) ≡ ls)
+    pub undo-valid : (l : ℕ) (ls : List ℕ) → standingOf x ≡ l ∷ ls → GoodLog ws (undo x) × (standingOf (undo x) ≡ ls)
     undo-valid l ls s =
         let e = undo-log ws ends p (x .noted) (x .log) (x .cursor) (v .passes) (v .words) (v .long) l ls s in (
           record {

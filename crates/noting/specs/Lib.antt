@@ -4,3 +4,7 @@ pub mod Undo
 pub mod Standing
 pub mod Replay
 pub mod Buffers
+pub mod Good
+pub mod Logged
+pub mod Alike
+pub mod Ready

@@ -70,6 +70,10 @@ pub record Noting : Type 0 where
 abbrev pub noting : List ℕ → List ℕ → Cursor → Noting
 noting noted log cursor = record { noted = noted; log = log; cursor = cursor }
 
+-- the cursor with a records used and b notifications standing
+abbrev pub cursorAt : ℕ → ℕ → Cursor
+cursorAt a b = record { used = a; standing = b }
+
 -- the cursor after a push; a full log keeps it
 unfoldable pub pushedTo : List ℕ → Cursor → Cursor
 pushedTo log c = pick (hasRoom log c) (movedTo c (c .used + 1)) c

@@ -12,9 +12,9 @@ use Rattle.base.proofs.Loop.{pick-yes, pick-no, pick-ind, tested}
 use Rattle.division.specs.Plan.{Plan, Proper}
 use Rattle.division.specs.State.{State}
 use Rattle.division.specs.Reasons as abstract
-use Rattle.division.specs.Analysis.{Proposal}
+use Rattle.division.specs.Analysis.{Proposal, Each, nothing, also}
 use Rattle.division.specs.Runs as runs
-use Rattle.division.proofs.Proposed.{Proposes, ruleInGroup, ruleBetween, ruleTooLarge, ruleLarge, ruleSmall, ruleMismatch, ruleSpreadLow, ruleSpreadHigh, ruleSameSize, Each, nothing, also}
+use Rattle.division.specs.Proposed.{Proposes, ruleInGroup, ruleBetween, ruleTooLarge, ruleLarge, ruleSmall, ruleMismatch, ruleSpreadLow, ruleSpreadHigh, ruleSameSize}
 use Rattle.reasons.specs.Words.{put, stored, firstWord, secondWord}
 use Rattle.reasons.specs.Reason.{reasonOf, meaning, OneLit, Fits}
 use Rattle.reasons.proofs.Back.{meaning-back}

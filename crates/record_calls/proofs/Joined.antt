@@ -20,7 +20,7 @@ use Rattle.lent_log.specs.Records.{loaded, saved}
 use Rattle.noting.specs.Note.{Noting, noting, note, known}
 use Rattle.noting.specs.Undo.{recordsOf, undo, kept}
 use Rattle.noting.specs.Undo.{undone as takenBack}
-use Rattle.noting.specs.Standing.{standing, hasVariable, notNewest}
+use Rattle.noting.specs.Standing.{standing, hasVariable, notNewest, standingOf}
 use Rattle.noting.specs.Buffers.{listShort, tableBad, reasonShort}
 use Rattle.noting.proofs.UndoNote.{records-same}
 use Rattle.refusals.specs.Refusals.{stateBad, tableStateBad, unknownLit, litNumber, literalRefusal, initializeRefusal, propagateRefusal, undoRefusal, fetchRefusal}
@@ -37,7 +37,8 @@ use Rattle.graph_division.specs.Initialize.{notedAt, notedUpTo, takenOver, taki
 use Rattle.record_calls.specs.Reach.{reaches}
 use Rattle.record_calls.proofs.Loaded.{loaded-length, loaded-in, saved-is, saved-none}
 use Rattle.refusals.proofs.Accepted.{propagate-accepted, initialize-accepted}
-use Rattle.noting.proofs.Valid.{Valid, standingOf, note-valid}
+use Rattle.noting.specs.Good.{GoodLog as Valid}
+use Rattle.noting.proofs.Valid.{note-valid}
 use Rattle.plan.specs.Proper.{ProperWords}
 use Rattle.walks.specs.Written.{outOf, written}
 use Rattle.calls.specs.Table.{trueIn}
@@ -47,7 +48,7 @@ use Rattle.notifications.specs.Notifications.{litAt, Way, way, stopping, isDue,
 use Rattle.record_calls.proofs.Entering.{lit-known, lit-is, lit-other, Free, Came, gone-came}
 use Rattle.noting.proofs.Logged.{logged-length}
 use Rattle.noting.proofs.Replaying.{passed-logged, counts, log-fits}
-use Rattle.noting.proofs.Undoing.{occurrences}
+use Rattle.noting.specs.Ready.{occurrences}
 use Rattle.noting.proofs.Room.{room}
 use Rattle.plan.specs.Words.{word, startAt, variablesOf, uniqueLitAt}
 use Rattle.noting.specs.Note.{placeIn}

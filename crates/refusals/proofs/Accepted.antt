@@ -13,9 +13,9 @@ use Rattle.base.proofs.Tests.{or-none, and-right, not-false}
 use Rattle.undo_log.specs.declared.Cursor.{Cursor}
 use Rattle.plan.specs.Proper.{ProperWords}
 use Rattle.noting.specs.Note.{noting, known}
-use Rattle.noting.specs.Standing.{hasVariable, notNewest}
+use Rattle.noting.specs.Standing.{hasVariable, notNewest, standingOf}
 use Rattle.noting.specs.Buffers.{tableBad, listShort, reasonShort}
-use Rattle.noting.proofs.Valid.{Valid, standingOf}
+use Rattle.noting.specs.Good.{GoodLog as Valid}
 use Rattle.refusals.specs.Refusals.{stateBad, tableStateBad, litNumber, unknownLit, literalRefusal, initializeRefusal, propagateRefusal, undoRefusal, fetchRefusal}
 use Rattle.refusals.specs.Calls.{litGiven}
 use Rattle.refusals.proofs.Standing.{newest-there}

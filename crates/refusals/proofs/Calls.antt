@@ -13,9 +13,8 @@ use Rattle.plan.specs.Plan.{planOf}
 use Rattle.division.specs.Plan.{Plan}
 use Rattle.division.specs.Runs.{reasonOf}
 use Rattle.noting.specs.Note.{noting}
-use Rattle.noting.specs.Standing.{notNewest}
+use Rattle.noting.specs.Standing.{notNewest, standingOf}
 use Rattle.noting.specs.Buffers.{reasonShort}
-use Rattle.noting.proofs.Valid.{standingOf}
 use Rattle.calls.specs.Table.{knows, badTable, entered}
 use Rattle.calls.specs.Calls.{World, Query, reasonFor, Answer, noted, refused, Outcome, refuse, taken, adding, settled, Going, entry, propagateAll, finishBy, giveReason, answerTo, tell, onInitialize, onPropagate, onUndo, onAsk}
 use Rattle.refusals.specs.Refusals.{stateBad, literalRefusal, initializeRefusal, propagateRefusal, undoRefusal, fetchRefusal}

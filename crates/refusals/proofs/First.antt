@@ -16,7 +16,7 @@ use Rattle.plan.specs.Plan.{planOf}
 use Rattle.division.specs.Plan.{Plan}
 use Rattle.noting.specs.Note.{noting}
 use Rattle.noting.specs.Buffers.{reasonShort}
-use Rattle.noting.proofs.Valid.{standingOf}
+use Rattle.noting.specs.Standing.{standingOf}
 use Rattle.calls.specs.Table.{knows, variables, tooHigh, badTable}
 use Rattle.calls.specs.Calls.{World, Query, reasonFor, lastLeft, Call, initialize, propagate, undo, ask, accepted, Outcome, refuse, answerTo, tell, call}
 use Rattle.calls.specs.Refusals.{roomOf, BadTable, Stops, at12, at13, at14, AppliesTo, Applies, First}

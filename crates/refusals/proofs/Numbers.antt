@@ -14,9 +14,8 @@ use Rattle.undo_log.specs.declared.Cursor.{Cursor}
 use Rattle.plan.specs.Plan.{planOf}
 use Rattle.plan.specs.Proper.{ProperWords}
 use Rattle.noting.specs.Note.{noting, known}
-use Rattle.noting.specs.Standing.{hasVariable, notNewest}
+use Rattle.noting.specs.Standing.{hasVariable, notNewest, standingOf}
 use Rattle.noting.specs.Buffers.{tableBad, listShort, reasonShort}
-use Rattle.noting.proofs.Valid.{standingOf}
 use Rattle.calls.specs.Table.{knows, badTable}
 use Rattle.calls.specs.Calls.{World, taken}
 use Rattle.refusals.specs.Refusals.{stateBad, tableStateBad, litNumber, unknownLit, literalRefusal, initializeRefusal, propagateRefusal, undoRefusal, fetchRefusal}

@@ -13,7 +13,7 @@ use Rattle.plan.proofs.Passes.{passes}
 use Rattle.noting.specs.Note.{noting}
 use Rattle.noting.specs.Replay.{logBad}
 use Rattle.noting.specs.Buffers.{logShort}
-use Rattle.noting.proofs.Valid.{Valid}
+use Rattle.noting.specs.Good.{GoodLog as Valid}
 use Rattle.refusals.specs.Refusals.{stateBad}
 
 module _ (ws : List ℕ) (ends : List (List ℕ)) (noted log : List ℕ) (c : Cursor) where

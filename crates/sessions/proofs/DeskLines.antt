@@ -21,7 +21,7 @@ use Rattle.refusals.specs.Calls.{litGiven}
 use Rattle.refusals.proofs.Numbers.{number-inside, given-outside}
 use Rattle.calls.specs.Table.{unsetIn, enter}
 use Rattle.calls.specs.Calls as calls
-use Rattle.calls.specs.Calls.{World}
+use Rattle.calls.specs.Calls.{World, answerList}
 use Rattle.calls.specs.Lines as lines
 use Rattle.calls.specs.Marks.{Marked}
 use Rattle.calls.proofs.View.{Did, away, added, agreed, clashed, took, asked, began, beganLast, beganClash, did}
@@ -37,8 +37,7 @@ use Rattle.graph_division.specs.Calls.{Called, Fetched, propagated, undone, rea
 use Rattle.graph_division.specs.Initialize.{initialized}
 use Rattle.graph_division.specs.Runs as runs
 use Rattle.graph_division.specs.Runs.{Request, initialize, propagate, undo, Query, reasonFor, lastLeft, ask, tableOf, tailOf, Kept, kept, logFor, Reply, replied, repliedCalled, repliedFetched, reply, keeping, roomFor, callOf}
-use Rattle.simulation.proofs.Running.{valuesFor, RepresentsKept, Replies}
-use Rattle.calls.proofs.Claim.{listIn}
+use Rattle.simulation.specs.Represents.{valuesFor, RepresentsKept, Replies}
 use Rattle.claims.proofs.Replying.{At, reply-at, next-at}
 use Rattle.claims.proofs.Past.{reply-log}
 use Rattle.sessions.specs.Follow.{bytesOf}
@@ -49,7 +48,7 @@ use Rattle.text.specs.declared.Line.the-variants.{O, P, G, «V», I, N, U, R, R
 use Rattle.plan.specs.Plan.{planOf}
 use Rattle.calls.specs.Table.{knows}
 use Rattle.refusals.proofs.Known.{outside-unknown}
-use Rattle.simulation.proofs.Represents.{planIn}
+use Rattle.simulation.specs.Start.{statePlan}
 
 -- ---- what is printed, by what a call did
 module _ (d : Plan) (w : World) where
@@ -72,13 +71,13 @@ module _ (d : Plan) (w : World) where
   back-bytes (away c n) l = refl
   back-bytes (took room m x xs e) l = refl
 
-  asked-bytes : {q : calls.Query} (a : calls.Answer) → Answered d w q a → (l : List ℕ) → take (length (listIn a)) l ≡ listIn a → lineOf (answerOf (calls.tell w a)) l ≡ bytesOf (lines.print a [])
-  unfolding lineOf letterOf numbersIn valuesOf answerOf answerFor bytesOf lines.print pick calls.tell listIn
+  asked-bytes : {q : calls.Query} (a : calls.Answer) → Answered d w q a → (l : List ℕ) → take (length (answerList a)) l ≡ answerList a → lineOf (answerOf (calls.tell w a)) l ≡ bytesOf (lines.print a [])
+  unfolding lineOf letterOf numbersIn valuesOf answerOf answerFor bytesOf lines.print pick calls.tell answerList
   asked-bytes a (denied n p x y) l e = subst (λ (z : calls.Answer). lineOf (answerOf (calls.tell w z)) l ≡ bytesOf (lines.print z [])) (sym p) refl
-  asked-bytes a (given ls p x) l e = subst (λ (z : calls.Answer). take (length (listIn z)) l ≡ listIn z → lineOf (answerOf (calls.tell w z)) l ≡ bytesOf (lines.print z [])) (sym p) (λ f. ap (answerLine 82) f) e
+  asked-bytes a (given ls p x) l e = subst (λ (z : calls.Answer). take (length (answerList z)) l ≡ answerList z → lineOf (answerOf (calls.tell w z)) l ≡ bytesOf (lines.print z [])) (sym p) (λ f. ap (answerLine 82) f) e
 
-  ask-bytes : {room : Bool} {q : calls.Query} {o : calls.Outcome} → Did d w (calls.ask room q) o → (l : List ℕ) → take (length (listIn (o .answer))) l ≡ listIn (o .answer) → lineOf (answerOf o) l ≡ bytesOf (lines.print (o .answer) (o .handed))
-  unfolding lineOf letterOf numbersIn valuesOf answerOf answerFor bytesOf lines.print pick calls.refuse calls.tell listIn
+  ask-bytes : {room : Bool} {q : calls.Query} {o : calls.Outcome} → Did d w (calls.ask room q) o → (l : List ℕ) → take (length (answerList (o .answer))) l ≡ answerList (o .answer) → lineOf (answerOf o) l ≡ bytesOf (lines.print (o .answer) (o .handed))
+  unfolding lineOf letterOf numbersIn valuesOf answerOf answerFor bytesOf lines.print pick calls.refuse calls.tell answerList
   ask-bytes (away c n) l e = refl
   ask-bytes (asked room q) l e = asked-bytes _ (answer-judged d w q) l e
 

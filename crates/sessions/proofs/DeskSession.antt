@@ -1,6 +1,6 @@
 -- The bytes of a whole session are those of the lines of crate calls, from the plan that is built. So what is shown of the latter is shown of the
 -- program.
-use mathlib.Core.Path.{_≡_, refl, sym, ap, ap₂, subst, _∙_}
+use mathlib.Core.Path.{_≡_, refl, sym, ap, subst, _∙_}
 use mathlib.Core.Bool.{Bool, true, false, not}
 use mathlib.Core.List.{List, [], _∷_, _++_, append-assoc, append-nil}
 use Prim.Native.Nat.{ℕ, suc}
@@ -8,21 +8,20 @@ use native.Mathlib.Omega.{arith}
 use lib.Dec.{eqb}
 use borrow.Author.Tests.{ne-eqb}
 use lib.IntN.{ℤ, pos}
-use lib.ListN.{length, drop, set, replicate, length-replicate, length-set}
+use lib.ListN.{length, drop, set, length-replicate, length-set}
 use Rattle.base.specs.Iter.{pick}
 use Rattle.base.specs.Range.{inRange}
 use Rattle.base.proofs.Loop.{pick-yes, pick-no, tested}
 use Rattle.division.specs.Plan.{Plan}
 use Rattle.refusals.specs.Calls.{litGiven}
 use Rattle.calls.specs.Calls as calls
-use Rattle.calls.specs.Calls.{World}
 use Rattle.calls.specs.Lines as lines
 use Rattle.calls.specs.Claim.{aQuery}
 use Rattle.calls.proofs.Stands.{quiet-same}
 use Rattle.text.specs.declared.Line.{Line}
 use Rattle.text.specs.declared.Line.the-variants.{O, P, G, «V», I, N, U, R, RLast, Malformed}
 use Rattle.graph_division.specs.New.{built}
-use Rattle.simulation.proofs.Represents.{planIn}
+use Rattle.simulation.specs.Start.{statePlan}
 use Rattle.simulation.proofs.Running.{fresh-represents}
 use Rattle.claims.proofs.Replying.{At}
 use Rattle.text.specs.Fields.{linesOf}
@@ -30,12 +29,11 @@ use Rattle.text.specs.Lines.{readLine}
 use Rattle.text.specs.Input.{wellFormed}
 use Rattle.text_writer.specs.Written.{answerLine}
 use Rattle.plan_lines.specs.Lines.{Reading, takenLines}
-use Rattle.graph_division.specs.declared.Built.{Built}
 use Rattle.desk.specs.declared.start.Started.{Started}
 use Rattle.desk.specs.Start.{noVertices, noEdges, builtOf, startedBy, malformed, started}
 use Rattle.desk.specs.Session.{atFirst, spoken, session}
-use Rattle.desk.specs.Obey.{Desk, desk, Turn, turn, valued, begun, notified, takenBack, reasonAsked, lastAsked, obeyed}
-use Rattle.sessions.specs.Follow.{bytesOf, said, follow, followAll}
+use Rattle.desk.specs.Obey.{Desk, desk, Turn, turn, valued, notified, obeyed}
+use Rattle.sessions.specs.Follow.{bytesOf, said, follow, followAll, begin}
 use Rattle.sessions.proofs.DeskLines.{keptOf, Stands, Turns, init-turns, told-turns, undo-turns, why-bytes-are, last-bytes-are}
 
 module _ (d : Plan) where
@@ -98,14 +96,10 @@ module _ (d : Plan) where
       ∙ ap (λ (m : List ℕ). m ++ spoken ls (t .desk)) (y .says)
       ∙ append-assoc (said (a .printed)) (t .bytes) (spoken ls (t .desk))
 
--- what the lines of crate calls begin with: a table of 4096 zeros, as the program has it
-abbrev pub begin : lines.Desk
-begin = record { world = calls.built; table = replicate 4096 0; printed = [] }
-
 -- from a plan that is built
 module _ (vs : List ℤ) (n : ℕ) (es : List ℤ) (m : ℕ) (p e : Bool) (z : built vs n es m p e .refusal ≡ 0) where
   abbrev plan : Plan
-  plan = planIn (built vs n es m p e .state)
+  plan = statePlan (built vs n es m p e .state)
 
   first-stands : Stands plan (atFirst (built vs n es m p e .state)) begin
   unfolding atFirst
@@ -129,10 +123,8 @@ unfolding session started malformed pick
 malformed-session input e = ap (λ (b : Bool). let s = pick b (startedBy input) (malformed (length input)) in pick (eqb (s .refusal) 0) (spoken (linesOf (drop (s .«calls_at») input)) (atFirst (s .state))) (answerLine 69 (s .refusal ∷ []))) e
 
 module _ (input : List ℕ) (r : Reading) (wf : wellFormed input ≡ true) (t : takenLines input noVertices noEdges ≡ r) where
-  abbrev given : Built
-  given = builtOf r
-
-  whole : session input ≡ pick (eqb (given .refusal) 0) (spoken (linesOf (drop (r .at) input)) (atFirst (given .state))) (answerLine 69 (given .refusal ∷ []))
+  whole : session input ≡
+      pick (eqb (builtOf r .refusal) 0) (spoken (linesOf (drop (r .at) input)) (atFirst (builtOf r .state))) (answerLine 69 (builtOf r .refusal ∷ []))
   unfolding session started startedBy
   whole =
       ap (λ (b : Bool). let s = pick b (startedBy input) (malformed (length input)) in pick (eqb (s .refusal) 0) (spoken (linesOf (drop (s .«calls_at») input)) (atFirst (s .state))) (answerLine 69 (s .refusal ∷ []))) wf
@@ -140,11 +132,12 @@ module _ (input : List ℕ) (r : Reading) (wf : wellFormed input ≡ true) (t : 
       ∙ ap (λ (y : Reading). pick (eqb (builtOf y .refusal) 0) (spoken (linesOf (drop (y .at) input)) (atFirst (builtOf y .state))) (answerLine 69 (builtOf y .refusal ∷ []))) t
 
   -- a plan that is refused
-  pub refused-session : (k : ℕ) → given .refusal ≡ suc k → session input ≡ answerLine 69 (suc k ∷ [])
+  pub refused-session : (k : ℕ) → builtOf r .refusal ≡ suc k → session input ≡ answerLine 69 (suc k ∷ [])
   refused-session k e = whole ∙ pick-no _ _ (ap (λ (n : ℕ). eqb n 0) e ∙ never k) ∙ ap (λ (n : ℕ). answerLine 69 (n ∷ [])) e
 
   -- and one that is built
-  pub built-session : given .refusal ≡ 0 → session input ≡ said (followAll (planIn (given .state)) (linesOf (drop (r .at) input)) begin .printed)
+  pub built-session : builtOf r .refusal ≡ 0 →
+      session input ≡ said (followAll (statePlan (builtOf r .state)) (linesOf (drop (r .at) input)) begin .printed)
   unfolding builtOf
   built-session e =
       let c = r .draft .counts in

@@ -19,7 +19,7 @@ use Rattle.builder.specs.Input.{refusal}
 use Rattle.builder.specs.Build.{given, withIndex, planWords, edgeTable}
 use Rattle.builder.proofs.Given.{kept-word, entry-same}
 use Rattle.graph_division.specs.New.{built}
-use Rattle.simulation.proofs.Represents.{planIn}
+use Rattle.simulation.specs.Start.{statePlan}
 
 -- ---- the index is none of the plan
 cell-same : (from : ℕ) (ws us : List ℕ) (v j : ℕ) → (v < 64 → j < 32 → word ws (from + 32 * v + j) ≡ word us (from + 32 * v + j)) → cell from ws v j ≡ cell from us v j
@@ -174,7 +174,7 @@ module _ (x : Parts) (s : Sized x) where
 
 -- the plan that is built is the one of these parts, where they are what was given
 pub built-plan : (vs : List ℤ) (n : ℕ) (es : List ℤ) (m : ℕ) (p e : Bool) (x : Parts) → Sized x → length (wordsIs x) ≡ 15241 →
-    refusal vs n es m ≡ 0 → given vs n es m p e ≡ wordsIs x → edgeTable es m ≡ x .ends → planIn (built vs n es m p e .state) ≡ planIs x
+    refusal vs n es m ≡ 0 → given vs n es m p e ≡ wordsIs x → edgeTable es m ≡ x .ends → statePlan (built vs n es m p e .state) ≡ planIs x
 unfolding built planWords
 built-plan vs n es m p e x s len z g t =
     (λ i. planOf (pick-yes (withIndex (given vs n es m p e)) (replicate 15241 0) (ap (λ (k : ℕ). eqb k 0) z) i) (t i))

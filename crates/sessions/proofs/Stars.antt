@@ -25,9 +25,9 @@ use Rattle.calls.proofs.Computes.{answers}
 use Rattle.graph_division.specs.New.{built}
 use Rattle.desk.specs.Start.{noVertices, noEdges, builtOf}
 use Rattle.desk.specs.Session.{session}
-use Rattle.sessions.specs.Follow.{bytesOf, said, follow, followAll}
+use Rattle.sessions.specs.Follow.{bytesOf, said, follow, followAll, begin}
 use Rattle.sessions.specs.Stars.{asBytes, starInputs, starOutputs, g-in, g-out, a-in, a-out, b-in, b-out, c-in, c-out, c2-in, c2-out, d-in, d-out, d2-in, d2-out, e-in, e-out, e2-in, e2-out, f-in, f-out, h-in, h-out, code-in, code-out, literal-in, literal-out, sizes-in, sizes-out, pens-in, pens-out}
-use Rattle.sessions.proofs.DeskSession.{begin, built-session}
+use Rattle.sessions.proofs.DeskSession.{built-session}
 use Rattle.sessions.proofs.Plans.{Parts, Sized, grid, planIs, wordsIs, words-length, built-plan}
 
 -- every definition that reading and building rest on, under one name, and what is said

@@ -3,10 +3,12 @@ use mathlib.Core.List.{List, [], _∷_, _++_}
 use Prim.Native.Nat.{ℕ}
 use lib.Dec.{eqb}
 use lib.IntN.{pos}
+use lib.ListN.{replicate}
 use Rattle.base.specs.Iter.{pick}
 use Rattle.base.specs.Range.{inRange}
 use Rattle.division.specs.Plan.{Plan}
 use Rattle.refusals.specs.Calls.{litGiven}
+use Rattle.calls.specs.Calls as calls
 use Rattle.calls.specs.Lines as lines
 use Rattle.text.specs.declared.Line.{Line}
 use Rattle.text.specs.declared.Line.the-variants.{O, P, G, «V», I, N, U, R, RLast, Malformed}
@@ -40,3 +42,7 @@ follow d Malformed a = a
 unfoldable pub followAll : Plan → List (List ℕ) → lines.Desk → lines.Desk
 followAll d [] a = a
 followAll d (l ∷ ls) a = followAll d ls (follow d (readLine l) a)
+
+-- what the lines of crate calls begin with: a table of 4096 zeros, as the program has it
+abbrev pub begin : lines.Desk
+begin = record { world = calls.built; table = replicate 4096 0; printed = [] }

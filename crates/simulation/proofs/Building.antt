@@ -11,10 +11,10 @@ use Rattle.base.specs.Lists.{tab}
 use Rattle.base.proofs.Loop.{pick-yes}
 use Rattle.base.proofs.Filled.{filled-length}
 use Rattle.division.specs.Runs.{reasonOf}
-use Rattle.division.proofs.Proposed.{nothing}
+use Rattle.division.specs.Analysis.{nothing}
 use Rattle.noting.specs.Buffers.{logShort}
 use Rattle.noting.proofs.Valid.{fresh-valid}
-use Rattle.noting.proofs.Appending.{cursorAt}
+use Rattle.noting.specs.Note.{cursorAt}
 use Rattle.reasons.specs.declared.reason.Reason.the-variants.{NotPropagated}
 use Rattle.reasons.specs.Reason.{meaning}
 use Rattle.recorded.specs.declared.Recorded.{Recorded}
@@ -26,7 +26,7 @@ use Rattle.builder.proofs.Given.{given-length}
 use Rattle.builder.proofs.Built.{new-proper}
 use Rattle.calls.specs.Calls as calls
 use Rattle.graph_division.specs.New.{built}
-use Rattle.simulation.proofs.Represents.{Represents}
+use Rattle.simulation.specs.Represents.{Represents}
 
 no-reason-at : (p : ℕ) → p < 4352 → meaning (reasonAt noReasons p) ≡ []
 unfolding reasonAt noReasons meaning

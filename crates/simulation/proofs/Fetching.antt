@@ -7,7 +7,7 @@ use Prim.Native.Nat.{ℕ, zero, suc, _+_, _*_, _≤_}
 use native.Mathlib.Omega.{arith}
 use lib.Dec.{eqb}
 use lib.IntN.{ℤ}
-use lib.ListN.{length, take, replicate, length-replicate}
+use lib.ListN.{length, replicate, length-replicate}
 use lib.Seq.{sets, length-sets}
 use borrow.Author.Tests.{eqb-true, ltb-false, le-ltb}
 use Rattle.base.specs.Lists.{tab}
@@ -16,7 +16,7 @@ use Rattle.undo_log.specs.declared.Cursor.{Cursor}
 use Rattle.division.specs.Reasons as abstract
 use Rattle.division.specs.Noting.{noteAll}
 use Rattle.division.specs.Runs as runs
-use Rattle.division.proofs.Agree.{SameState}
+use Rattle.division.specs.Agree.{SameState}
 use Rattle.division.proofs.Alike.{list-same}
 use Rattle.division.proofs.Whole.{each-found}
 use Rattle.plan.specs.Words.{word, verticesOf, edgesOf}
@@ -41,8 +41,7 @@ use Rattle.judge.proofs.False.{within-names}
 use Rattle.judge.proofs.Conflicts.{given-whole, list-taken}
 use Rattle.calls.specs.Look.{gone}
 use Rattle.calls.specs.Calls as calls
-use Rattle.calls.specs.Calls.{World}
-use Rattle.calls.proofs.Claim.{listIn}
+use Rattle.calls.specs.Calls.{World, answerList}
 use Rattle.calls.proofs.Alike.{gone-same}
 use Rattle.refusals.specs.Refusals.{litNumber, literalRefusal, fetchRefusal}
 use Rattle.refusals.specs.Calls.{litGiven, fetchRoom, refusedOr}
@@ -53,17 +52,10 @@ use Rattle.graph_division.specs.declared.Answer.the-variants as answer
 use Rattle.graph_division.specs.Calls.{Fetched, fetched, copied, reasonGiven, isNone, reasonOver, lastFetched, recordedFor, listFor, giving, reasonFetched}
 use Rattle.graph_division.specs.Runs.{Query, reasonFor, lastLeft, asked, queryOf, bufferShort}
 use Rattle.graph_division.specs.Outcomes.{answerFor, answerOf}
-use Rattle.simulation.proofs.Represents.{planIn, Represents}
+use Rattle.simulation.specs.Start.{statePlan}
+use Rattle.simulation.specs.Represents.{Represents, SimulatesFetched}
 use Rattle.simulation.proofs.Looked.{tab-take}
 use Rattle.simulation.proofs.Rooms.{fetch-room}
-
--- a query on state, log and cursor; the definition's outcome is o
-pub record SimulatesFetched (s : GraphDivision) (log : List ℕ) (c : Cursor) (before : List ℕ) (x : Fetched) (o : calls.Outcome) : Type 0 where
-  pub answer : x .answer ≡ answerOf o
-  -- the list stands whole from the buffer's start on, all else of it stays
-  pub buffer : x .buffer ≡ sets before 0 (listIn (o .answer))
-  pub whole : take (length (listIn (o .answer))) (x .buffer) ≡ listIn (o .answer)
-  pub represents : Represents s log c (o .world)
 
 tab-length : (f : ℕ → ℕ) (n : ℕ) → length (tab f n) ≡ n
 unfolding tab
@@ -106,11 +98,11 @@ module _ (s : GraphDivision) (log : List ℕ) (c : Cursor) (w : World) (r : Repr
   fetched-by {z = z} {o = o} i j h = subst (λ (y : Fetched). SimulatesFetched s log c b y o) (sym i) (subst (SimulatesFetched s log c b z) (sym j) h)
 
   refused : (n : ℕ) → SimulatesFetched s log c b (fetched (answer.Refused n) b) (calls.refuse n w [])
-  unfolding calls.refuse answerOf answerFor listIn
+  unfolding calls.refuse answerOf answerFor answerList
   refused n = record { answer = refl; buffer = refl; whole = refl; represents = r }
 
   gives : (m : List ℕ) → length m ≤ length b → SimulatesFetched s log c b (fetched (answer.Reason (length m)) (sets b 0 m)) (calls.tell w (calls.reason m))
-  unfolding calls.tell answerOf answerFor listIn
+  unfolding calls.tell answerOf answerFor answerList
   gives m h = record { answer = refl; buffer = refl; whole = list-taken m b h; represents = r }
 
   buffer-long : number ≡ 0 → edgesOf ws + 2 * verticesOf ws + 4 ≤ length b
@@ -120,7 +112,7 @@ module _ (s : GraphDivision) (log : List ℕ) (c : Cursor) (w : World) (r : Repr
   last-short : length (w .last) ≤ edgesOf ws + 2 * verticesOf ws + 4
   last-short = omega (arith, r .fits, ap length (r .last), tab-length (word (s .last)) (s .«last_len»))
 
-  pub last-simulated : SimulatesFetched s log c b (lastFetched s c log b) (calls.onAsk (planIn s) w (fetchRoom ws ends (s .noted) (length b) log c) calls.lastLeft)
+  pub last-simulated : SimulatesFetched s log c b (lastFetched s c log b) (calls.onAsk (statePlan s) w (fetchRoom ws ends (s .noted) (length b) log c) calls.lastLeft)
   unfolding lastFetched refusedOr calls.answerTo
   last-simulated =
       let f = ask-call ws ends (s .noted) log c w (length b) calls.lastLeft in
@@ -138,25 +130,25 @@ module _ (s : GraphDivision) (log : List ℕ) (c : Cursor) (w : World) (r : Repr
     held = record { proper = r .proper; words = r .words; states = omega (arith, r .valid .words) }
 
     -- the noted words are the state of what stands
-    same : SameState (planIn s) (stateOf (s .noted)) (noteAll (planIn s) (w .standing))
-    same = subst (λ (ls : List ℕ). SameState (planIn s) (stateOf (s .noted)) (noteAll (planIn s) ls)) (sym (r .standing)) (valid-state ws ends (r .proper) (noting (s .noted) log c) (r .valid))
+    same : SameState (statePlan s) (stateOf (s .noted)) (noteAll (statePlan s) (w .standing))
+    same = subst (λ (ls : List ℕ). SameState (statePlan s) (stateOf (s .noted)) (noteAll (statePlan s) ls)) (sym (r .standing)) (valid-state ws ends (r .proper) (noting (s .noted) log c) (r .valid))
 
     -- a reason that is recorded: its list, or 16
-    module _ (why : Reason) (q : abstract.Reason) (m : meaning why ≡ q ∷ []) (i : Within (planIn s) q) where
+    module _ (why : Reason) (q : abstract.Reason) (m : meaning why ≡ q ∷ []) (i : Within (statePlan s) q) where
       abbrev list : List ℕ
-      list = abstract.listOf (planIn s) (stateOf (s .noted)) q
+      list = abstract.listOf (statePlan s) (stateOf (s .noted)) q
 
-      is-gone : gone (planIn s) (noteAll (planIn s) (w .standing)) q ≡ true → SimulatesFetched s log c b (reasonGiven ws (listFor s why .text) (listFor s why .listed) b) (calls.refuse 16 w [])
+      is-gone : gone (statePlan s) (noteAll (statePlan s) (w .standing)) q ≡ true → SimulatesFetched s log c b (reasonGiven ws (listFor s why .text) (listFor s why .listed) b) (calls.refuse 16 w [])
       unfolding listFor reasonGiven
       is-gone t = fetched-by
-          (ap (λ (a : Listed). reasonGiven ws (listFor s why .text) a b) (reason-missing ws ends (s .noted) held why q blank m i (gone-same (planIn s) (proper-plan ws ends (r .proper)) _ _ same q ∙ t)))
+          (ap (λ (a : Listed). reasonGiven ws (listFor s why .text) a b) (reason-missing ws ends (s .noted) held why q blank m i (gone-same (statePlan s) (proper-plan ws ends (r .proper)) _ _ same q ∙ t)))
           refl (refused 16)
 
-      is-there : gone (planIn s) (noteAll (planIn s) (w .standing)) q ≡ false →
-          SimulatesFetched s log c b (reasonGiven ws (listFor s why .text) (listFor s why .listed) b) (calls.tell w (calls.reason (runs.fetched (planIn s) (w .standing) q)))
+      is-there : gone (statePlan s) (noteAll (statePlan s) (w .standing)) q ≡ false →
+          SimulatesFetched s log c b (reasonGiven ws (listFor s why .text) (listFor s why .listed) b) (calls.tell w (calls.reason (runs.fetched (statePlan s) (w .standing) q)))
       unfolding listFor reasonGiven
       is-there t =
-          let k = gone-same (planIn s) (proper-plan ws ends (r .proper)) _ _ same q ∙ t in
+          let k = gone-same (statePlan s) (proper-plan ws ends (r .proper)) _ _ same q ∙ t in
           let short = reason-fits ws ends (s .noted) held why q m i k in
           let z = length-replicate {A = ℕ} 260 0 in
           let h : length list ≤ length (replicate {A = ℕ} 260 0) = omega (arith, r .proper .fine .fits, r .proper .fine .vertices) in
@@ -164,7 +156,7 @@ module _ (s : GraphDivision) (log : List ℕ) (c : Cursor) (w : World) (r : Repr
           fetched-by
           (ap (λ (a : walks.Answer). reasonGiven ws (a .text) (a .listed) b) (reason-listed ws ends (s .noted) held why q blank m i k ∙ given-whole list (replicate 260 0) h)
           ∙ copied-is ws (sets (replicate 260 0) 0 list) list b (length list) (tab-take (length list) _ (omega (arith, length-sets (replicate {A = ℕ} 260 0) 0 list)) ∙ list-taken list (replicate 260 0) h) (omega (arith, short)) h′)
-          (ap (λ (m : List ℕ). calls.tell w (calls.reason m)) (sym (list-same (planIn s) (proper-plan ws ends (r .proper)) _ _ same q (within-names (planIn s) q i))))
+          (ap (λ (m : List ℕ). calls.tell w (calls.reason m)) (sym (list-same (statePlan s) (proper-plan ws ends (r .proper)) _ _ same q (within-names (statePlan s) q i))))
           (gives list h′)
 
     module _ (lit : ℤ) (k : KnownLit ws lit) where
@@ -177,22 +169,22 @@ module _ (s : GraphDivision) (log : List ℕ) (c : Cursor) (w : World) (r : Repr
           let (h, u) = place-back ws ends (r .proper) (litNumber lit) (k .is-known) in
           r .reasons (placeOfLit ws (litNumber lit)) h ∙ ap (λ (l : ℕ). runs.reasonOf l (w .reasons)) (u ∙ k .number)
 
-      told : {a b : List abstract.Reason} → a ≡ b → calls.tell w (calls.giveReason (planIn s) w a) ≡ calls.tell w (calls.giveReason (planIn s) w b)
-      told e = ap (λ (rs : List abstract.Reason). calls.tell w (calls.giveReason (planIn s) w rs)) e
+      told : {a b : List abstract.Reason} → a ≡ b → calls.tell w (calls.giveReason (statePlan s) w a) ≡ calls.tell w (calls.giveReason (statePlan s) w b)
+      told e = ap (λ (rs : List abstract.Reason). calls.tell w (calls.giveReason (statePlan s) w rs)) e
 
-      given-reason : SimulatesFetched s log c b (giving s why b) (calls.tell w (calls.giveReason (planIn s) w (runs.reasonOf (litGiven lit) (w .reasons))))
+      given-reason : SimulatesFetched s log c b (giving s why b) (calls.tell w (calls.giveReason (statePlan s) w (runs.reasonOf (litGiven lit) (w .reasons))))
       unfolding giving calls.giveReason calls.tell calls.refuse
       given-reason = ⊎-elim
           (λ (n, t). fetched-by (pick-yes _ _ t) (told (sym newest ∙ n)) (refused 15))
           (λ (q, m, t).
-          let i : Within (planIn s) q = each-found (litGiven lit) q (w .reasons) (r .within) (sym newest ∙ m) in
+          let i : Within (statePlan s) q = each-found (litGiven lit) q (w .reasons) (r .within) (sym newest ∙ m) in
           let f = told (sym newest ∙ m) in
-          tested (gone (planIn s) (noteAll (planIn s) (w .standing)) q)
+          tested (gone (statePlan s) (noteAll (statePlan s) (w .standing)) q)
           (λ g. fetched-by (pick-no _ _ t) (f ∙ ap (calls.tell w) (pick-yes _ _ g)) (is-gone why q m i g))
           (λ g. fetched-by (pick-no _ _ t) (f ∙ ap (calls.tell w) (pick-no _ _ g)) (is-there why q m i g)))
           (one-reason why)
 
-  pub reason-simulated : (lit : ℤ) → SimulatesFetched s log c b (reasonFetched s c log lit b) (calls.onAsk (planIn s) w (fetchRoom ws ends (s .noted) (length b) log c) (calls.reasonFor (litGiven lit)))
+  pub reason-simulated : (lit : ℤ) → SimulatesFetched s log c b (reasonFetched s c log lit b) (calls.onAsk (statePlan s) w (fetchRoom ws ends (s .noted) (length b) log c) (calls.reasonFor (litGiven lit)))
   unfolding reasonFetched refusedOr
   reason-simulated lit =
       let f = reason-call ws ends (s .noted) log c w (length b) lit in
@@ -203,11 +195,11 @@ module _ (s : GraphDivision) (log : List ℕ) (c : Cursor) (w : World) (r : Repr
       (λ t. fetched-by (pick-no _ _ t) (f ∙ pick-no _ _ t) (refused number))
 
   -- a query that is lent a reason buffer: of what refusal 7 asks, only its length is left
-  by-length : (x : Fetched) (q : calls.Query) → SimulatesFetched s log c b x (calls.onAsk (planIn s) w (fetchRoom ws ends (s .noted) (length b) log c) q) →
-      SimulatesFetched s log c b x (calls.onAsk (planIn s) w (not (reasonShort ws (length b))) q)
-  by-length x q h = subst (λ (room : Bool). SimulatesFetched s log c b x (calls.onAsk (planIn s) w room q)) (fetch-room s log c w r (length b)) h
+  by-length : (x : Fetched) (q : calls.Query) → SimulatesFetched s log c b x (calls.onAsk (statePlan s) w (fetchRoom ws ends (s .noted) (length b) log c) q) →
+      SimulatesFetched s log c b x (calls.onAsk (statePlan s) w (not (reasonShort ws (length b))) q)
+  by-length x q h = subst (λ (room : Bool). SimulatesFetched s log c b x (calls.onAsk (statePlan s) w room q)) (fetch-room s log c w r (length b)) h
 
-  pub asked-simulated : (q : Query) → SimulatesFetched s log c b (asked s c log q b) (calls.onAsk (planIn s) w (not (bufferShort q ws (length b))) (queryOf q (length b)))
+  pub asked-simulated : (q : Query) → SimulatesFetched s log c b (asked s c log q b) (calls.onAsk (statePlan s) w (not (bufferShort q ws (length b))) (queryOf q (length b)))
   unfolding asked bufferShort queryOf
   asked-simulated (reasonFor lit) = by-length _ _ (reason-simulated lit)
   asked-simulated lastLeft = by-length _ _ last-simulated

@@ -8,14 +8,14 @@ use lib.ListN.{length, replicate, length-replicate}
 use lib.Seq.{sets, length-sets}
 use Rattle.base.specs.Lists.{tab}
 use Rattle.undo_log.specs.declared.Cursor.{Cursor}
-use Rattle.division.specs.Analysis.{Proposal}
+use Rattle.division.specs.Analysis.{Proposal, Each}
 use Rattle.division.specs.Noting.{noteAll, Consistent}
 use Rattle.division.specs.Runs as runs
 use Rattle.division.specs.Runs.{analysis}
-use Rattle.division.proofs.Proposed.{Each}
 use Rattle.plan.specs.Words.{word, verticesOf, edgesOf, variablesOf, uniqueLitAt}
 use Rattle.noting.specs.Note.{Noting}
-use Rattle.noting.proofs.Valid.{Valid, standingOf}
+use Rattle.noting.specs.Standing.{standingOf}
+use Rattle.noting.specs.Good.{GoodLog}
 use Rattle.reasons.specs.Reason.{meaning}
 use Rattle.recorded.specs.declared.Reasons.{Reasons}
 use Rattle.recorded.specs.Recorded.{reasonAt, recorded}
@@ -36,7 +36,8 @@ use Rattle.calls.specs.Calls.{World}
 use Rattle.calls.proofs.View.{saw}
 use Rattle.calls.proofs.Fetchable.{each-map, each-append}
 use Rattle.graph_division.specs.declared.GraphDivision.{GraphDivision}
-use Rattle.simulation.proofs.Represents.{planIn, Represents}
+use Rattle.simulation.specs.Start.{statePlan}
+use Rattle.simulation.specs.Represents.{Represents}
 use Rattle.simulation.proofs.Recording.{recorded-length, recorded-newest}
 use Rattle.simulation.proofs.Looked.{fine-left, tab-take, taken-short}
 
@@ -62,7 +63,7 @@ judgedIn s after t proposals left = judgeWords (s .plan) (s .edges .ends) (after
 -- ls stands then, and what is noted is judged with table t: x is what the code finds, o what the definition does
 pub record Analyzed (s : GraphDivision) (w : World) (after : Noting) (ls t proposals left : List ℕ) (x : Judged) (o : Looked) : Type 0 where
   pub consistent : Consistent ls
-  pub judged : JudgedBy (s .plan) (planIn s) ls t proposals left x
+  pub judged : JudgedBy (s .plan) (statePlan s) ls t proposals left x
   pub long : length (x .proposals) ≡ length proposals
   -- where nothing is wrong, nothing is left
   pub fine : o .judgement ≡ look.fine → Represents (changed s (after .noted) (recorded (s .plan) (x .proposals) (s .reasons)) (x .left) 0 (s .initialized)) (after .log) (after .cursor) (world ls (o .records ++ w .reasons) (o .left) (w .done))
@@ -76,7 +77,7 @@ pub record Analyzed (s : GraphDivision) (w : World) (after : Noting) (ls t propo
       handedOn (s .plan) (x .proposals) (handing t list at) ≡ handing (o .table) (sets list at (o .handed)) (at + length (o .handed))
 
 -- after: what is noted then, and ls stands; any buffers of the lengths that refusal 7 asks for
-module _ (s : GraphDivision) (log : List ℕ) (c : Cursor) (w : World) (r : Represents s log c w) (after : Noting) (ls : List ℕ) (v : Valid (s .plan) after) (e : ls ≡ standingOf after)
+module _ (s : GraphDivision) (log : List ℕ) (c : Cursor) (w : World) (r : Represents s log c w) (after : Noting) (ls : List ℕ) (v : GoodLog (s .plan) after) (e : ls ≡ standingOf after)
     (t proposals left : List ℕ) (room : 4 * variablesOf (s .plan) ≤ length proposals) (long : length left ≡ 260) where
   abbrev ws : List ℕ
   ws = s .plan
@@ -85,7 +86,7 @@ module _ (s : GraphDivision) (log : List ℕ) (c : Cursor) (w : World) (r : Repr
   ends = s .edges .ends
 
   abbrev lk : Looked
-  lk = looked (planIn s) ls t
+  lk = looked (statePlan s) ls t
 
   abbrev j : Judged
   j = judgedIn s after t proposals left
@@ -93,11 +94,11 @@ module _ (s : GraphDivision) (log : List ℕ) (c : Cursor) (w : World) (r : Repr
   noted-agrees : Agrees ws ends (after .noted) ls
   noted-agrees = subst (Agrees ws ends (after .noted)) (sym e) (valid-agrees ws ends (r .proper) (r .words) after v)
 
-  judged-with : (b : List ℕ) → edgesOf ws + 2 * verticesOf ws + 4 ≤ length b → JudgedBy ws (planIn s) ls t proposals b (judgeWords ws ends (after .noted) t proposals b)
+  judged-with : (b : List ℕ) → edgesOf ws + 2 * verticesOf ws + 4 ≤ length b → JudgedBy ws (statePlan s) ls t proposals b (judgeWords ws ends (after .noted) t proposals b)
   judged-with b h = judged-words ws ends (after .noted) ls noted-agrees proposals room t b h
 
   -- the judgement is that of the definition's look
-  judged-by : JudgedBy ws (planIn s) ls t proposals left j
+  judged-by : JudgedBy ws (statePlan s) ls t proposals left j
   judged-by = judged-with left (omega (arith, r .proper .fine .fits, r .proper .fine .vertices, long))
 
   -- the list left fits the shortest reason buffer that refusal 7 lets pass
@@ -109,7 +110,7 @@ module _ (s : GraphDivision) (log : List ℕ) (c : Cursor) (w : World) (r : Repr
       omega (arith, taken-short (lk .left) _ b, ap length a, length-sets (replicate n 0) 0 (lk .left))
 
   -- the proposals are recorded; the list last left is the first len of `last`
-  recorded-represents : lk .records ≡ analysis (planIn s) ls .props → (last : List ℕ) (len : ℕ) (m : List ℕ) (done is-done : Bool) → done ≡ is-done → length last ≡ 260 → len ≤ edgesOf ws + 2 * verticesOf ws + 4 → tab (word last) len ≡ m →
+  recorded-represents : lk .records ≡ analysis (statePlan s) ls .props → (last : List ℕ) (len : ℕ) (m : List ℕ) (done is-done : Bool) → done ≡ is-done → length last ≡ 260 → len ≤ edgesOf ws + 2 * verticesOf ws + 4 → tab (word last) len ≡ m →
       Represents (changed s (after .noted) (recorded ws (j .proposals) (s .reasons)) last len done) (after .log) (after .cursor) (world ls (lk .records ++ w .reasons) m is-done)
   recorded-represents recs last len m done is-done d full short q = record {
     proper = r .proper;
@@ -121,8 +122,8 @@ module _ (s : GraphDivision) (log : List ℕ) (c : Cursor) (w : World) (r : Repr
         ap (λ (m : List ℕ). meaning (reasonAt (recorded ws m (s .reasons)) p)) (judged-by .words)
         ∙ recorded-newest ws ends (after .noted) ls noted-agrees proposals room (s .reasons) (r .places) (w .reasons) p h (r .reasons p h)
         ∙ ap (λ (qs : List Proposal). runs.reasonOf (uniqueLitAt ws p) (qs ++ w .reasons)) (sym recs);
-    within = subst (λ (qs : List Proposal). Each (λ x y. Within (planIn s) y) (qs ++ w .reasons)) (sym recs)
-        (each-append (each-map (proposed-within (planIn s) (noteAll (planIn s) ls)) (each-proposed ws ends (r .proper) ls (noted-agrees .consistent))) (r .within));
+    within = subst (λ (qs : List Proposal). Each (λ x y. Within (statePlan s) y) (qs ++ w .reasons)) (sym recs)
+        (each-append (each-map (proposed-within (statePlan s) (noteAll (statePlan s) ls)) (each-proposed ws ends (r .proper) ls (noted-agrees .consistent))) (r .within));
     room = full;
     fits = short;
     last = q;
@@ -133,8 +134,8 @@ module _ (s : GraphDivision) (log : List ℕ) (c : Cursor) (w : World) (r : Repr
   fine-still : lk .judgement ≡ look.fine → j .left ≡ left
   fine-still q = subst (λ (y : look.Judgement). Leaves y (lk .left) left (j .left)) q (judged-by .leaves)
 
-  fine-records : lk .judgement ≡ look.fine → lk .records ≡ analysis (planIn s) ls .props
-  fine-records q = subst (λ (y : look.Judgement). Keeps y (lk .records) (analysis (planIn s) ls .props)) q (judged-by .records)
+  fine-records : lk .judgement ≡ look.fine → lk .records ≡ analysis (statePlan s) ls .props
+  fine-records q = subst (λ (y : look.Judgement). Keeps y (lk .records) (analysis (statePlan s) ls .props)) q (judged-by .records)
 
   fine-kept : lk .judgement ≡ look.fine → (len : ℕ) (m : List ℕ) (done is-done : Bool) → done ≡ is-done → len ≤ edgesOf ws + 2 * verticesOf ws + 4 → tab (word left) len ≡ m →
       Represents (changed s (after .noted) (recorded ws (j .proposals) (s .reasons)) (j .left) len done) (after .log) (after .cursor) (world ls (lk .records ++ w .reasons) m is-done)
@@ -145,7 +146,7 @@ module _ (s : GraphDivision) (log : List ℕ) (c : Cursor) (w : World) (r : Repr
       Represents (changed s (after .noted) (recorded ws (j .proposals) (s .reasons)) (j .left) (length (lk .left)) (s .initialized)) (after .log) (after .cursor) (world ls (lk .records ++ w .reasons) (lk .left) (w .done))
   clash-represents q =
       let (a, b) = subst (λ (y : look.Judgement). Leaves y (lk .left) left (j .left)) q (judged-by .leaves) in
-      recorded-represents (subst (λ (y : look.Judgement). Keeps y (lk .records) (analysis (planIn s) ls .props)) q (judged-by .records)) (j .left) (length (lk .left)) (lk .left) (s .initialized) (w .done) (r .done)
+      recorded-represents (subst (λ (y : look.Judgement). Keeps y (lk .records) (analysis (statePlan s) ls .props)) q (judged-by .records)) (j .left) (length (lk .left)) (lk .left) (s .initialized) (w .done) (r .done)
       (ap length a ∙ length-sets left 0 (lk .left) ∙ long) (left-short q) (tab-take (length (lk .left)) (j .left) (taken-short (lk .left) (j .left) b) ∙ b)
 
   handed-on : lk .judgement ≡ look.fine → (list : List ℕ) (at : ℕ) → at + 2 * variablesOf ws ≤ length list →
@@ -154,12 +155,12 @@ module _ (s : GraphDivision) (log : List ℕ) (c : Cursor) (w : World) (r : Repr
   handed-on q list at h = judged-handed ws ends (after .noted) ls noted-agrees t proposals left j judged-by room
       (judged-by .answer ∙ ap (λ (y : look.Judgement). judging.answerFor y (length (lk .left))) q) list at h
 
-  pub analyzed : Analyzed s w after ls t proposals left (judgedIn s after t proposals left) (looked (planIn s) ls t)
+  pub analyzed : Analyzed s w after ls t proposals left (judgedIn s after t proposals left) (looked (statePlan s) ls t)
   analyzed = record {
     consistent = noted-agrees .consistent;
     judged = judged-by;
     long = ap length (judged-by .words) ∙ stored-length _ _ ∙ cleared-length ws proposals;
-    fine = λ q. fine-kept q 0 (lk .left) (s .initialized) (w .done) (r .done) (omega arith) (tab-take 0 left (omega arith) ∙ sym (fine-left (planIn s) ls t (saw (planIn s) ls t) q));
+    fine = λ q. fine-kept q 0 (lk .left) (s .initialized) (w .done) (r .done) (omega arith) (tab-take 0 left (omega arith) ∙ sym (fine-left (statePlan s) ls t (saw (statePlan s) ls t) q));
     kept = λ q len m done short z. fine-kept q len m done done refl short z;
     clash = clash-represents;
     handed = handed-on;

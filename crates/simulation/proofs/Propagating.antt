@@ -16,7 +16,9 @@ use Rattle.undo_log.specs.declared.Cursor.{Cursor}
 use Rattle.plan.specs.Words.{variablesOf, variableAt}
 use Rattle.noting.specs.Note.{Noting, noting}
 use Rattle.noting.specs.Buffers.{listShort}
-use Rattle.noting.proofs.Valid.{Valid, standingOf, note-valid}
+use Rattle.noting.specs.Standing.{standingOf}
+use Rattle.noting.specs.Good.{GoodLog}
+use Rattle.noting.proofs.Valid.{note-valid}
 use Rattle.sweep.specs.Sweep.{Handed, handing}
 use Rattle.judge.specs.declared.Judgement.{Judgement}
 use Rattle.judge.specs.Judge.{Judged, judgeWords}
@@ -34,7 +36,9 @@ use Rattle.graph_division.specs.declared.GraphDivision.{GraphDivision}
 use Rattle.graph_division.specs.declared.Answer.the-variants as answer
 use Rattle.graph_division.specs.Calls.{withNoted, withJudged, notedIn, adding, accepting, handingOn, settledBy, settled, propagated}
 use Rattle.graph_division.specs.Outcomes.{answerFor, answerOf}
-use Rattle.simulation.proofs.Represents.{planIn, Represents, SimulatesCalled, noted-represents, called-by, refused-called}
+use Rattle.simulation.specs.Start.{statePlan}
+use Rattle.simulation.specs.Represents.{Represents, SimulatesCalled}
+use Rattle.simulation.proofs.Represents.{noted-represents, called-by, refused-called}
 use Rattle.simulation.proofs.Noted.{tried-out-is}
 use Rattle.simulation.proofs.Looked.{clash-still, unset-most, looked-count, offered-listed}
 use Rattle.simulation.proofs.Notifying.{judgedIn, Analyzed, analyzed}
@@ -57,13 +61,13 @@ module _ (s : GraphDivision) (log : List ℕ) (c : Cursor) (w : World) (r : Repr
   ls = litGiven lit ∷ w .standing
 
   abbrev lk : Looked
-  lk = looked (planIn s) ls t
+  lk = looked (statePlan s) ls t
 
   module _ (e : number ≡ 0) where
     abbrev after : Noting
     after = notedIn s c l log
 
-    noted-valid : Valid ws after × (ls ≡ standingOf after)
+    noted-valid : GoodLog ws after × (ls ≡ standingOf after)
     unfolding notedIn
     noted-valid =
         let (g, k, h) = propagate-accepted ws ends (s .noted) log c (r .valid .words) t (length list) lit e in
@@ -98,7 +102,7 @@ module _ (s : GraphDivision) (log : List ℕ) (c : Cursor) (w : World) (r : Repr
     handed-fits : length (lk .handed) ≤ length list
     handed-fits =
         let (g, k, h) = propagate-accepted ws ends (s .noted) log c (r .valid .words) t (length list) lit e in
-        let x = looked-count (variableAt ws) (variablesOf ws) (planIn s) ls t (saw (planIn s) ls t) (offered-listed ws ends (r .proper) t (g .table) (length t) refl ls (notified .consistent)) in
+        let x = looked-count (variableAt ws) (variablesOf ws) (statePlan s) ls t (saw (statePlan s) ls t) (offered-listed ws ends (r .proper) t (g .table) (length t) refl ls (notified .consistent)) in
         let y = unset-most (variableAt ws) (variablesOf ws) t in
         omega (arith, list-long)
 
@@ -119,7 +123,7 @@ module _ (s : GraphDivision) (log : List ℕ) (c : Cursor) (w : World) (r : Repr
     conflicting : lk .judgement ≡ look.clash → SimulatesCalled s list (accepting s c l j (length (lk .left)) answer.Conflict t list log) (calls.settledBy w t (litGiven lit) lk look.clash)
     unfolding accepting calls.settledBy calls.noting answerOf answerFor withJudged notedIn
     conflicting q =
-        let (u, v) = clash-still (planIn s) ls t (saw (planIn s) ls t) q in
+        let (u, v) = clash-still (statePlan s) ls t (saw (statePlan s) ls t) q in
         record {
           call = record {
             answer = refl;
@@ -145,12 +149,12 @@ module _ (s : GraphDivision) (log : List ℕ) (c : Cursor) (w : World) (r : Repr
         ap (λ (m : List ℕ). settledBy s c l (judgeWords ws ends m t (replicate 8704 0) (replicate 260 0)) (judgeWords ws ends m t (replicate 8704 0) (replicate 260 0) .judgement) t list log)
         (tried-out-is s c l log)
 
-    settles : SimulatesCalled s list (settled s c l t list log) (calls.settled (planIn s) w t (litGiven lit))
+    settles : SimulatesCalled s list (settled s c l t list log) (calls.settled (statePlan s) w t (litGiven lit))
     unfolding calls.settled
     settles = called-by s list (tried ∙ ap (λ (y : Judgement). settledBy s c l j y t list log) (notified .judged .answer)) refl (settled-by (lk .judgement) refl)
 
   pub propagate-simulated : (pending : ℤ) →
-      SimulatesCalled s list (propagated s c lit pending t list log) (calls.onPropagate (planIn s) w (tableRoom ws ends (s .noted) (length list) log c) t (litGiven lit) (not (inRange (pos 0) pending)))
+      SimulatesCalled s list (propagated s c lit pending t list log) (calls.onPropagate (statePlan s) w (tableRoom ws ends (s .noted) (length list) log c) t (litGiven lit) (not (inRange (pos 0) pending)))
   unfolding propagated refusedOr
   propagate-simulated pending =
       let f = propagate-call ws ends (s .noted) log c w (r .standing) lit t (length list) (not (inRange (pos 0) pending)) in

@@ -10,7 +10,7 @@ use Rattle.refusals.specs.Refusals.{stateBad}
 use Rattle.refusals.specs.Calls.{tableRoom, stateRoom, fetchRoom}
 use Rattle.refusals.proofs.State.{valid-good}
 use Rattle.graph_division.specs.declared.GraphDivision.{GraphDivision}
-use Rattle.simulation.proofs.Represents.{Represents}
+use Rattle.simulation.specs.Represents.{Represents}
 
 module _ (s : GraphDivision) (log : List ℕ) (c : Cursor) (w : World) (r : Represents s log c w) where
   state-good : stateBad (s .plan) (s .edges .ends) (s .noted) log c ≡ false

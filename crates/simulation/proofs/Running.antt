@@ -1,8 +1,8 @@
 -- The calls in their order, from a state that is built: each is the definition's call after the definition's calls before it.
 use mathlib.Core.Path.{_≡_, refl, sym, ap, ap₂, subst, _∙_}
 use mathlib.Core.Bool.{Bool, true, false, not, _||_}
-use mathlib.Core.List.{List, [], _∷_, _++_}
-use Prim.Native.Nat.{ℕ, _+_, _*_, _<_, _≤_, min}
+use mathlib.Core.List.{List, [], _∷_}
+use Prim.Native.Nat.{ℕ, _*_, _<_, _≤_, min}
 use native.Mathlib.Omega.{arith}
 use lib.IntN.{ℤ, pos}
 use lib.Dec.{eqb}
@@ -18,36 +18,32 @@ use Rattle.division.specs.Plan.{Plan}
 use Rattle.plan.specs.Check.{planBad}
 use Rattle.plan.specs.Words.{slotsOf}
 use Rattle.plan.specs.Plan.{planOf}
-use Rattle.noting.specs.Note.{noting}
 use Rattle.noting.specs.Replay.{logBad}
 use Rattle.noting.specs.Buffers.{tableBad, logShort, listShort, reasonShort}
-use Rattle.noting.proofs.Appending.{cursorAt}
-use Rattle.noting.proofs.Valid.{Valid, standingOf}
 use Rattle.judge.proofs.Conflicts.{list-taken}
 use Rattle.noting.proofs.Replaying.{log-fits}
 use Rattle.noting.proofs.Preserved.{standing-other, passes-other}
 use Rattle.calls.specs.Table.{badTable}
 use Rattle.calls.specs.Calls as calls
-use Rattle.calls.specs.Calls.{World}
-use Rattle.calls.proofs.Claim.{listIn}
+use Rattle.calls.specs.Calls.{World, answerList}
 use Rattle.calls.proofs.Marks.{call-marked}
 use Rattle.refusals.specs.Refusals.{stateBad, tableStateBad, initializeRefusal, propagateRefusal, undoRefusal, fetchRefusal}
 use Rattle.refusals.specs.Calls.{litGiven}
 use Rattle.graph_division.specs.declared.GraphDivision.{GraphDivision}
 use Rattle.graph_division.specs.declared.Outcome.{Outcome}
-use Rattle.graph_division.specs.declared.Built.{Built}
 use Rattle.graph_division.specs.declared.Answer.the-variants as answer
 use Rattle.graph_division.specs.New.{built}
 use Rattle.graph_division.specs.Calls.{Called, called, refuse, propagated, undone, Fetched, fetched, lastFetched, reasonFetched}
 use Rattle.graph_division.specs.Initialize.{initialized}
 use Rattle.graph_division.specs.Runs.{Query, reasonFor, lastLeft, Request, initialize, propagate, undo, ask, tableOf, listOf, Kept, kept, logFor, Reply, replied, repliedCalled, repliedFetched, asked, reply, keeping, after, roomFor, queryOf, bufferShort, callOf, callsOf}
 use Rattle.graph_division.specs.Outcomes.{answerFor, answerOf}
-use Rattle.simulation.proofs.Represents.{planIn, Represents, Simulates, SimulatesCalled}
+use Rattle.simulation.specs.Start.{statePlan, justBuilt}
+use Rattle.simulation.specs.Represents.{Represents, Simulates, SimulatesCalled, SimulatesFetched, valuesFor, RepresentsKept, Replies, Leads}
 use Rattle.simulation.proofs.Rooms.{state-room, table-room}
 use Rattle.simulation.proofs.Undoing.{undo-simulated}
 use Rattle.simulation.proofs.Propagating.{propagate-simulated}
 use Rattle.simulation.proofs.Starting.{initialize-simulated}
-use Rattle.simulation.proofs.Fetching.{SimulatesFetched, asked-simulated}
+use Rattle.simulation.proofs.Fetching.{asked-simulated}
 use Rattle.simulation.proofs.Building.{new-represents}
 
 or-true : (b : Bool) → (b || true) ≡ true
@@ -61,13 +57,6 @@ no-table d w c e = empty (calls.call d c w .table) (call-marked d w c .long ∙ 
     empty : (l : List ℕ) → length l ≡ 0 → l ≡ []
     empty [] z = refl
     empty (x ∷ l) z = absurd (omega arith)
-
--- with any log that is long enough and begins with the records, state and cursor stand for the world
-pub record RepresentsKept (k : Kept) (w : World) : Type 0 where
-  pub used : length (k .records) ≡ k .cursor .used
-  -- there is such a log
-  pub rest : List ℕ
-  pub represents : Represents (k .state) (logFor k rest) (k .cursor) w
 
 module _ (k : Kept) (w : World) (r : RepresentsKept k w) where
   abbrev s : GraphDivision
@@ -110,29 +99,9 @@ keeps-represents s log c w r =
     min-is : (a b : ℕ) → a ≤ b → min a b ≡ a
     min-is a b h = omega arith
 
--- the literals that the definition's call hands on, or its reason
-unfoldable pub valuesFor : Request → calls.Outcome → List ℕ
-valuesFor (initialize t list tail) o = o .handed
-valuesFor (propagate lit pending t list tail) o = o .handed
-valuesFor (undo lit tail) o = []
-valuesFor (ask q b tail) o = listIn (o .answer)
-
--- reply y to a request is that of the definition's call, with outcome o
-pub record Replies (k : Kept) (q : Request) (y : Reply) (o : calls.Outcome) : Type 0 where
-  pub answer : y .answer ≡ answerOf o
-  pub keeps : RepresentsKept (keeping y) (o .world)
-  -- the plan stays
-  pub plan : y .state .plan ≡ k .state .plan
-  pub edges : y .state .edges ≡ k .state .edges
-  pub table : y .table ≡ o .table
-  -- they stand from the start of the list or of the reason buffer on; all else of it stays
-  pub list : y .list ≡ sets (listOf q) 0 (valuesFor q o)
-  -- and they fit
-  pub whole : take (length (valuesFor q o)) (y .list) ≡ valuesFor q o
-
 module _ (k : Kept) (w : World) (r : RepresentsKept k w) where
   abbrev d : Plan
-  d = planIn (k .state)
+  d = statePlan (k .state)
 
   -- what a refused call keeps is what was kept
   keeping-same : (tail : List ℕ) → kept (k .state) (k .cursor) (take (k .cursor .used) (logFor k tail)) ≡ k
@@ -206,7 +175,7 @@ module _ (k : Kept) (w : World) (r : RepresentsKept k w) where
     asked-short lastLeft b = fetch-short b _
 
     short-ask : (q : Query) (b : List ℕ) → Replies k (ask q b tail) (reply k (ask q b tail)) (calls.call d (callOf k (ask q b tail)) w)
-    unfolding reply callOf calls.call repliedFetched tableOf listOf valuesFor listIn calls.onAsk calls.tell calls.refuse replied refuse
+    unfolding reply callOf calls.call repliedFetched tableOf listOf valuesFor answerList calls.onAsk calls.tell calls.refuse replied refuse
     short-ask q b =
         turned-away (ask q b tail) refl _ (ap (repliedFetched k (logFor k tail)) (asked-short q b)) _
         (ap (calls.tell w) (pick-yes _ _ (ap not (no-room (bufferShort q (k .state .plan) (length b))))))
@@ -279,45 +248,35 @@ module _ (k : Kept) (w : World) (r : RepresentsKept k w) where
         }
 
   -- the reply to any request is that of the definition's call
-  pub reply-is : (q : Request) → Replies k q (reply k q) (calls.call d (callOf k q) w)
+  pub reply-is : (q : Request) → Replies k q (reply k q) (calls.call (statePlan (k .state)) (callOf k q) w)
   reply-is (initialize t list tail) = tested (logShort (k .state .plan) (length (logFor k tail))) (λ e. short-initialize tail e t list) (λ e. long-initialize tail e t list)
   reply-is (propagate lit pending t list tail) = tested (logShort (k .state .plan) (length (logFor k tail))) (λ e. short-propagate tail e lit pending t list) (λ e. long-propagate tail e lit pending t list)
   reply-is (undo lit tail) = tested (logShort (k .state .plan) (length (logFor k tail))) (λ e. short-undo tail e lit) (λ e. long-undo tail e lit)
   reply-is (ask q b tail) = tested (logShort (k .state .plan) (length (logFor k tail))) (λ e. short-ask tail e q b) (λ e. long-ask tail e q b)
 
--- from h to k, the world then; the plan stays
-pub record Leads (h k : Kept) (w : World) : Type 0 where
-  pub represents : RepresentsKept k w
-  pub plan : k .state .plan ≡ h .state .plan
-  pub edges : k .state .edges ≡ h .state .edges
-
-pub after-leads : (qs : List Request) (k : Kept) (w : World) → RepresentsKept k w → Leads k (after k qs) (calls.after (planIn (k .state)) w (callsOf k qs))
+pub after-leads : (qs : List Request) (k : Kept) (w : World) → RepresentsKept k w → Leads k (after k qs) (calls.after (statePlan (k .state)) w (callsOf k qs))
 unfolding after calls.after callsOf keeping
 after-leads [] k w r = record { represents = r; plan = refl; edges = refl }
 after-leads (q ∷ qs) k w r =
     let h = keeping (reply k q) in
     let a = reply-is k w r q in
-    let v = calls.call (planIn (k .state)) (callOf k q) w .world in
+    let v = calls.call (statePlan (k .state)) (callOf k q) w .world in
     let i = after-leads qs h v (a .keeps) in
-    let e : calls.after (planIn (h .state)) v (callsOf h qs) ≡ calls.after (planIn (k .state)) v (callsOf h qs) =
+    let e : calls.after (statePlan (h .state)) v (callsOf h qs) ≡ calls.after (statePlan (k .state)) v (callsOf h qs) =
     ap₂ (λ (ws : List ℕ) (es : EdgeTable). calls.after (planOf ws (es .ends)) v (callsOf h qs)) (a .plan) (a .edges) in
     record { represents = subst (RepresentsKept (after h qs)) e (i .represents); plan = i .plan ∙ a .plan; edges = i .edges ∙ a .edges }
-
--- a state that is built, with nothing in the log
-abbrev pub fresh : Built → Kept
-fresh b = kept (b .state) (cursorAt 0 0) []
 
 enough : (ws : List ℕ) → logShort ws (length (replicate {A = ℕ} (2 * slotsOf ws) 0)) ≡ false
 unfolding logShort
 enough ws = le-ltb _ (2 * slotsOf ws) (omega (arith, length-replicate {A = ℕ} (2 * slotsOf ws) 0))
 
-pub fresh-represents : (vs : List ℤ) (n : ℕ) (es : List ℤ) (m : ℕ) (a b : Bool) → built vs n es m a b .refusal ≡ 0 → RepresentsKept (fresh (built vs n es m a b)) calls.built
+pub fresh-represents : (vs : List ℤ) (n : ℕ) (es : List ℤ) (m : ℕ) (a b : Bool) → built vs n es m a b .refusal ≡ 0 → RepresentsKept (justBuilt (built vs n es m a b)) calls.built
 fresh-represents vs n es m a b z =
     let ws = built vs n es m a b .state .plan in
     record { used = refl; rest = replicate (2 * slotsOf ws) 0; represents = new-represents vs n es m a b z _ (enough ws) }
 
 -- after any list of calls on a state that is built, the world is that of the definition's run
 pub run-represents : (vs : List ℤ) (n : ℕ) (es : List ℤ) (m : ℕ) (a b : Bool) → built vs n es m a b .refusal ≡ 0 → (qs : List Request) →
-    Leads (fresh (built vs n es m a b)) (after (fresh (built vs n es m a b)) qs) (calls.run (planIn (built vs n es m a b .state)) (callsOf (fresh (built vs n es m a b)) qs))
+    Leads (justBuilt (built vs n es m a b)) (after (justBuilt (built vs n es m a b)) qs) (calls.run (statePlan (built vs n es m a b .state)) (callsOf (justBuilt (built vs n es m a b)) qs))
 unfolding calls.run
-run-represents vs n es m a b z qs = after-leads qs (fresh (built vs n es m a b)) calls.built (fresh-represents vs n es m a b z)
+run-represents vs n es m a b z qs = after-leads qs (justBuilt (built vs n es m a b)) calls.built (fresh-represents vs n es m a b z)

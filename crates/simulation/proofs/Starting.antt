@@ -25,12 +25,13 @@ use Rattle.division.proofs.Whole.{each-found, reason-there}
 use Rattle.plan.specs.Words.{word, variablesOf, variableAt, uniqueLitAt}
 use Rattle.plan.proofs.Abstract.{unique-rising}
 use Rattle.noting.specs.Note.{Noting, noting, known, note}
-use Rattle.noting.specs.Standing.{hasVariable}
+use Rattle.noting.specs.Standing.{hasVariable, standingOf}
 use Rattle.noting.specs.Buffers.{tableBad, tableLen, listShort}
 use Rattle.noting.proofs.Indexed.{is-known}
 use Rattle.noting.proofs.Logged.{known-small}
 use Rattle.noting.proofs.Rising.{rises}
-use Rattle.noting.proofs.Valid.{Valid, standingOf, note-valid}
+use Rattle.noting.specs.Good.{GoodLog}
+use Rattle.noting.proofs.Valid.{note-valid}
 use Rattle.recorded.specs.declared.Reasons.{Reasons}
 use Rattle.recorded.specs.Recorded.{recorded}
 use Rattle.judge.specs.Judge.{Judged}
@@ -64,7 +65,9 @@ use Rattle.graph_division.specs.declared.Answer.the-variants as answer
 use Rattle.graph_division.specs.Calls.{Called, called, refuse}
 use Rattle.graph_division.specs.Initialize.{notedAt, notedUpTo, takenOver, entering, finished, taking, endedBy, begun, initialized}
 use Rattle.graph_division.specs.Outcomes.{answerFor, answerOf}
-use Rattle.simulation.proofs.Represents.{planIn, Represents, SimulatesCalled, called-by, refused-called}
+use Rattle.simulation.specs.Start.{statePlan}
+use Rattle.simulation.specs.Represents.{Represents, SimulatesCalled}
+use Rattle.simulation.proofs.Represents.{called-by, refused-called}
 use Rattle.simulation.proofs.Noted.{note-noted}
 use Rattle.simulation.proofs.Notifying.{changed, judgedIn, Analyzed, analyzed}
 use Rattle.simulation.proofs.LastPass.{lastFrom, unset-looked}
@@ -119,7 +122,7 @@ module _ (s : GraphDivision) (log : List ℕ) (c : Cursor) (w : World) (r : Repr
   ends = s .edges .ends
 
   abbrev d : Plan
-  d = planIn s
+  d = statePlan s
 
   abbrev places : ℕ
   places = 2 * variablesOf ws
@@ -209,7 +212,7 @@ module _ (s : GraphDivision) (log : List ℕ) (c : Cursor) (w : World) (r : Repr
       (record { up-to = refl; long = refl; ahead = λ q a b e. refl })
 
   -- ---- an analysis from there: ls stands, y is noted, and the table is u
-  module _ (a : calls.Going) (b : Rest) (k : Stands a b) (y : Noting) (ls u : List ℕ) (v : Valid ws y) (e : ls ≡ standingOf y) where
+  module _ (a : calls.Going) (b : Rest) (k : Stands a b) (y : Noting) (ls u : List ℕ) (v : GoodLog ws y) (e : ls ≡ standingOf y) where
     abbrev found : Judged
     found = judgedIn s y u (b .proposals) (b .left)
 
@@ -240,7 +243,7 @@ module _ (s : GraphDivision) (log : List ℕ) (c : Cursor) (w : World) (r : Repr
     abbrev j : Judged
     j = judgedIn s after (a .table) (b .proposals) (b .left)
 
-    noted-valid : Valid ws after × (ls ≡ standingOf after)
+    noted-valid : GoodLog ws after × (ls ≡ standingOf after)
     noted-valid =
         let f : hasVariable (lit p / 2) (standingOf (b .noted)) ≡ false =
         ap (hasVariable (lit p / 2)) (sym (k .represents .standing)) ∙ q .ahead p (omega arith) h due ∙ ap (hasVariable (lit p / 2)) (r .standing) ∙ free in
@@ -508,10 +511,10 @@ module _ (s : GraphDivision) (log : List ℕ) (c : Cursor) (w : World) (r : Repr
   -- what the definition does where nothing is refused
   abbrev worked : calls.Outcome
   worked =
-      let a = calls.propagateAll (planIn s) (entered (planIn s) t) (calls.entry w t) in
-      calls.finishBy (planIn s) w t a (a .judgement)
+      let a = calls.propagateAll (statePlan s) (entered (statePlan s) t) (calls.entry w t) in
+      calls.finishBy (statePlan s) w t a (a .judgement)
 
-  defined : calls.onInitialize (planIn s) w (tableRoom (s .plan) (s .edges .ends) (s .noted) (length list) log c) t ≡ refusedOr number w t worked
+  defined : calls.onInitialize (statePlan s) w (tableRoom (s .plan) (s .edges .ends) (s .noted) (length list) log c) t ≡ refusedOr number w t worked
   defined =
       initialize-call (s .plan) (s .edges .ends) (s .noted) log c w t (length list)
       ∙ ap (λ (b : Bool). refusedOr (initializeRefusal (s .plan) (s .edges .ends) (s .noted) t (length list) log c b) w t worked) (sym (r .done))
@@ -522,7 +525,7 @@ module _ (s : GraphDivision) (log : List ℕ) (c : Cursor) (w : World) (r : Repr
       let (g, _) = initialize-accepted (s .plan) (s .edges .ends) (s .noted) log c (r .valid .words) t (length list) (s .initialized) e in
       begun-simulated s log c w r t list (ltb-false (length list) (2 * variablesOf (s .plan)) (g .list)) (g .table)
 
-  pub initialize-simulated : SimulatesCalled s list (initialized s c t log list) (calls.onInitialize (planIn s) w (tableRoom (s .plan) (s .edges .ends) (s .noted) (length list) log c) t)
+  pub initialize-simulated : SimulatesCalled s list (initialized s c t log list) (calls.onInitialize (statePlan s) w (tableRoom (s .plan) (s .edges .ends) (s .noted) (length list) log c) t)
   unfolding initialized refusedOr
   initialize-simulated = tested (eqb number 0)
       (λ y. called-by s list (pick-yes _ _ y) (defined ∙ pick-yes _ _ y) (accepted (eqb-true number 0 y)))

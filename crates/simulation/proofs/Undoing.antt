@@ -22,7 +22,9 @@ use Rattle.graph_division.specs.declared.Outcome.{Outcome}
 use Rattle.graph_division.specs.declared.Answer.the-variants as answer
 use Rattle.graph_division.specs.Calls.{outcome, withNoted, undone}
 use Rattle.graph_division.specs.Outcomes.{answerFor, answerOf}
-use Rattle.simulation.proofs.Represents.{planIn, Represents, Simulates, noted-represents, refused-simulates}
+use Rattle.simulation.specs.Start.{statePlan}
+use Rattle.simulation.specs.Represents.{Represents, Simulates}
+use Rattle.simulation.proofs.Represents.{noted-represents, refused-simulates}
 
 -- outcomes that are equal to ones that simulate
 pub simulates-by : (s : GraphDivision) (log : List ℕ) {y z : Outcome} {o q : calls.Outcome} → y ≡ z → o ≡ q → Simulates s z log q → Simulates s y log o
@@ -47,7 +49,7 @@ module _ (s : GraphDivision) (log : List ℕ) (c : Cursor) (w : World) (r : Repr
         edges = refl;
       }
 
-  pub undo-simulated : Simulates s (undone s c lit log) log (calls.onUndo (planIn s) w (stateRoom (s .plan) (s .edges .ends) (s .noted) log c) (litGiven lit))
+  pub undo-simulated : Simulates s (undone s c lit log) log (calls.onUndo (statePlan s) w (stateRoom (s .plan) (s .edges .ends) (s .noted) log c) (litGiven lit))
   unfolding undone refusedOr
   undo-simulated =
       let f = undo-call (s .plan) (s .edges .ends) (s .noted) log c w (r .standing) lit in

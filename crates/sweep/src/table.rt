@@ -3,7 +3,7 @@ ghost use mathlib.Core.Path.{_≡_};
 ghost use Prim.Native.Nat.{_-_, _<_};
 ghost use lib.ListN.{length, getD, take, drop};
 ghost use Rattle.calls.specs.Table.{codeOf, coded, trueIn, falseIn, unsetIn, currentIn, someCurrent, enter};
-ghost use Rattle.calls.specs.Marks.{sign};
+ghost use Rattle.calls.specs.Marks.{currentCode as sign};
 
 // The entry of a literal's variable; past the table's end 0.
 fn code(table: &[u8], lit: u64) -> u8

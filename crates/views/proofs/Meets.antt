@@ -20,7 +20,7 @@ use Rattle.division.specs.Analysis.{View, best}
 use Rattle.division.proofs.Phases.{best-has}
 use Rattle.division.proofs.Shown.{Shows}
 use Rattle.division.proofs.Views.{shows}
-use Rattle.division.proofs.Agree.{SameView}
+use Rattle.division.specs.Agree.{SameView}
 use Rattle.views.specs.Words.{decidedRegionOf, upperBoundOf, lowerBoundOf, shown}
 use Rattle.views.specs.Compute.{computeView}
 use Rattle.views.specs.Members.{reaches, higher, lesser, extremes}

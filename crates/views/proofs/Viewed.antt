@@ -28,7 +28,8 @@ use Rattle.division.specs.State.{State, decided, potential}
 use Rattle.division.specs.Views.{weightOf, cellsOf, sorted, viewOf}
 use Rattle.division.specs.Analysis.{View, analyzed}
 use Rattle.division.proofs.Labels.{labels-agree}
-use Rattle.division.proofs.Agree.{SameView, InRange, pick-same, analyzed-same, view-in-range}
+use Rattle.division.specs.Agree.{SameView}
+use Rattle.division.proofs.Agree.{InRange, pick-same, analyzed-same, view-in-range}
 use Rattle.division.proofs.Alike.{same-refl}
 use Rattle.plan.specs.Words.{entry, verticesOf, edgesOf, weightOf as weightAt, domainLenOf, domainOf, sameSizeOf, extraWallsOf}
 use Rattle.plan.specs.Proper.{ProperWords}

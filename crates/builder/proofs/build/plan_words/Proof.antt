@@ -6,7 +6,8 @@ use borrow.Author.Tests.{eq-eqb, ne-eqb}
 use Rattle.builder.specs.Input.{refusal}
 use Rattle.builder.specs.Build.{planWords, withIndex}
 use Rattle.builder.proofs.Refusal.{Counted, counted}
-use Rattle.builder.proofs.Lowest.{Clean, clean}
+use Rattle.builder.specs.Applies.{Clean}
+use Rattle.builder.proofs.Lowest.{clean}
 use borrow.Author.Needs.{needs}
 use Rattle.builder.proofs.build.plan_words.Statement.{statement}
 use Rattle.builder.proofs.build.plan_words.Tie as tie

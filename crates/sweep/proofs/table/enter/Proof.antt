@@ -3,7 +3,7 @@ use Prim.Native.Nat.{ℕ, suc, _+_, _-_, _*_, _/_, _%_, _≤_, _<_}
 use native.Mathlib.Omega.{arith}
 use lib.ListN.{set}
 use lib.Seq.{set-out}
-use Rattle.calls.specs.Marks.{sign}
+use Rattle.calls.specs.Marks.{currentCode as sign}
 use Rattle.calls.specs.Table.{enter}
 use borrow.Author.Needs.{needs}
 use Rattle.sweep.proofs.table.enter.Statement.{statement}

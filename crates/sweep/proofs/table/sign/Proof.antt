@@ -1,6 +1,6 @@
 use mathlib.Core.Path.{_≡_, refl, sym, ap, ap₂, _∙_}
 use Rattle.base.proofs.Loop.{pick-yes, pick-no}
-use Rattle.calls.specs.Marks.{sign}
+use Rattle.calls.specs.Marks.{currentCode as sign}
 use borrow.Author.Needs.{needs}
 use Rattle.sweep.proofs.table.sign.Statement.{statement}
 use Rattle.sweep.proofs.table.sign.Tie as tie

@@ -8,7 +8,7 @@ use mathlib.Core.Path.{_≡_}
 use Rattle.base.specs.Iter.{pick}
 use Rattle.base.specs.Lists.{Every}
 use Rattle.sat.specs.Literal.{negate, Holds}
-use Rattle.division.specs.Analysis.{Verdict, going, conflict, crossed, zeroSize, Proposal, Out}
+use Rattle.division.specs.Analysis.{Verdict, going, conflict, crossed, zeroSize, Out, Each}
 use Rattle.division.specs.Conflicts.{Conflict, disconnectedInside, over, under, crowded, apart, sumLower}
 use Rattle.division.specs.Plan.{Plan, left, right}
 use Rattle.division.specs.Reasons.{Reason, connectedLit, edgeInSameGroup, edgeBetweenDifferentGroups, tooLargeIfRegionsAreMerged, regionAlreadyLarge, regionAlreadySmall, inconsistentBoundsIfRegionsAreMerged, boundPropagationWithinRegion, adjacentSameSizeRegions}
@@ -20,6 +20,7 @@ pub record Between (d : Plan) (v j w : ℕ) : Type 0 where
   pub above : d .domain v j < w
   pub below : w ≤ d .domain v (suc j)
 
+-- in state s a rule proposes the literal for the reason
 pub data Proposes (d : Plan) (s : State) : ℕ → Reason → Type 0 where
   ruleInGroup : (g : ℕ) → g < d .edges → stateOf s g ≡ 0 → Same d s (left d g) (right d g) → Proposes d s (connectedLit d g) (edgeInSameGroup g)
   ruleBetween : (h g : ℕ) (flip : Bool) → h < d .edges → g < d .edges → stateOf s h ≡ 1 → stateOf s g ≡ 0 →
@@ -61,10 +62,7 @@ pub data IsConflict (d : Plan) (s : State) : Conflict → Type 0 where
   isCrowded : (r : ℕ) (ps : List ℕ) → r < d .vertices → Every (Near d s r) ps → Every (λ p. s .lower p ≤ s .upper p) ps → Spaced s ps → potentialWeight d s r < sumLower s ps → IsConflict d s (crowded r ps)
   isApart : (a b : ℕ) → a < d .vertices → b < d .vertices → Same d s a b → s .upper b < s .lower a → IsConflict d s (apart a b)
 
-pub data Each (P : ℕ → Reason → Type 0) : List Proposal → Type 0 where
-  nothing : Each P []
-  also : {x : Proposal} {l : List Proposal} → P (x .lit) (x .why) → Each P l → Each P (x ∷ l)
-
+-- a verdict is right: a conflict is one, bounds are crossed where they do, and refusal 13 comes only with the option
 pub data Right (d : Plan) (s : State) : Verdict → Type 0 where
   rightGoing : Right d s going
   rightConflict : (c : Conflict) → IsConflict d s c → Right d s (conflict c)

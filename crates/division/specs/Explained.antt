@@ -13,7 +13,7 @@ use Rattle.division.specs.Plan.{Plan, left, right}
 use Rattle.division.specs.Regions.{within}
 use Rattle.division.specs.State.{State, decided, Same, decidedWeight, potentialWeight}
 use Rattle.division.specs.Reasons.{connectedLit, Reason, edgeInSameGroup, edgeBetweenDifferentGroups, tooLargeIfRegionsAreMerged, regionAlreadyLarge, regionAlreadySmall, inconsistentBoundsIfRegionsAreMerged, boundPropagationWithinRegion, adjacentSameSizeRegions}
-use Rattle.division.proofs.Noted.{Lower, Upper}
+use Rattle.division.specs.Noted.{Lower, Upper}
 
 -- the weight of two regions together
 unfoldable pub mergedWeight : Plan → Graph → ℕ → ℕ → ℕ

@@ -5,6 +5,7 @@ use mathlib.Core.List.{List, [], _∷_}
 use lib.ListN.{getD, length}
 use Rattle.division.specs.Plan.{Plan}
 
+-- a plan by its numbers, lists in the order of vertices and edges
 unfoldable pub planWith : (sameSize extraWalls : Bool) (vertices edges : ℕ) (ends : List (List ℕ)) (lits weights : List ℕ) (domains domLits : List (List ℕ)) → Plan
 planWith sameSize extraWalls vertices edges ends lits weights domains domLits = record {
   vertices = vertices;
@@ -23,18 +24,23 @@ planWith sameSize extraWalls vertices edges ends lits weights domains domLits = 
 unfoldable pub plan : (vertices edges : ℕ) (ends : List (List ℕ)) (lits weights : List ℕ) (domains domLits : List (List ℕ)) → Plan
 plan = planWith false false
 
+-- case G
 unfoldable pub planG : Plan
 planG = plan 2 1 ((0 ∷ 1 ∷ []) ∷ []) (4 ∷ []) (3 ∷ 4 ∷ []) ((3 ∷ 7 ∷ []) ∷ (4 ∷ 7 ∷ []) ∷ []) ((0 ∷ []) ∷ (2 ∷ []) ∷ [])
 
+-- cases B, C and C2: one vertex of weight 3 with domain ds
 unfoldable pub planB : List ℕ → Plan
 planB ds = plan 1 0 [] [] (3 ∷ []) (ds ∷ []) []
 
+-- cases D and D2
 unfoldable pub planD : Plan
 planD = plan 1 1 ((0 ∷ 0 ∷ []) ∷ []) (0 ∷ []) (1 ∷ []) [] []
 
+-- cases E, E2 and F
 unfoldable pub planE : Plan
 planE = plan 2 2 ((0 ∷ 1 ∷ []) ∷ (0 ∷ 1 ∷ []) ∷ []) (0 ∷ 2 ∷ []) (1 ∷ 1 ∷ []) [] []
 
+-- case H
 unfoldable pub planH : Plan
 planH = plan 2 1 ((0 ∷ 1 ∷ []) ∷ []) (0 ∷ []) (2 ∷ 3 ∷ []) ((2 ∷ []) ∷ (4 ∷ []) ∷ []) []
 

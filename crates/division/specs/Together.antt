@@ -15,6 +15,7 @@ use Rattle.division.specs.Regions.{weightFrom}
 unfoldable pub mark : Plan → (ℕ → Bool) → ℕ → ℕ
 mark d σ g = pick (value σ (d .edgeLit g)) 1 2
 
+-- the graph of its open edges
 abbrev pub graphOf : Plan → (ℕ → Bool) → Graph
 graphOf d σ = graph (d .ends) (tab (mark d σ) (d .edges)) false
 
@@ -26,6 +27,7 @@ Together d σ p q = Joined (graphOf d σ) (d .edges) p q
 abbrev pub regionWeight : Plan → (ℕ → Bool) → ℕ → ℕ
 regionWeight d σ v = weightFrom d (graphOf d σ) v
 
+-- the division is valid
 pub record Computed (d : Plan) (σ : ℕ → Bool) : Type 0 where
   -- no disconnected edge joins vertices of one region
   pub apart : (g : ℕ) → g < d .edges → Holds σ (d .edgeLit g) → Together d σ (left d g) (right d g) → ⊥
