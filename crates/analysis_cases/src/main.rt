@@ -233,7 +233,7 @@ fn edge_table(edges: &EdgeNumbers) -> Edges {
 
 // A literal's number; one that is out of range is unknown to every plan.
 fn lit_number(n: i32) -> u16 {
-    if base::in_range(n, 8191) {
+    if sat::is_literal(n) {
         return (base::to_nat(n) % 65536) as u16;
     }
     8192

@@ -57,6 +57,22 @@ least a b c = pick (ltb b a) (pick (ltb c b) c b) (pick (ltb c a) c a)
 unfoldable pub loaded : List Record → ℕ → List ℕ → List ℕ
 loaded log n words = iter (λ i ws. set ws i (wordOf (getD log i noRecord))) (least n (length log) (length words)) words
 
--- the records of the words from place a up to place e, as many as there are and as there is room for
-unfoldable pub saved : List ℕ → ℕ → ℕ → List Record → List Record
-saved words a e log = iter (λ i l. set l (a + i) (recordOf (getD words (a + i) 0))) (least e (length words) (length log) - a) log
+-- a log and its cursor
+pub record Lent : Type 0 where
+  pub log : List Record
+  pub cursor : Cursor
+
+abbrev pub lent : List Record → Cursor → Lent
+lent log c = record { log = log; cursor = c }
+
+-- one record more, if there is room
+abbrev pub pushedOn : Record → Lent → Lent
+pushedOn r x = lent (pushRecord (x .log) (x .cursor) r .log) (pushRecord (x .log) (x .cursor) r .cursor)
+
+-- the records of the words from the cursor's place up to place e, one after the other
+unfoldable pub pushedRun : List ℕ → ℕ → Lent → Lent
+pushedRun words e x = iter (λ i y. pushedOn (recordOf (getD words (x .cursor .used + i) 0)) y) (e - x .cursor .used) x
+
+-- the cursor after as many pops as there are records in use past place e
+unfoldable pub poppedTo : List Record → ℕ → Cursor → Cursor
+poppedTo log e c = iter (λ _ d. popRecord log d .cursor) (c .used - e) c

@@ -3,7 +3,8 @@
 ghost use mathlib.Core.Path.{_≡_};
 ghost use lib.ListN.{getD, set};
 ghost use Rattle.undo_log.specs.Log.{wordOf, recordOf};
-ghost use Rattle.lent_log.specs.Records.{pushing, pushRecord, hasNewest, popping, popRecord, least, loaded, saved};
+ghost use Rattle.lent_log.specs.Records.{pushing, pushRecord, hasNewest, popping, popRecord, least, loaded};
+ghost use Rattle.lent_log.specs.Records.{lent, pushedRun, poppedTo};
 use undo_log::Cursor;
 use undo_log::Record;
 
@@ -108,15 +109,25 @@ pub fn load(log: &[Record], n: usize, words: &mut [u64])
     }
 }
 
-// The words from place `from` up to place `to` as records; all other records stay.
-pub fn save(words: &[u64], from: usize, to: usize, log: &mut [Record])
-    ensures { λ _. ⌜ now (log .exit) ≡ saved (now (words .entry)) from to (now (log .entry)) ⌝ }
+// Pushes the records of the words from the cursor's place up to place `to`, one by one. A full log stays as it is.
+pub fn push_run(words: &[u64], to: usize, log: &mut [Record], cursor: &mut Cursor)
+    ensures { λ _. ⌜ lent (now (log .exit)) (now (cursor .exit)) ≡ pushedRun (now (words .entry)) to (lent (now (log .entry)) (now (cursor .entry))) ⌝ }
 {
-    let m = least(to, words.len(), log.len());
-    let mut i = from;
-    while i < m {
+    let mut i = cursor.used;
+    while i < to {
         let r = get(words, i);
-        log[i] = r;
+        push(log, cursor, r);
         i += 1;
+    }
+}
+
+// Pops one by one until no more than `to` records are in use. A cursor past the log stays as it is.
+pub fn pop_to(log: &[Record], to: usize, cursor: &mut Cursor)
+    ensures { λ _. ⌜ now (cursor .exit) ≡ poppedTo (now (log .entry)) to (now (cursor .entry)) ⌝ }
+{
+    let mut i = cursor.used;
+    while to < i {
+        pop(log, cursor);
+        i -= 1;
     }
 }

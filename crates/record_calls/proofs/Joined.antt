@@ -1,28 +1,29 @@
 -- A call on the loaded words of a log of records is the flat call on the words of the whole log. So a list of calls in this
 -- form gives the replies that the flat calls give: each is the same definition on the log's words.
 use mathlib.Core.Path.{_≡_, refl, sym, ap, ap₂, subst, _∙_}
-use mathlib.Core.Bool.{Bool, true, false, not, _||_}
-use mathlib.Core.List.{List, _∷_, map}
-use Prim.Native.Nat.{ℕ, zero, suc, _+_, _-_, _*_, _/_, _<_, _≤_, _^_}
+use mathlib.Core.Bool.{Bool, true, false, _||_}
+use mathlib.Core.List.{List, [], _∷_, map}
+use Prim.Native.Nat.{ℕ, zero, suc, _+_, _-_, _*_, _/_, _<_, _≤_}
 use native.Mathlib.Omega.{arith}
-use lib.Dec.{eqb, ltb}
+use lib.Dec.{eqb}
 use lib.IntN.{ℤ, pos}
 use lib.ListN.{length, getD, length-map}
 use borrow.Author.Tests.{eqb-true}
 use Rattle.base.specs.Iter.{iter, pick}
 use Rattle.base.specs.Range.{inRange}
 use Rattle.base.specs.Lists.{tab}
-use Rattle.base.proofs.Loop.{pick-yes, pick-no, tested}
+use Rattle.base.proofs.Loop.{pick-yes, pick-no, pick-ind, tested}
 use Rattle.undo_log.specs.declared.Record.{Record}
 use Rattle.undo_log.specs.declared.Cursor.{Cursor}
-use Rattle.undo_log.specs.Log.{wordOf}
-use Rattle.lent_log.specs.Records.{loaded, saved}
+use Rattle.undo_log.specs.Log.{wordOf, movedTo}
+use Rattle.lent_log.specs.Records.{loaded, Lent, lent, pushedRun, poppedTo}
 use Rattle.noting.specs.Note.{Noting, noting, note, known}
 use Rattle.noting.specs.Undo.{recordsOf, undo, kept}
 use Rattle.noting.specs.Undo.{undone as takenBack}
 use Rattle.noting.specs.Standing.{standing, hasVariable, notNewest, standingOf}
 use Rattle.noting.specs.Buffers.{listShort, tableBad, reasonShort}
 use Rattle.noting.proofs.UndoNote.{records-same}
+use Rattle.noting.proofs.Back.{records-length}
 use Rattle.refusals.specs.Refusals.{stateBad, tableStateBad, unknownLit, litNumber, literalRefusal, initializeRefusal, propagateRefusal, undoRefusal, fetchRefusal}
 use Rattle.judge.specs.Judge.{Judged}
 use Rattle.judge.specs.declared.Judgement.{Judgement}
@@ -35,7 +36,7 @@ use Rattle.graph_division.specs.declared.Answer.the-variants.{Refused}
 use Rattle.graph_division.specs.Calls.{outcome, Called, called, refuse, withNoted, withJudged, notedIn, adding, accepting, handingOn, settledBy, settled, propagated, undone, Fetched, fetched, copied, giving, recordedFor, reasonFetched, lastFetched}
 use Rattle.graph_division.specs.Initialize.{notedAt, notedUpTo, takenOver, taking, endedBy, entering, finished, begun, initialized}
 use Rattle.record_calls.specs.Reach.{reaches}
-use Rattle.record_calls.proofs.Loaded.{loaded-length, loaded-in, saved-is, saved-none}
+use Rattle.record_calls.proofs.Loaded.{AllFit, Within, loaded-length, loaded-in, pushed-there, pushed-moved, pushed-none, popped-moved, popped-none}
 use Rattle.refusals.proofs.Accepted.{propagate-accepted, initialize-accepted}
 use Rattle.noting.specs.Good.{GoodLog as Valid}
 use Rattle.noting.proofs.Valid.{note-valid}
@@ -63,6 +64,12 @@ one-more v l ls e = ap (λ (b : Bool). b || hasVariable v ls) e
 occurrences-known : (ws : List ℕ) (x : ℕ) → known ws x ≡ true → occurrences ws x ≡ startAt ws (placeIn ws x + 1) - startAt ws (placeIn ws x)
 unfolding occurrences
 occurrences-known ws x k = pick-yes _ _ k
+
+-- no more records are left than there were
+kept-within : (rs : List Record) → kept rs ≤ length rs
+unfolding kept
+kept-within [] = omega arith
+kept-within (r ∷ rs) = pick-ind (λ n. n ≤ suc (length rs)) (eqb (r .kind) 0) (length rs) (kept rs) (λ _. omega arith) (λ _. omega (arith, kept-within rs))
 
 module _ (s : GraphDivision) (c : Cursor) (log : List Record) (blank : List ℕ) (long : length blank ≡ 4352) where
   -- the whole log's words, and those that are loaded
@@ -101,6 +108,13 @@ module _ (s : GraphDivision) (c : Cursor) (log : List Record) (blank : List ℕ)
   out-state e = state-out (s .plan) ends (s .noted) c whole (ap (λ (n : ℕ). reaches (s .plan) n c) as-long ∙ e)
 
   -- ---- `undo`
+  abbrev pub Moved : Outcome → Type 0
+  Moved o = poppedTo log (o .cursor .used) c ≡ movedTo c (o .cursor .used)
+
+  refused-moved : (n : ℕ) → Moved (refuse n s c)
+  unfolding refuse
+  refused-moved n = popped-none log c
+
   undo-refusal-same : (lit : ℤ) → can ≡ true → undoRefusal (s .plan) ends (s .noted) part c lit ≡ undoRefusal (s .plan) ends (s .noted) whole c lit
   unfolding undoRefusal
   undo-refusal-same lit e = λ i. pick (same-state e i) 7 (pick (unknownLit (s .plan) lit) 9 (pick (notNewest (litNumber lit) (standing (same-records e i))) 11 0))
@@ -113,6 +127,16 @@ module _ (s : GraphDivision) (c : Cursor) (log : List Record) (blank : List ℕ)
     where
       answered : ℕ → List Record → Outcome
       answered n rs = pick (eqb n 0) (outcome (withNoted (takenBack rs (s .noted)) s) (record { used = kept rs; standing = c .standing - 1 }) answer.Undone) (refuse n s c)
+
+  -- the pops of what is taken back bring the cursor there, but for what stands
+  undone-moved : (lit : ℤ) → can ≡ true → Moved (undone s c lit part)
+  unfolding undone undo
+  undone-moved lit e = pick-ind Moved (eqb (undoRefusal (s .plan) ends (s .noted) part c lit) 0) _ _
+      (λ _. let k = kept-within (recordsOf part (c .used)) in popped-moved log c (kept (recordsOf part (c .used))) (omega (arith, k, records-length part (c .used))) (reached (s .plan) ends (s .noted) c (length log) e .1))
+      (λ _. refused-moved _)
+
+  pub undo-moved : (lit : ℤ) (o : Outcome) → o ≡ pick can (undone s c lit part) (refuse 7 s c) → Moved o
+  undo-moved lit o e = subst Moved (sym e) (pick-ind Moved can _ _ (undone-moved lit) (λ _. refused-moved 7))
 
   -- ---- the fetches
   fetch-same : (n : ℕ) → can ≡ true → fetchRefusal (s .plan) ends (s .noted) n part c ≡ fetchRefusal (s .plan) ends (s .noted) n whole c
@@ -141,24 +165,30 @@ module _ (s : GraphDivision) (c : Cursor) (log : List Record) (blank : List ℕ)
       answered : ℕ → Fetched
       answered n = pick (eqb n 0) (copied (s .plan) (s .last) (s .«last_len») b) (fetched (Refused n) b)
 
-  -- ---- the calls that push: what a call left, with its records saved to the log
-  abbrev AllFit : List ℕ → Type 0
-  AllFit l = (i : ℕ) → getD l i 0 < 2 ^ 64
-
+  -- ---- the calls that push: what a call left, with its records pushed on the log
   unfoldable pub back : Called → Called
-  back y = called (y .outcome) (y .table) (y .list) (map wordOf (saved (y .log) (c .used) (y .outcome .cursor .used) log))
+  back y = called (y .outcome) (y .table) (y .list) (map wordOf (pushedRun (y .log) (y .outcome .cursor .used) (lent log c) .log))
 
   -- what did not move the cursor
   refused-back : (n : ℕ) (t list : List ℕ) → back (called (refuse n s c) t list part) ≡ called (refuse n s c) t list whole
   unfolding back refuse
-  refused-back n t list = ap (λ (l : List Record). called (refuse n s c) t list (map wordOf l)) (saved-none part (c .used) log)
+  refused-back n t list = ap (λ (l : Lent). called (refuse n s c) t list (map wordOf (l .log))) (pushed-none part c log)
 
-  -- x is what became of the loaded words, y of the whole log: what is saved is what y has
-  pub stored-back : (x y : Noting) → Alike part whole (c .used) x y → x .cursor .used ≤ 4352 → x .cursor .used ≤ length log → AllFit (x .log) →
-      map wordOf (saved (x .log) (c .used) (x .cursor .used) log) ≡ y .log
-  stored-back x y h in-part in-log fits =
-      saved-is (x .log) fits (c .used) log (x .cursor .used) (omega (arith, h .long-x, part-long)) in-log
-      ∙ sym (alike-stored part whole (c .used) x y h (omega (arith, as-long)))
+  -- the log has room for the records that were pushed on the loaded words
+  abbrev Fits : Called → Type 0
+  Fits y = Within c (length log) (y .outcome .cursor .used)
+
+  refused-fits : (n : ℕ) (t list : List ℕ) → Fits (called (refuse n s c) t list part)
+  unfolding refuse
+  refused-fits n t list = (omega arith, omega arith)
+
+  -- x is what became of the loaded words, y of the whole log: what is pushed is what y has
+  module _ (x y : Noting) (h : Alike part whole (c .used) x y) (in-log : x .cursor .used ≤ length log) where
+    pub noted-fits : Within c (length log) (x .cursor .used)
+    noted-fits = (h .low, omega (arith, h .low))
+
+    pub stored-back : AllFit (x .log) → map wordOf (pushedRun (x .log) (x .cursor .used) (lent log c) .log) ≡ y .log
+    stored-back fits = pushed-there (x .log) c log (x .cursor .used) noted-fits fits ∙ sym (alike-stored part whole (c .used) x y h (omega (arith, as-long)))
 
   module _ (len : length (s .noted) ≡ 384) (t list : List ℕ) where
     -- ---- `propagate`
@@ -189,7 +219,7 @@ module _ (s : GraphDivision) (c : Cursor) (log : List Record) (blank : List ℕ)
         abbrev y : Noting
         y = notedIn s c l whole
 
-        alike : Alike part whole (c .used) x y × (x .cursor .used ≤ 4352) × (x .cursor .used ≤ length log)
+        alike : Alike part whole (c .used) x y × (x .cursor .used ≤ length log)
         unfolding notedIn
         alike =
             let a = propagate-accepted (s .plan) ends (s .noted) part c len t (length list) lit ok in
@@ -203,10 +233,13 @@ module _ (s : GraphDivision) (c : Cursor) (log : List Record) (blank : List ℕ)
             let n = counts (s .plan) ends p (s .noted) part c (a .0 .state .valid .passes) in
             let g = note-alike part whole (c .used) (s .plan) l (noting (s .noted) part c) (noting (s .noted) whole c)
             (alike-start part whole (c .used) (s .noted) c refl (omega (arith, st, n)) (λ i h. sym (agrees e i h))) k (omega (arith, ra, o)) (omega (arith, rb, o)) in
-            (g .0, omega (arith, g .1, ra, o, part-long), omega (arith, g .1, rb, o, as-long))
+            (g .0, omega (arith, g .1, rb, o, as-long))
 
-        logged : AllFit (x .log) → map wordOf (saved (x .log) (c .used) (x .cursor .used) log) ≡ y .log
-        logged fits = let (g, a, b) = alike in stored-back x y g a b fits
+        logged : AllFit (x .log) → map wordOf (pushedRun (x .log) (x .cursor .used) (lent log c) .log) ≡ y .log
+        logged fits = stored-back x y (alike .0) (alike .1) fits
+
+        x-fits : Within c (length log) (x .cursor .used)
+        x-fits = noted-fits x y (alike .0) (alike .1)
 
         adding-back : (t list : List ℕ) → AllFit (x .log) → back (adding s c l t list part) ≡ adding s c l t list whole
         unfolding back adding
@@ -232,6 +265,16 @@ module _ (s : GraphDivision) (c : Cursor) (log : List Record) (blank : List ℕ)
             go true fits = settled-back _ _ fits
             go false fits = adding-back t list fits
 
+        settled-fits : (j : Judged) (q : Judgement) → Fits (settledBy s c l j q t list part)
+        unfolding settledBy handingOn accepting
+        settled-fits j Fine = x-fits
+        settled-fits j (Clash n) = x-fits
+        settled-fits j (Stopped n) = refused-fits n t list
+
+        worked-fits : (pending : ℤ) → Fits (pick (inRange (pos 0) pending) (settled s c l t list part) (adding s c l t list part))
+        unfolding settled adding
+        worked-fits pending = pick-ind Fits (inRange (pos 0) pending) _ _ (λ _. settled-fits _ _) (λ _. x-fits)
+
       pub propagated-back : (pending : ℤ) → AllFit (pick can (propagated s c lit pending t list part) (called (refuse 7 s c) t list part) .log) →
           back (pick can (propagated s c lit pending t list part) (called (refuse 7 s c) t list part)) ≡ propagated s c lit pending t list whole
       unfolding propagated propagateRefusal
@@ -252,6 +295,12 @@ module _ (s : GraphDivision) (c : Cursor) (log : List Record) (blank : List ℕ)
           ap back (pick-no _ _ e)
           ∙ refused-back 7 t list
           ∙ sym (ap (λ (n : ℕ). pick (eqb n 0) (pick (inRange (pos 0) pending) (settled s c l t list whole) (adding s c l t list whole)) (called (refuse n s c) t list whole)) (pick-yes _ _ (table-out e)) ∙ pick-no _ _ refl))
+
+      propagated-fits : (pending : ℤ) → Fits (pick can (propagated s c lit pending t list part) (called (refuse 7 s c) t list part))
+      unfolding propagated
+      propagated-fits pending = pick-ind Fits can _ _
+          (λ e. pick-ind Fits (eqb (refusal part) 0) _ _ (λ z. worked-fits e (eqb-true _ _ z) pending) (λ _. refused-fits (refusal part) t list))
+          (λ _. refused-fits 7 t list)
 
     -- ---- `initialize`
     abbrev ws : List ℕ
@@ -343,12 +392,11 @@ module _ (s : GraphDivision) (c : Cursor) (log : List Record) (blank : List ℕ)
       abbrev in-whole : Noting
       in-whole = upTo whole free
 
-      taken-alike : Alike part whole (c .used) in-part in-whole × (in-part .cursor .used ≤ 4352) × (in-part .cursor .used ≤ length log)
+      taken-alike : Alike part whole (c .used) in-part in-whole × (in-part .cursor .used ≤ length log)
       taken-alike =
           let b = both free (omega arith) in
           let same-used : in-part .cursor .used ≡ in-whole .cursor .used = ap (λ (m : Cursor). m .used) (b .alike .cursor) in (
             b .alike,
-            omega (arith, log-fits ws ends p (in-part .noted) (in-part .log) (in-part .cursor) (b .valid-part .passes), b .alike .long-x, part-long),
             omega (arith, log-fits ws ends p (in-whole .noted) (in-whole .log) (in-whole .cursor) (b .valid-whole .passes), b .alike .long-y, as-long, same-used),
           )
 
@@ -357,8 +405,8 @@ module _ (s : GraphDivision) (c : Cursor) (log : List Record) (blank : List ℕ)
           back (taking s c t part words left g done a after handed list) ≡ taking s c t whole words left g done a after handed list
       unfolding back taking takenOver
       taking-back done a after handed came fits =
-          let (h, in-part, in-log) = taken-alike e p vp vw (g .past) (came .0) (came .1) in
-          let stored = stored-back (upTo part (g .past)) (upTo whole (g .past)) h in-part in-log fits in
+          let (h, in-log) = taken-alike e p vp vw (g .past) (came .0) (came .1) in
+          let stored = stored-back (upTo part (g .past)) (upTo whole (g .past)) h in-log fits in
           λ i. called (outcome (record {
             plan = s .plan;
             edges = s .edges;
@@ -375,6 +423,16 @@ module _ (s : GraphDivision) (c : Cursor) (log : List Record) (blank : List ℕ)
       ended-back Fine after handed came fits = taking-back true _ after handed came fits
       ended-back (Clash n) after handed came fits = taking-back (s .initialized) _ after handed came fits
       ended-back (Stopped n) after handed came fits = refused-back n t list
+
+      taking-fits : (done : Bool) (a : Answer) (after handed : List ℕ) → Free ws ends t part (c .used) (g .past) × (g .past ≤ 2 * variablesOf ws) → Fits (taking s c t part words left g done a after handed list)
+      unfolding taking takenOver
+      taking-fits done a after handed came = let (h, in-log) = taken-alike e p vp vw (g .past) (came .0) (came .1) in noted-fits (upTo part (g .past)) (upTo whole (g .past)) h in-log
+
+      ended-fits : (j : Judgement) (after handed : List ℕ) → Came ws ends t part (c .used) j (g .past) → Fits (endedBy s c t part words left g j t after handed list)
+      unfolding endedBy
+      ended-fits Fine after handed came = taking-fits true _ after handed came
+      ended-fits (Clash n) after handed came = taking-fits (s .initialized) _ after handed came
+      ended-fits (Stopped n) after handed came = refused-fits n t list
 
     -- the literals are gone through with the same standing ones
     gone-same : can ≡ true → (z : Way) → goneThrough ws ends t part (c .used) z ≡ goneThrough ws ends t whole (c .used) z
@@ -410,6 +468,20 @@ module _ (s : GraphDivision) (c : Cursor) (log : List Record) (blank : List ℕ)
         ended-back e (a .plan) (a .valid) (b .valid) (f .words) (f .left) (f .progress) (f .progress .judgement) (f .table) (f .list) entered-came fits
         ∙ ap (λ (w : Way). endedBy s c t whole (w .words) (w .left) (w .progress) (w .progress .judgement) t (w .table) (w .list) list) (finished-same e)
 
+    begun-fits : can ≡ true → start-refusal part ≡ 0 → Fits (begun s c t part list)
+    unfolding begun
+    begun-fits e ok =
+        let a = initialize-accepted ws ends (s .noted) part c len t (length list) (s .initialized) ok .0 .state in
+        let b = initialize-accepted ws ends (s .noted) whole c len t (length list) (s .initialized) (sym (start-same e) ∙ ok) .0 .state in
+        let f = finished s c t part in
+        ended-fits e (a .plan) (a .valid) (b .valid) (f .words) (f .left) (f .progress) (f .progress .judgement) (f .table) (f .list) entered-came
+
+    initialized-fits : Fits (pick can (initialized s c t part list) (called (refuse 7 s c) t list part))
+    unfolding initialized
+    initialized-fits = pick-ind Fits can _ _
+        (λ e. pick-ind Fits (eqb (start-refusal part) 0) _ _ (λ z. begun-fits e (eqb-true _ _ z)) (λ _. refused-fits (start-refusal part) t list))
+        (λ _. refused-fits 7 t list)
+
     pub initialized-back : AllFit (pick can (initialized s c t part list) (called (refuse 7 s c) t list part) .log) → back (pick can (initialized s c t part list) (called (refuse 7 s c) t list part)) ≡ initialized s c t whole list
     unfolding initialized initializeRefusal
     initialized-back fits = tested can
@@ -430,13 +502,27 @@ module _ (s : GraphDivision) (c : Cursor) (log : List Record) (blank : List ℕ)
         ∙ refused-back 7 t list
         ∙ sym (ap (λ (n : ℕ). pick (eqb n 0) (begun s c t whole list) (called (refuse n s c) t list whole)) (pick-yes _ _ (table-out e)) ∙ pick-no _ _ refl))
 
-    module _ (o : Outcome) (t′ list′ words : List ℕ) (fits : AllFit words) where
-      pub propagate-joined : (lit pending : ℤ) → called o t′ list′ words ≡ pick can (propagated s c lit pending t list part) (called (refuse 7 s c) t list part)
-          → called o t′ list′ (map wordOf (saved words (c .used) (o .cursor .used) log)) ≡ propagated s c lit pending t list whole
-      unfolding back
-      propagate-joined lit pending e = ap back e ∙ propagated-back lit pending (subst (λ (m : Called). AllFit (m .log)) e fits)
+    module _ (o : Outcome) (t′ list′ words : List ℕ) where
+      -- the log then
+      abbrev logged-as : Called → Type 0
+      logged-as y = called o t′ list′ (map wordOf (pushedRun words (o .cursor .used) (lent log c) .log)) ≡ y
 
-      pub initialize-joined : called o t′ list′ words ≡ pick can (initialized s c t part list) (called (refuse 7 s c) t list part)
-          → called o t′ list′ (map wordOf (saved words (c .used) (o .cursor .used) log)) ≡ initialized s c t whole list
-      unfolding back
-      initialize-joined e = ap back e ∙ initialized-back (subst (λ (m : Called). AllFit (m .log)) e fits)
+      -- and the cursor, but for what stands
+      abbrev moved-as : Type 0
+      moved-as = pushedRun words (o .cursor .used) (lent log c) .cursor ≡ movedTo c (o .cursor .used)
+
+      module _ (lit pending : ℤ) (e : called o t′ list′ words ≡ pick can (propagated s c lit pending t list part) (called (refuse 7 s c) t list part)) where
+        pub propagate-joined : AllFit words → logged-as (propagated s c lit pending t list whole)
+        unfolding back
+        propagate-joined fits = ap back e ∙ propagated-back lit pending (subst (λ (m : Called). AllFit (m .log)) e fits)
+
+        pub propagate-moved : moved-as
+        propagate-moved = pushed-moved words c log (o .cursor .used) (subst Fits (sym e) (propagated-fits lit pending))
+
+      module _ (e : called o t′ list′ words ≡ pick can (initialized s c t part list) (called (refuse 7 s c) t list part)) where
+        pub initialize-joined : AllFit words → logged-as (initialized s c t whole list)
+        unfolding back
+        initialize-joined fits = ap back e ∙ initialized-back (subst (λ (m : Called). AllFit (m .log)) e fits)
+
+        pub initialize-moved : moved-as
+        initialize-moved = pushed-moved words c log (o .cursor .used) (subst Fits (sym e) initialized-fits)

@@ -1,5 +1,6 @@
-// The propagator's calls in the form that a caller holds: the undo log is a lent slice of records, and the cursor is lent and
-// moves in place. Each loads the records in use as words, makes the flat call, and saves the records that it pushed.
+// The propagator's calls in the form that a caller holds: the undo log is a lent slice of records, and the cursor is
+// lent and moves in place. Each loads the records in use as words and makes the flat call on them. What this pushed is
+// then pushed on the lent log, record by record, and what it took back is popped.
 pub mod calc_reason;
 pub mod initialize;
 pub mod propagate;

@@ -4,6 +4,7 @@ use crate::refuse;
 use graph_division::GraphDivision;
 use graph_division::Outcome;
 use lent_log::load;
+use lent_log::pop_to;
 use undo_log::Cursor;
 use undo_log::Record;
 ghost use mathlib.Core.Path.{_≡_};
@@ -37,6 +38,7 @@ pub fn undo(s: GraphDivision, log: &[Record], cursor: &mut Cursor, lit: i32) -> 
     let c = *cursor;
     load(log, c.used, &mut words);
     let out = undo_words(s, &words, log.len(), c, lit);
-    *cursor = out.cursor;
+    pop_to(log, out.cursor.used, cursor);
+    cursor.standing = out.cursor.standing;
     out
 }

@@ -1,11 +1,13 @@
 -- A region's vertices as they were written, and the loops that choose one of them.
 use Prim.Native.Nat.{ℕ, zero, suc, _+_, _<_, _≤_}
 use native.Mathlib.Omega.{arith}
+use native.Mathlib.Numerals.{add-one}
 use mathlib.Core.Path.{_≡_, refl, sym, ap, ap₂, _∙_, subst}
 use mathlib.Core.Bool.{Bool, true, false}
 use mathlib.Core.List.{List, [], _∷_, _++_, append-assoc, append-nil}
 use lib.Dec.{ltb}
-use lib.ListN.{length, set, length-set, length-replicate}
+use lib.ListN.{length, set, take, drop, length-set, length-replicate}
+use lib.Seq.{take-suc-set, drop-cons, drop-length}
 use borrow.Author.Tests.{lt-ltb, le-ltb}
 use Rattle.base.specs.Iter.{pick}
 use Rattle.base.specs.Lists.{tab}
@@ -25,27 +27,29 @@ use Rattle.plan.specs.Words.{word, verticesOf, edgesOf}
 use Rattle.division.specs.Views.{membersOf}
 use Rattle.division.specs.Analysis.{best}
 use Rattle.views.specs.Compute.{zeros}
-use Rattle.views.specs.Cells.{takenOf}
 use Rattle.views.specs.Members.{reaches, membersFrom, higher, lesser, extremes}
 use Rattle.views.specs.declared.members.Extremes.{Extremes}
 use Rattle.noting.specs.Words.{stateOf}
-use Rattle.views.proofs.Taken.{rest, rest-zero, rest-more, rest-end, tab-stored}
 
 tab-length : (f : ℕ → ℕ) (n : ℕ) → length (tab f n) ≡ n
 unfolding tab
 tab-length f zero = refl
 tab-length f (suc n) = ap suc (tab-length (λ i. f (suc i)) n)
 
--- a list that was written where there is room is read back
-written-taken : (l t : List ℕ) (n : ℕ) → n + length l ≤ length t → (takenOf (written l (outOf t n) .text) (written l (outOf t n) .place) ≡ takenOf t n ++ l) × (written l (outOf t n) .place ≡ n + length l)
+taken-stored : (t : List ℕ) (n x : ℕ) → n < length t → take (n + 1) (set t n x) ≡ take n t ++ (x ∷ [])
+taken-stored t n x h = rw add-one (take-suc-set t n x h)
+
+-- a list that was written where there is room is a part of what was written to
+written-taken : (l t : List ℕ) (n : ℕ) → n + length l ≤ length t → (take (written l (outOf t n) .place) (written l (outOf t n) .text) ≡ take n t ++ l) × (written l (outOf t n) .place ≡ n + length l) × (length (written l (outOf t n) .text) ≡ length t)
 unfolding written
-written-taken [] t n h = (sym (append-nil (takenOf t n)), omega arith)
+written-taken [] t n h = (sym (append-nil (take n t)), omega arith, refl)
 written-taken (x ∷ l) t n h =
     let r = written-taken l (set t n x) (n + 1) (omega (arith, length-set t n x)) in
     let e = pushed-room x t n (omega arith) in (
-      subst (λ (o : Out). takenOf (written l o .text) (written l o .place) ≡ takenOf t n ++ (x ∷ l)) (sym e)
-          (r .0 ∙ ap (λ (y : List ℕ). y ++ l) (tab-stored t n x (omega arith)) ∙ append-assoc (takenOf t n) (x ∷ []) l),
+      subst (λ (o : Out). take (written l o .place) (written l o .text) ≡ take n t ++ (x ∷ l)) (sym e)
+          (r .0 ∙ ap (λ (y : List ℕ). y ++ l) (taken-stored t n x (omega arith)) ∙ append-assoc (take n t) (x ∷ []) l),
       subst (λ (o : Out). written l o .place ≡ n + suc (length l)) (sym e) (r .1 ∙ omega arith),
+      subst (λ (o : Out). length (written l o .text) ≡ length t) (sym e) (r .2 ∙ length-set t n x),
     )
 
 module _ (ws : List ℕ) (es : List (List ℕ)) (noted : List ℕ) (region : ℕ) (z : Shape) (ev : z .«num_vertices» ≡ verticesOf ws) (ee : z .«num_edges» ≡ edgesOf ws) where
@@ -77,17 +81,18 @@ module _ (ws : List ℕ) (es : List (List ℕ)) (noted : List ℕ) (region : ℕ
     unfolding regionVertices missing
     written-no h = ap (λ (a : Answer). a .listed) (e ∙ pick-no _ _ h)
 
-    pub members-past : (n : ℕ) → r ≡ Past n → (true ≡ reaches ws es noted region) × (true ≡ true → (n ≤ 64) × (takenOf t n ≡ membersFrom ws es noted region))
-    unfolding given tab
+    pub members-past : (n : ℕ) → r ≡ Past n → (true ≡ reaches ws es noted region) × (true ≡ true → (n ≤ length t) × (take n t ≡ membersFrom ws es noted region))
+    unfolding given
     members-past n p =
         tested (startable es noted z region)
         (λ h.
         let y = written-yes h in
         let a : Past (written list (outOf zeros 0) .place) ≡ r = sym (ap (λ (a : Answer). a .listed) y) in
-        let w = written-taken list zeros 0 (omega (arith, list-short h, length-replicate {0} {A = ℕ} 64 0)) in
+        let room : length list ≤ length zeros = omega (arith, list-short h, length-replicate {0} {A = ℕ} 64 0) in
+        let w = written-taken list zeros 0 (omega arith) in
         let k : n ≡ written list (outOf zeros 0) .place = cc in
         let u : t ≡ written list (outOf zeros 0) .text = ap (λ (a : Answer). a .text) y in
-        (sym h ∙ reaches-is, λ _. (omega (arith, w .1, list-short h), ap₂ takenOf u k ∙ w .0 ∙ list-is)))
+        (sym h ∙ reaches-is, λ _. (omega (arith, w .1, ap length u ∙ w .2), ap₂ (λ (m : ℕ) (x : List ℕ). take m x) k u ∙ w .0 ∙ list-is)))
         (λ h. let q = written-no h in let x : _≡_ {A = ℕ} 0 1 = cc in absurd (omega arith))
 
     pub members-missing : r ≡ Missing → false ≡ reaches ws es noted region
@@ -99,25 +104,29 @@ module _ (ws : List ℕ) (es : List (List ℕ)) (noted : List ℕ) (region : ℕ
         let x : _≡_ {A = ℕ} 0 1 = cc in absurd (omega arith))
         (λ h. sym h ∙ reaches-is)
 
--- ---- the first that a test prefers to all before it
-module _ (t : ℕ → ℕ → Bool) (l : List ℕ) (n r : ℕ) where
+-- ---- of a list the first that a test prefers to all before it
+module _ (t : ℕ → ℕ → Bool) (l : List ℕ) (r : ℕ) where
   pub record Choosing (a i : ℕ) : Type 0 where
-    pub within : i ≤ n
-    pub is : best t r (takenOf l n) ≡ best t a (rest (word l) n i)
+    pub within : i ≤ length l
+    pub is : best t r l ≡ best t a (drop i l)
 
   pub choose-begins : Choosing r 0
-  choose-begins = record { within = omega arith; is = ap (best t r) (rest-zero (word l) n) }
+  choose-begins = record { within = omega arith; is = refl }
 
-  pub choose-next : (a i c a′ : ℕ) → Choosing a i → i < n → c ≡ word l i → a′ ≡ pick (t c a) c a → Choosing a′ (i + 1)
+  pub choose-next : (a i c a′ : ℕ) → Choosing a i → i < length l → c ≡ word l i → a′ ≡ pick (t c a) c a → Choosing a′ (i + 1)
   unfolding best
-  choose-next a i c a′ v h e f = record {
-    within = omega arith;
-    is = v .is ∙ ap (best t a) (rest-more (word l) n i h ∙ ap (λ (x : ℕ). x ∷ rest (word l) n (i + 1)) (sym e)) ∙ ap (λ (x : ℕ). best t x (rest (word l) n (i + 1))) (sym f);
-  }
+  choose-next a i c a′ v h e f =
+      let on : suc i ≡ i + 1 = omega arith in
+      record {
+        within = omega arith;
+        is = v .is ∙ ap (best t a) (drop-cons l i 0 h ∙ ap₂ (λ (x k : ℕ). x ∷ drop k l) (sym e) on) ∙ ap (λ (x : ℕ). best t x (drop (i + 1) l)) (sym f);
+      }
 
-  pub choose-ends : (a i : ℕ) → Choosing a i → n ≤ i → a ≡ best t r (takenOf l n)
+  pub choose-ends : (a i : ℕ) → Choosing a i → length l ≤ i → a ≡ best t r l
   unfolding best
-  choose-ends a i v h = sym (v .is ∙ ap (best t a) (rest-end (word l) n i h))
+  choose-ends a i v h =
+      let all : i ≡ length l = omega (arith, v .within) in
+      sym (v .is ∙ ap (best t a) (ap (λ (k : ℕ). drop k l) all ∙ drop-length l))
 
 -- a choice by a test of what was read
 pub chosen-yes : (x y u v c a a′ : ℕ) → x ≡ u → y ≡ v → x < y → a′ ≡ c → a′ ≡ pick (ltb u v) c a
@@ -131,12 +140,16 @@ abbrev pub extremesAt : Bool → ℕ → ℕ → Extremes
 extremesAt f a b = record { found = f; «lower_bound_idx» = a; «upper_bound_idx» = b }
 
 module _ (ws : List ℕ) (es : List (List ℕ)) (noted : List ℕ) (region : ℕ) (k : Bool) (n : ℕ) (l : List ℕ) (e : k ≡ reaches ws es noted region)
-    (m : k ≡ true → (n ≤ 64) × (takenOf l n ≡ membersFrom ws es noted region)) where
-  pub extremes-found : (a b : ℕ) → k ≡ true → a ≡ best (higher (stateOf noted)) region (takenOf l n) → b ≡ best (lesser (stateOf noted)) region (takenOf l n) →
+    (m : k ≡ true → (n ≤ length l) × (take n l ≡ membersFrom ws es noted region)) where
+  -- the part of the list up to e, where e is n as code counts it
+  part-is : (e : ℕ) → e ≡ n → k ≡ true → take e l ≡ membersFrom ws es noted region
+  part-is e z h = ap (λ (i : ℕ). take i l) z ∙ m h .1
+
+  pub extremes-found : (a b e : ℕ) → e ≡ n → k ≡ true → a ≡ best (higher (stateOf noted)) region (take e l) → b ≡ best (lesser (stateOf noted)) region (take e l) →
       extremesAt true a b ≡ extremes ws es noted region
   unfolding extremes
-  extremes-found a b h p q =
-      ap₂ (extremesAt true) (p ∙ ap (best (higher (stateOf noted)) region) (m h .1)) (q ∙ ap (best (lesser (stateOf noted)) region) (m h .1)) ∙ sym (pick-yes _ _ (sym e ∙ h))
+  extremes-found a b i z h p q =
+      ap₂ (extremesAt true) (p ∙ ap (best (higher (stateOf noted)) region) (part-is i z h)) (q ∙ ap (best (lesser (stateOf noted)) region) (part-is i z h)) ∙ sym (pick-yes _ _ (sym e ∙ h))
 
   pub extremes-none : k ≡ false → extremesAt false 0 0 ≡ extremes ws es noted region
   unfolding extremes

@@ -9,9 +9,9 @@ use walks::region_vertices;
 ghost use mathlib.Core.Path.{_≡_};
 ghost use mathlib.Core.Bool.{true};
 ghost use Prim.Native.Nat.{_≤_};
+ghost use lib.ListN.{length, take};
 ghost use Rattle.division.specs.Analysis.{best};
 ghost use Rattle.noting.specs.Words.{stateOf};
-ghost use Rattle.views.specs.Cells.{takenOf};
 ghost use Rattle.views.specs.Members.{reaches, membersFrom, higher, lesser, extremes};
 
 // The two vertices. Not found where the region cannot be walked.
@@ -29,7 +29,7 @@ struct Members {
 }
 
 fn list_members(plan: &Plan, edges: Edges, noted: &Noted, region: usize) -> Members
-    ensures { λ r. ⌜ (r .known ≡ reaches (now (plan .entry)) edges (now (noted .entry)) region) × (r .known ≡ true → (r .count ≤ 64) × (takenOf (r .list) (r .count) ≡ membersFrom (now (plan .entry)) edges (now (noted .entry)) region)) ⌝ }
+    ensures { λ r. ⌜ (r .known ≡ reaches (now (plan .entry)) edges (now (noted .entry)) region) × (r .known ≡ true → (r .count ≤ length (r .list)) × (take (r .count) (r .list) ≡ membersFrom (now (plan .entry)) edges (now (noted .entry)) region)) ⌝ }
 {
     let shape = Shape {
         num_vertices: plan::num_vertices(plan) as usize,
@@ -58,15 +58,14 @@ fn vertex(x: u32) -> usize
     x as usize
 }
 
-// The first that has the greatest lower bound, or `region` where none has a greater one than it.
-fn highest_lower(noted: &Noted, list: &[u32; 64], count: usize, region: usize) -> usize
-    requires { ⌜ count ≤ 64 ⌝ }
-    ensures { λ r. ⌜ r ≡ best (higher (stateOf (now (noted .entry)))) region (takenOf (now (list .entry)) count) ⌝ }
+// Of a region's vertices the first with the greatest lower bound, or `region` where none has a greater one than it.
+fn highest_lower(noted: &Noted, vertices: &[u32], region: usize) -> usize
+    ensures { λ r. ⌜ r ≡ best (higher (stateOf (now (noted .entry)))) region (now (vertices .entry)) ⌝ }
 {
     let mut a = region;
     let mut i = 0;
-    while i < count {
-        let c = vertex(list[i]);
+    while i < vertices.len() {
+        let c = vertex(vertices[i]);
         if noting::lower_bound(noted, a) < noting::lower_bound(noted, c) {
             a = c;
         }
@@ -75,15 +74,14 @@ fn highest_lower(noted: &Noted, list: &[u32; 64], count: usize, region: usize) -
     a
 }
 
-// The first that has the least upper bound.
-fn lowest_upper(noted: &Noted, list: &[u32; 64], count: usize, region: usize) -> usize
-    requires { ⌜ count ≤ 64 ⌝ }
-    ensures { λ r. ⌜ r ≡ best (lesser (stateOf (now (noted .entry)))) region (takenOf (now (list .entry)) count) ⌝ }
+// The first with the least upper bound.
+fn lowest_upper(noted: &Noted, vertices: &[u32], region: usize) -> usize
+    ensures { λ r. ⌜ r ≡ best (lesser (stateOf (now (noted .entry)))) region (now (vertices .entry)) ⌝ }
 {
     let mut a = region;
     let mut i = 0;
-    while i < count {
-        let c = vertex(list[i]);
+    while i < vertices.len() {
+        let c = vertex(vertices[i]);
         if noting::upper_bound(noted, c) < noting::upper_bound(noted, a) {
             a = c;
         }
@@ -92,14 +90,18 @@ fn lowest_upper(noted: &Noted, list: &[u32; 64], count: usize, region: usize) ->
     a
 }
 
-// The vertices that step 4 names where the bounds of a region do not meet.
+// The vertices that step 4 names where the bounds of a region do not meet. The region is lent as a part of the list
+// that the search wrote.
 pub fn extreme_vertices(plan: &Plan, edges: Edges, noted: &Noted, region: usize) -> Extremes
     ensures { λ r. ⌜ r ≡ extremes (now (plan .entry)) edges (now (noted .entry)) region ⌝ }
 {
     let m = list_members(plan, edges, noted, region);
     if m.known {
-        let lower = highest_lower(noted, &m.list, m.count, region);
-        let upper = lowest_upper(noted, &m.list, m.count, region);
+        let list = m.list;
+        let count = m.count;
+        let vertices = &list[0..count];
+        let lower = highest_lower(noted, vertices, region);
+        let upper = lowest_upper(noted, vertices, region);
         return Extremes {
             found: true,
             lower_bound_idx: lower,
