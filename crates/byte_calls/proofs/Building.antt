@@ -30,7 +30,7 @@ use Rattle.lent.specs.Lent.{stateOf}
 use Rattle.byte_calls.specs.Bytes.{wordAt, longAt, putWords}
 use Rattle.byte_calls.specs.Layout.{inUse, planIn, endsAt, endsIn, wordsIn, reasonIn, reasonsIn, stateIn}
 use Rattle.byte_calls.specs.After.{BytesAfter}
-use Rattle.byte_calls.specs.Stores.{Kept, putNoted, putEnds, putEdges, cleared}
+use Rattle.byte_calls.specs.Stores.{BytesKept, putNoted, putEnds, putEdges, cleared}
 use Rattle.byte_calls.specs.Build.{buildRefused}
 use Rattle.byte_calls.proofs.Filling.{iter-length}
 use Rattle.byte_calls.proofs.Agreeing.{Agree, agree-word, agree-then, agree-part, putWords-agrees, putWords-in}
@@ -210,9 +210,9 @@ module _ (ws noted : List ℕ) (t : List (List ℕ)) (b c : List ℕ) (r : 13344
       (zero-word b1 long 62756 (omega arith) (omega arith) i)
       (not (eqb (zero-word b1 long 62760 (omega arith) (omega arith) i) 0)))
 
-  pub bytes-kept : Kept b c
+  pub bytes-kept : BytesKept b c
   unfolding cleared
-  bytes-kept = subst (Kept b) (sym e) (kept-by b b2 (filled-length 62756 (λ i. 0) b1 70684 ∙ putEdges-length t b)
+  bytes-kept = subst (BytesKept b) (sym e) (kept-by b b2 (filled-length 62756 (λ i. 0) b1 70684 ∙ putEdges-length t b)
       (λ hi. agree-then (cleared-agrees b1 long 133440 hi (inr (omega arith))) (putEdges-agrees t b 133440 hi (inr (omega arith)))))
 
 pub built-state : (vs : List ℤ) (n : ℕ) (es : List ℤ) (m : ℕ) (x y : Bool) (ws noted : List ℕ) (t : List (List ℕ)) (b c : List ℕ) → refusal vs n es m ≡ 0 →
@@ -242,7 +242,7 @@ module _ (vs : List ℤ) (n : ℕ) (es : List ℤ) (m : ℕ) (x y : Bool) (ws no
       b1 ≡ putNoted noted (putWords 0 ws 15241 b) → ((i : ℕ) → i < 15241 → wordAt b1 (4 * i) ≡ getD ws i 0) → wordsIn b1 61220 384 ≡ noted → b2 ≡ putEdges t b1 → c ≡ cleared b2 →
       BytesAfter false (built vs n es m x y .state) b c
   build-after r l p d q h e words notes f g =
-      let k : Kept b b1 = kept-then (words-kept 0 ws 15241 b (omega arith)) (noted-kept noted (putWords 0 ws 15241 b) b1 e) in
+      let k : BytesKept b b1 = kept-then (words-kept 0 ws 15241 b (omega arith)) (noted-kept noted (putWords 0 ws 15241 b) b1 e) in
       let k1 : 133440 ≤ length b1 = omega (arith, k .size) in
       let e2 : c ≡ cleared (putEdges t b1) = g ∙ ap cleared f in
       record {

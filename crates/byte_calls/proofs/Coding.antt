@@ -9,7 +9,7 @@ use mir.Val.{toZ, ofZ}
 use Rattle.base.proofs.Range.{reads-back}
 use Rattle.graph_division.specs.declared.Answer.{Answer}
 use Rattle.graph_division.specs.declared.Answer.the-variants.{Consistent, Conflict, Noted, Undone, Reason, Refused}
-use Rattle.byte_calls.specs.Codes.{fitted, codeOf}
+use Rattle.byte_calls.specs.Codes.{fitted, answerCode}
 use Rattle.byte_calls.proofs.Filling.{cap-most}
 
 fitted-most : (n : ℕ) → fitted n ≤ 2147483647
@@ -29,8 +29,8 @@ fitted-pos n z e = ap (λ (y : ℤ). toZ w32 (ofZ w32 y)) e ∙ pos-back (fitted
 pub fitted-neg : (n : ℕ) (z : ℤ) → z ≡ negℤ (pos (fitted n)) → toZ w32 (ofZ w32 z) ≡ negℤ (pos (fitted n))
 fitted-neg n z e = ap (λ (y : ℤ). toZ w32 (ofZ w32 y)) e ∙ neg-back (fitted n) (fitted-most n)
 
-code-is-back : (a : Answer) → toZ w32 (ofZ w32 (codeOf a)) ≡ codeOf a
-unfolding codeOf
+code-is-back : (a : Answer) → toZ w32 (ofZ w32 (answerCode a)) ≡ answerCode a
+unfolding answerCode
 code-is-back (Consistent n) = pos-back (fitted n) (fitted-most n)
 code-is-back Conflict = reads-back (negsuc 99) (omega arith)
 code-is-back Noted = reads-back (negsuc 100) (omega arith)
@@ -38,5 +38,5 @@ code-is-back Undone = reads-back (pos 0) (omega arith)
 code-is-back (Reason n) = pos-back (fitted n) (fitted-most n)
 code-is-back (Refused n) = neg-back (fitted n) (fitted-most n)
 
-pub code-back : (a : Answer) (z : ℤ) → z ≡ codeOf a → toZ w32 (ofZ w32 z) ≡ codeOf a
+pub code-back : (a : Answer) (z : ℤ) → z ≡ answerCode a → toZ w32 (ofZ w32 z) ≡ answerCode a
 code-back a z e = ap (λ (y : ℤ). toZ w32 (ofZ w32 y)) e ∙ code-is-back a

@@ -16,7 +16,7 @@ use Rattle.base.specs.Lists.{filled}
 use Rattle.base.proofs.Loop.{iter-ind, iter-zero, pick-ind, pick-yes, pick-no}
 use Rattle.sweep.specs.Sweep.{proposedAt}
 use Rattle.byte_calls.specs.Bytes.{wordAt, putHalf, putWord, putLong, putHalves, putWords, putLongs}
-use Rattle.byte_calls.specs.Layout.{window, wordsIn, endsAt, roomOf}
+use Rattle.byte_calls.specs.Layout.{window, wordsIn, endsAt, usedEntries}
 use Rattle.byte_calls.specs.Stores.{putReason, putReasons, putLast, putNoted}
 
 pub filled-more : (f : ℕ → ℕ) (a i k : ℕ) (l x : List ℕ) (v : ℕ) → x ≡ filled a i f l → k ≡ a + i → v ≡ f i → set x k v ≡ filled a (i + 1) f l
@@ -105,8 +105,8 @@ pub ends-more : (b : List ℕ) (g n : ℕ) (t : List (List ℕ)) (z : List (List
 unfolding iter endsAt
 ends-more b g n t z e = rw add-one (ap (λ (t : List (List ℕ)). set t g (getD b (60964 + 2 * g) 0 ∷ getD b (60965 + 2 * g) 0 ∷ [])) e)
 
-pub room-is : (n : ℕ) → roomOf n ≡ capped n 4352
-unfolding roomOf
+pub room-is : (n : ℕ) → usedEntries n ≡ capped n 4352
+unfolding usedEntries
 room-is n = refl
 
 pub none-put : (l : List ℕ) (from to : ℕ) (b : List ℕ) → to ≤ from → b ≡ putLongs l from (to - from) b

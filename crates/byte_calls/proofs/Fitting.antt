@@ -24,7 +24,7 @@ use Rattle.noting.specs.Note.{Noting, sizeEffect, edgeEffect, effectOf, undoRec
 use Rattle.noting.specs.Undo.{recordsOf, kept}
 use Rattle.refusals.specs.Refusals.{litNumber}
 use Rattle.byte_calls.specs.Bytes.{wordAt, longAt}
-use Rattle.byte_calls.specs.Layout.{window, sizesOf, litsOf, placesOf, indexOf, inUseOver, inUse, planIn, wordsIn, roomOf, recordsIn, logIn}
+use Rattle.byte_calls.specs.Layout.{window, sizesOf, litsOf, placesOf, indexOf, inUseOver, inUse, planIn, wordsIn, usedEntries, recordsIn, logIn}
 use Rattle.byte_calls.proofs.LastList.{Bytes, word-fits}
 
 -- kind and index of a byte each, a literal of two and a bound of four
@@ -83,8 +83,8 @@ long-fits b a h = omega (arith, word-fits b a h, word-fits b (a + 4) h)
 
 pub log-under : (c : Cursor) (log : List ℕ) → Bytes log → Under 18446744073709551616 (logIn c log)
 unfolding logIn recordsIn
-log-under c log h = take-under 18446744073709551616 (roomOf (length log / 8)) (recordsIn c log) (omega arith)
-    (filled-under 18446744073709551616 0 (capped (c .used) (roomOf (length log / 8))) (λ i. longAt log (8 * i)) (replicate 4352 0) (λ i. long-fits log (8 * i) h) (none-under 18446744073709551616 4352 (omega arith)))
+log-under c log h = take-under 18446744073709551616 (usedEntries (length log / 8)) (recordsIn c log) (omega arith)
+    (filled-under 18446744073709551616 0 (capped (c .used) (usedEntries (length log / 8))) (λ i. longAt log (8 * i)) (replicate 4352 0) (λ i. long-fits log (8 * i) h) (none-under 18446744073709551616 4352 (omega arith)))
 
 -- ---- a notification
 record Effected (e : Effect) : Type 0 where

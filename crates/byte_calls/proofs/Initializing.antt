@@ -20,8 +20,8 @@ use Rattle.lent.specs.Lent.{stateOf, stateAfter, calledOf, withInitialized, beg
 use Rattle.byte_calls.specs.Bytes.{putWord}
 use Rattle.graph_division.specs.Answers.{isRefused, isConsistent}
 use Rattle.byte_calls.specs.Layout.{wordsIn, stateIn, cursorIn}
-use Rattle.byte_calls.specs.Stores.{Kept}
-use Rattle.byte_calls.specs.Host.{Left, left, leftBy, leftOf, StateAfter, AfterOf, initializedIn, hostInitialized, tooShort, short}
+use Rattle.byte_calls.specs.Stores.{BytesKept}
+use Rattle.byte_calls.specs.Host.{Left, leftWith, leftBy, leftOf, StateAfter, AfterOf, initializedIn, hostInitialized, tooShort, short}
 use Rattle.byte_calls.proofs.Agreeing.{agree-word, putWord-agrees, putWord-in}
 use Rattle.byte_calls.proofs.Standing.{plan-same, ends-same, words-same, reasons-same}
 use Rattle.byte_calls.proofs.Keeping.{kept-then}
@@ -53,8 +53,8 @@ refused-open (Refused number) e = refl
 
 -- an initialise on what is decoded, and what it leaves
 module _ (s : GraphDivision) (c : Cursor) (noted words lefts : List ℕ) (d : Done) (t lits records : List ℕ) (y : Called) (e : begunOf s noted words lefts d t lits records ≡ y) where
-  pub begun-leaves : (list log cursor list′ log′ cursor′ : List ℕ) (r : ℤ) → left r [] list′ log′ cursor′ ≡ leftBy (d .answer) c (d .cursor) [] lits records list log cursor →
-      left r t list′ log′ cursor′ ≡ leftOf c y list log cursor
+  pub begun-leaves : (list log cursor list′ log′ cursor′ : List ℕ) (r : ℤ) → leftWith r [] list′ log′ cursor′ ≡ leftBy (d .answer) c (d .cursor) [] lits records list log cursor →
+      leftWith r t list′ log′ cursor′ ≡ leftOf c y list log cursor
   unfolding leftOf calledOf begunOf
   begun-leaves list log cursor list′ log′ cursor′ r h =
       leaves s c noted words lefts d t lits records (calledOf s noted words lefts d t lits records) refl list log cursor list′ log′ cursor′ r h
@@ -66,7 +66,7 @@ module _ (s : GraphDivision) (c : Cursor) (noted words lefts : List ℕ) (d : Do
       (g : isRefused (d .answer) ≡ false → stateAfter (stateIn b) noted words lefts d .«last_len» < 4294967296 → stateIn m ≡ stateAfter (stateIn b) noted words lefts d)
       (j : isConsistent (d .answer) ≡ true → stateIn b′ ≡ withInitialized (stateIn m))
       (k : isConsistent (d .answer) ≡ false → b′ ≡ m)
-      (l : Kept b m) (o : Kept m b′) where
+      (l : BytesKept b m) (o : BytesKept m b′) where
     changed : isRefused (d .answer) ≡ false → stateAfter s noted words lefts d .«last_len» < 4294967296 → stateIn m ≡ stateAfter s noted words lefts d
     changed n h = g n (subst (λ (s : GraphDivision). stateAfter s noted words lefts d .«last_len» < 4294967296) q h) ∙ ap (λ (s : GraphDivision). stateAfter s noted words lefts d) (sym q)
 
@@ -85,7 +85,7 @@ module _ (s : GraphDivision) (c : Cursor) (noted words lefts : List ℕ) (d : Do
 
 -- what is tested first
 module _ (state t list log cursor : List ℕ) where
-  pub begun-short : tooShort state cursor ≡ true → left short t list log cursor ≡ hostInitialized state t list log cursor
+  pub begun-short : tooShort state cursor ≡ true → leftWith short t list log cursor ≡ hostInitialized state t list log cursor
   unfolding hostInitialized
   begun-short e = sym (pick-yes _ _ e)
 

@@ -27,53 +27,53 @@ use Rattle.lent.specs.declared.Done.{Done}
 use Rattle.lent.specs.Lent.{Parts, stateAfter, calledOf}
 use Rattle.byte_calls.specs.Bytes.{wordAt, longAt}
 use Rattle.graph_division.specs.Answers.{isRefused}
-use Rattle.byte_calls.specs.Codes.{codeOf, givenBy}
-use Rattle.byte_calls.specs.Layout.{Decoded, decoded, decodedIn, inUse, inUseOver, planIn, endsIn, wordsIn, reasonsIn, stateIn, cursorIn, roomOf, recordsIn, logIn, listIn, bufferIn}
-use Rattle.byte_calls.specs.Stores.{Kept, putCursor, putList, putLog}
-use Rattle.byte_calls.specs.Host.{Left, left, leftBy, leftOf, StateAfter, AfterOf, propagatedIn, hostPropagated, tooShort, short, Back, back, backBy, undoneIn, hostUndone, givenIn, hostReason, hostLast}
+use Rattle.byte_calls.specs.Codes.{answerCode, givenBy}
+use Rattle.byte_calls.specs.Layout.{Decoded, decoded, decodedIn, inUse, inUseOver, planIn, endsIn, wordsIn, reasonsIn, stateIn, cursorIn, usedEntries, recordsIn, logIn, listIn, bufferIn}
+use Rattle.byte_calls.specs.Stores.{BytesKept, putCursor, putList, putLog}
+use Rattle.byte_calls.specs.Host.{Left, leftWith, leftBy, leftOf, StateAfter, AfterOf, propagatedIn, hostPropagated, tooShort, short, Back, back, backBy, undoneIn, hostUndone, givenIn, hostReason, hostLast}
 use Rattle.byte_calls.proofs.Coding.{code-back}
 use Rattle.byte_calls.proofs.Filling.{capped-most, capped-less, room-is}
 use Rattle.byte_calls.proofs.Keeping.{kept-same}
 
-pub is-left : (a : Answer) (c d : Cursor) (lits records list log cursor : List ℕ) (r : ℤ) → r ≡ codeOf a → isRefused a ≡ true →
-    left r [] list log cursor ≡ leftBy a c d [] lits records list log cursor
+pub is-left : (a : Answer) (c d : Cursor) (lits records list log cursor : List ℕ) (r : ℤ) → r ≡ answerCode a → isRefused a ≡ true →
+    leftWith r [] list log cursor ≡ leftBy a c d [] lits records list log cursor
 unfolding leftBy
-is-left a c d lits records list log cursor r e t = ap (λ (z : ℤ). left z [] list log cursor) e ∙ sym (pick-yes _ _ t)
+is-left a c d lits records list log cursor r e t = ap (λ (z : ℤ). leftWith z [] list log cursor) e ∙ sym (pick-yes _ _ t)
 
-pub is-kept : (a : Answer) (c d : Cursor) (lits records list log cursor list′ log′ cursor′ : List ℕ) (r : ℤ) → r ≡ codeOf a → isRefused a ≡ false →
+pub is-kept : (a : Answer) (c d : Cursor) (lits records list log cursor list′ log′ cursor′ : List ℕ) (r : ℤ) → r ≡ answerCode a → isRefused a ≡ false →
     list′ ≡ putList lits (givenBy a) list → log′ ≡ putLog records (c .used) (d .used) log → cursor′ ≡ putCursor d cursor →
-    left r [] list′ log′ cursor′ ≡ leftBy a c d [] lits records list log cursor
+    leftWith r [] list′ log′ cursor′ ≡ leftBy a c d [] lits records list log cursor
 unfolding leftBy
-is-kept a c d lits records list log cursor list′ log′ cursor′ r e t f g h = (λ i. left (e i) [] (f i) (g i) (h i)) ∙ sym (pick-no _ _ t)
+is-kept a c d lits records list log cursor list′ log′ cursor′ r e t f g h = (λ i. leftWith (e i) [] (f i) (g i) (h i)) ∙ sym (pick-no _ _ t)
 
 -- the table stands beside it
 with-table : (a : Answer) (c d : Cursor) (t lits records list log cursor : List ℕ) (x : Left) → x ≡ leftBy a c d [] lits records list log cursor →
-    left (x .code) t (x .list) (x .log) (x .cursor) ≡ leftBy a c d t lits records list log cursor
+    leftWith (x .code) t (x .list) (x .log) (x .cursor) ≡ leftBy a c d t lits records list log cursor
 unfolding leftBy
-with-table a c d t lits records list log cursor x e = ap (λ (x : Left). left (x .code) t (x .list) (x .log) (x .cursor)) e
+with-table a c d t lits records list log cursor x e = ap (λ (x : Left). leftWith (x .code) t (x .list) (x .log) (x .cursor)) e
     ∙ tested (isRefused a)
-    (λ (b : isRefused a ≡ true). ap (λ (x : Left). left (x .code) t (x .list) (x .log) (x .cursor)) (pick-yes _ _ b) ∙ sym (pick-yes _ _ b))
-    (λ (b : isRefused a ≡ false). ap (λ (x : Left). left (x .code) t (x .list) (x .log) (x .cursor)) (pick-no _ _ b) ∙ sym (pick-no _ _ b))
+    (λ (b : isRefused a ≡ true). ap (λ (x : Left). leftWith (x .code) t (x .list) (x .log) (x .cursor)) (pick-yes _ _ b) ∙ sym (pick-yes _ _ b))
+    (λ (b : isRefused a ≡ false). ap (λ (x : Left). leftWith (x .code) t (x .list) (x .log) (x .cursor)) (pick-no _ _ b) ∙ sym (pick-no _ _ b))
 
 -- a call on what is decoded, and what it leaves
 module _ (s : GraphDivision) (c : Cursor) (words props lefts : List ℕ) (d : Done) (t lits records : List ℕ) (y : Called) (e : calledOf s words props lefts d t lits records ≡ y) where
-  pub leaves : (list log cursor list′ log′ cursor′ : List ℕ) (r : ℤ) → left r [] list′ log′ cursor′ ≡ leftBy (d .answer) c (d .cursor) [] lits records list log cursor →
-      left r t list′ log′ cursor′ ≡ leftOf c y list log cursor
+  pub leaves : (list log cursor list′ log′ cursor′ : List ℕ) (r : ℤ) → leftWith r [] list′ log′ cursor′ ≡ leftBy (d .answer) c (d .cursor) [] lits records list log cursor →
+      leftWith r t list′ log′ cursor′ ≡ leftOf c y list log cursor
   unfolding leftOf calledOf
   leaves list log cursor list′ log′ cursor′ r h =
-      with-table (d .answer) c (d .cursor) t lits records list log cursor (left r [] list′ log′ cursor′) h
+      with-table (d .answer) c (d .cursor) t lits records list log cursor (leftWith r [] list′ log′ cursor′) h
       ∙ ap (λ (y : Called). leftOf c y list log cursor) e
 
   pub state-left : (b b′ : List ℕ) → s ≡ stateIn b → (isRefused (d .answer) ≡ true → b′ ≡ b) →
       (isRefused (d .answer) ≡ false → stateAfter (stateIn b) words props lefts d .«last_len» < 4294967296 → stateIn b′ ≡ stateAfter (stateIn b) words props lefts d) →
-      Kept b b′ → AfterOf false (y .outcome) b b′
+      BytesKept b b′ → AfterOf false (y .outcome) b b′
   unfolding calledOf
   state-left b b′ q f g k = subst (λ (y : Called). StateAfter (isRefused (y .outcome .answer)) (y .outcome .state) b b′) e
       (record { same = f; is = λ n h. g n (subst (λ (s : GraphDivision). stateAfter s words props lefts d .«last_len» < 4294967296) q h) ∙ ap (λ (s : GraphDivision). stateAfter s words props lefts d) (sym q); kept = k })
 
 -- lists and logs are as long as the bytes have room for
-pub room-length : (n : ℕ) (l : List ℕ) → length l ≡ 4352 → length (take (roomOf n) l) ≡ roomOf n
-room-length n l e = length-take-le (roomOf n) l (omega (arith, room-is n, capped-most n 4352))
+pub room-length : (n : ℕ) (l : List ℕ) → length l ≡ 4352 → length (take (usedEntries n) l) ≡ usedEntries n
+room-length n l e = length-take-le (usedEntries n) l (omega (arith, room-is n, capped-most n 4352))
 
 pub list-room : (list : List ℕ) → 2 * length (listIn list) ≤ length list
 unfolding listIn
@@ -89,18 +89,18 @@ list-fits n l list e q = omega (arith, e, ap length q, list-room list)
 pub log-fits : (c : Cursor) (n : ℕ) (l log : List ℕ) → n ≡ length l → l ≡ logIn c log → 8 * n ≤ length log
 log-fits c n l log e q = omega (arith, e, ap length q, log-room c log)
 
-left-code : (c : Cursor) (y : Called) (list log cursor : List ℕ) → leftOf c y list log cursor .code ≡ codeOf (y .outcome .answer)
+left-code : (c : Cursor) (y : Called) (list log cursor : List ℕ) → leftOf c y list log cursor .code ≡ answerCode (y .outcome .answer)
 unfolding leftOf leftBy
 left-code c y list log cursor = tested (isRefused (y .outcome .answer))
     (λ (b : isRefused (y .outcome .answer) ≡ true). ap (λ (x : Left). x .code) (pick-yes _ _ b))
     (λ (b : isRefused (y .outcome .answer) ≡ false). ap (λ (x : Left). x .code) (pick-no _ _ b))
 
 -- the number is handed on
-pub left-back : (c : Cursor) (y : Called) (list log cursor t list′ log′ cursor′ : List ℕ) (z : ℤ) → left z t list′ log′ cursor′ ≡ leftOf c y list log cursor →
-    left (toZ w32 (ofZ w32 z)) t list′ log′ cursor′ ≡ leftOf c y list log cursor
+pub left-back : (c : Cursor) (y : Called) (list log cursor t list′ log′ cursor′ : List ℕ) (z : ℤ) → leftWith z t list′ log′ cursor′ ≡ leftOf c y list log cursor →
+    leftWith (toZ w32 (ofZ w32 z)) t list′ log′ cursor′ ≡ leftOf c y list log cursor
 left-back c y list log cursor t list′ log′ cursor′ z e =
-    let q : z ≡ codeOf (y .outcome .answer) = ap (λ (x : Left). x .code) e ∙ left-code c y list log cursor in
-    ap (λ (r : ℤ). left r t list′ log′ cursor′) (code-back (y .outcome .answer) z q ∙ sym q) ∙ e
+    let q : z ≡ answerCode (y .outcome .answer) = ap (λ (x : Left). x .code) e ∙ left-code c y list log cursor in
+    ap (λ (r : ℤ). leftWith r t list′ log′ cursor′) (code-back (y .outcome .answer) z q ∙ sym q) ∙ e
 
 -- what is decoded is the parts of the state that the bytes stand for
 pub parts-in : (b : List ℕ) {ws : List ℕ} {ends : List (List ℕ)} {noted : List ℕ} → ws ≡ planIn b → ends ≡ endsIn b → noted ≡ wordsIn b 61220 384 → Parts (stateIn b) ws ends noted
@@ -108,7 +108,7 @@ unfolding stateIn
 parts-in b p q r = record { plan = p; edges = q; noted = r }
 
 -- the parts that are lent of what is decoded
-pub part-fits : (r n m : ℕ) → r ≡ roomOf n → m ≡ 4352 → r ≤ m
+pub part-fits : (r n m : ℕ) → r ≡ usedEntries n → m ≡ 4352 → r ≤ m
 part-fits r n m e q = omega (arith, e, room-is n, capped-most n 4352)
 
 pub lits-long : (l : List ℕ) → l ≡ replicate 4352 0 → length l ≡ 4352
@@ -117,19 +117,19 @@ lits-long l e = ap length e ∙ length-replicate {A = ℕ} 4352 0
 no-less : (r : ℕ) → r - 0 ≡ r
 no-less r = omega arith
 
-pub lits-part : (r n : ℕ) (l list : List ℕ) → n ≡ length list / 2 → r ≡ roomOf n → l ≡ replicate 4352 0 → take (r - 0) (drop 0 l) ≡ listIn list
+pub lits-part : (r n : ℕ) (l list : List ℕ) → n ≡ length list / 2 → r ≡ usedEntries n → l ≡ replicate 4352 0 → take (r - 0) (drop 0 l) ≡ listIn list
 unfolding listIn
-lits-part r n l list m e q = λ i. take ((no-less r ∙ (e ∙ ap roomOf m)) i) (q i)
+lits-part r n l list m e q = λ i. take ((no-less r ∙ (e ∙ ap usedEntries m)) i) (q i)
 
 pub plan-read : (b ws z : List ℕ) → z ≡ replicate 15241 0 → ws ≡ inUseOver (λ i. wordAt b (4 * i)) z → ws ≡ planIn b
 unfolding planIn inUse
 plan-read b ws z q e = e ∙ ap (inUseOver (λ i. wordAt b (4 * i))) q
 
 pub records-read : (log : List ℕ) {c d : Cursor} {l z : List ℕ} → z ≡ replicate 4352 0 → c ≡ d →
-    l ≡ filled 0 (capped (c .used) (roomOf (length log / 8))) (λ i. longAt log (8 * i)) z → l ≡ recordsIn d log
+    l ≡ filled 0 (capped (c .used) (usedEntries (length log / 8))) (λ i. longAt log (8 * i)) z → l ≡ recordsIn d log
 unfolding recordsIn
 records-read log {c} q e h =
-    h ∙ ap (filled 0 (capped (c .used) (roomOf (length log / 8))) (λ i. longAt log (8 * i))) q ∙ ap (λ (c : Cursor). recordsIn c log) e
+    h ∙ ap (filled 0 (capped (c .used) (usedEntries (length log / 8))) (λ i. longAt log (8 * i))) q ∙ ap (λ (c : Cursor). recordsIn c log) e
 
 pub all-decoded : (b log cursor : List ℕ) {ws ns rs : List ℕ} {c : Cursor} →
     ws ≡ planIn b → ns ≡ wordsIn b 61220 384 → rs ≡ recordsIn (cursorIn cursor) log → c ≡ cursorIn cursor → decoded ws ns rs c ≡ decodedIn b log cursor
@@ -161,11 +161,11 @@ module _ (b log cursor : List ℕ) {ws ns rs : List ℕ} {c : Cursor} (e : decod
   unfolding recordsIn
   records-length = ap length all-records ∙ (filled-length 0 _ (replicate 4352 0) _ ∙ length-replicate {A = ℕ} 4352 0)
 
-  pub records-in : {r : ℕ} → r ≡ roomOf (length log / 8) → take (r - 0) (drop 0 rs) ≡ logIn (cursorIn cursor) log
+  pub records-in : {r : ℕ} → r ≡ usedEntries (length log / 8) → take (r - 0) (drop 0 rs) ≡ logIn (cursorIn cursor) log
   unfolding logIn
   records-in {r} q = λ i. take ((no-less r ∙ q) i) (all-records i)
 
-  pub records-decoded : {r : ℕ} → r ≡ roomOf (length log / 8) → take (r - 0) (drop 0 rs) ≡ logIn c log
+  pub records-decoded : {r : ℕ} → r ≡ usedEntries (length log / 8) → take (r - 0) (drop 0 rs) ≡ logIn c log
   records-decoded q = records-in q ∙ ap (λ (d : Cursor). logIn d log) (sym cursor-decoded)
 
 pub propagated-read : (state t list log cursor : List ℕ) {lit m pending n : ℤ} → lit ≡ m → pending ≡ n →
@@ -201,7 +201,7 @@ short-is state cursor e =
     (ltb-false (length state) 133440 p, ltb-false (length cursor) 8 q)
 
 module _ (state t list log cursor : List ℕ) (lit pending : ℤ) where
-  pub short-left : tooShort state cursor ≡ true → left short t list log cursor ≡ hostPropagated state t list log cursor lit pending
+  pub short-left : tooShort state cursor ≡ true → leftWith short t list log cursor ≡ hostPropagated state t list log cursor lit pending
   unfolding hostPropagated
   short-left e = sym (pick-yes _ _ e)
 

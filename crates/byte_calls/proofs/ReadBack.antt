@@ -44,7 +44,7 @@ use Rattle.notifications.specs.Notifications.{litAt}
 use Rattle.graph_division.specs.Answers.{isRefused}
 use Rattle.byte_calls.specs.Host.{leftBy, leftOf, initializedIn, propagatedIn, backOf, backBy, undoneIn}
 use Rattle.byte_calls.specs.Bytes.{wordAt, longAt, putHalf, putWord, putLong, putHalves, putLongs}
-use Rattle.byte_calls.specs.Layout.{planIn, wordsIn, stateIn, cursorIn, roomOf, recordsIn, logIn, listIn}
+use Rattle.byte_calls.specs.Layout.{planIn, wordsIn, stateIn, cursorIn, usedEntries, recordsIn, logIn, listIn}
 use Rattle.byte_calls.specs.Stores.{putCursor, putList, putLog}
 use Rattle.byte_calls.proofs.Filling.{capped-most, capped-less, room-is, putHalves-length, putWord-length, putLongs-length}
 use Rattle.byte_calls.proofs.Agreeing.{Agree, agree-word, agree-long, agree-then, putWord-agrees, putWord-in, putLong-agrees, putLong-in}
@@ -93,32 +93,32 @@ module _ (l b : List ℕ) (from : ℕ) where
       (eq-or-lt-of-le {n = i} {m = n} (omega arith))
 
 -- a record that is decoded is the one that stands in the bytes
-record-in : (c : Cursor) (log : List ℕ) (i : ℕ) → i < c .used → i < roomOf (length log / 8) → getD (logIn c log) i 0 ≡ longAt log (8 * i)
+record-in : (c : Cursor) (log : List ℕ) (i : ℕ) → i < c .used → i < usedEntries (length log / 8) → getD (logIn c log) i 0 ≡ longAt log (8 * i)
 unfolding logIn recordsIn
 record-in c log i h r =
-    let room : ℕ = roomOf (length log / 8) in
+    let room : ℕ = usedEntries (length log / 8) in
     let n : ℕ = capped (c .used) room in
     let l : i < n = tested (ltb (c .used) room)
     (λ (t : ltb (c .used) room ≡ true). subst (λ (k : ℕ). i < k) (sym (cap-yes (c .used) room t)) h)
     (λ (t : ltb (c .used) room ≡ false). subst (λ (k : ℕ). i < k) (sym (cap-no (c .used) room t)) r) in
-    let m : roomOf (length log / 8) ≤ 4352 = omega (arith, room-is (length log / 8), capped-most (length log / 8) 4352) in
+    let m : usedEntries (length log / 8) ≤ 4352 = omega (arith, room-is (length log / 8), capped-most (length log / 8) 4352) in
     getD-take room (filled 0 n (λ j. longAt log (8 * j)) (replicate 4352 0)) i 0 r
     ∙ (ap (λ (j : ℕ). getD (filled 0 n (λ j. longAt log (8 * j)) (replicate 4352 0)) j 0) (sym (zero-add i))
     ∙ filled-in 0 (λ j. longAt log (8 * j)) (replicate 4352 0) n i l (omega (arith, capped-most (c .used) room, length-replicate {A = ℕ} 4352 0)))
 
 -- the log up to the cursor, where its records are those that were decoded up to the cursor before, and new ones
-pub log-back : (c d : Cursor) (records log : List ℕ) → ((i : ℕ) → getD records i 0 < 18446744073709551616) → length records ≡ roomOf (length log / 8) →
+pub log-back : (c d : Cursor) (records log : List ℕ) → ((i : ℕ) → getD records i 0 < 18446744073709551616) → length records ≡ usedEntries (length log / 8) →
     ((i : ℕ) → i < c .used → getD records i 0 ≡ getD (logIn c log) i 0) → d .used ≤ length records →
     (i : ℕ) → i < d .used → getD (logIn d (putLog records (c .used) (d .used) log)) i 0 ≡ getD records i 0
 unfolding putLog
 log-back c d records log small len old fits i h =
-    let room : roomOf (length log / 8) ≤ length log / 8 = omega (arith, room-is (length log / 8), capped-less (length log / 8) 4352) in
+    let room : usedEntries (length log / 8) ≤ length log / 8 = omega (arith, room-is (length log / 8), capped-less (length log / 8) 4352) in
     let e : capped (d .used) (length records) ≡ d .used = capped-is (d .used) (length records) fits in
     let n : ℕ = capped (d .used) (length records) - c .used in
     let after : List ℕ = putLongs records (c .used) n log in
     let same : length after ≡ length log = putLongs-length records (c .used) n log in
-    let r : i < roomOf (length log / 8) = omega arith in
-    record-in d after i h (subst (λ (k : ℕ). i < roomOf (k / 8)) (sym same) r)
+    let r : i < usedEntries (length log / 8) = omega arith in
+    record-in d after i h (subst (λ (k : ℕ). i < usedEntries (k / 8)) (sym same) r)
     ∙ tested (ltb i (c .used))
     (λ (t : ltb i (c .used) ≡ true). let k : i < c .used = ltb-true i (c .used) t in
     agree-long (8 * i) (longs-agree records log (c .used) n (8 * i) (8 * i + 8) (inl (omega arith))) (omega arith) (omega arith) ∙ (sym (record-in c log i k r) ∙ sym (old i k)))
@@ -172,11 +172,11 @@ pub record ReadsBack (c : Cursor) (y : Called) (list log cursor : List ℕ) : Ty
   pub cursor-is : cursorIn (leftOf c y list log cursor .cursor) ≡ y .outcome .cursor
   pub log-is : (i : ℕ) → i < y .outcome .cursor .used → getD (logIn (y .outcome .cursor) (leftOf c y list log cursor .log)) i 0 ≡ getD (y .log) i 0
 
-log-length : (c : Cursor) (log : List ℕ) → length (logIn c log) ≡ roomOf (length log / 8)
+log-length : (c : Cursor) (log : List ℕ) → length (logIn c log) ≡ usedEntries (length log / 8)
 unfolding logIn recordsIn
 log-length c log = room-length (length log / 8) (recordsIn c log) (filled-length 0 _ (replicate 4352 0) _ ∙ length-replicate {A = ℕ} 4352 0)
 
-room-few : (n : ℕ) → roomOf n ≤ 4352
+room-few : (n : ℕ) → usedEntries n ≤ 4352
 room-few n = omega (arith, room-is n, capped-most n 4352)
 
 -- 7, "cursor past the log", does not apply
@@ -341,7 +341,7 @@ module _ (state t list log cursor : List ℕ) (lit pending : ℤ) where
 
   blank-under : Under 65536 (listIn list) × (length (listIn list) ≡ length (listIn list))
   unfolding listIn
-  blank-under = (take-under 65536 (roomOf (length list / 2)) (replicate 4352 0) (omega arith) (none-under 65536 4352 (omega arith)), refl)
+  blank-under = (take-under 65536 (usedEntries (length list / 2)) (replicate 4352 0) (omega arith) (none-under 65536 4352 (omega arith)), refl)
 
   settled-under : (ends : List (List ℕ)) (s : GraphDivision) (c : Cursor) → ProperWords (s .plan) ends → (l : ℕ) (j : Judged) (x : Judgement) (records : List ℕ) → Handing (settledBy s c l j x t (listIn list) records)
   unfolding settledBy handingOn accepting
@@ -373,7 +373,7 @@ module _ (state log cursor : List ℕ) (lit : ℤ) (hc : Bytes cursor) (long : 8
   shorter : (d : Cursor) → d .used ≤ wordAt cursor 0 → wordAt cursor 0 ≤ length (logIn (cursorIn cursor) log) → (i : ℕ) → i < d .used → getD (logIn d log) i 0 ≡ getD (logIn (cursorIn cursor) log) i 0
   unfolding cursorIn
   shorter d h r i k =
-      let l : i < roomOf (length log / 8) = omega (arith, log-length (cursorIn cursor) log) in
+      let l : i < usedEntries (length log / 8) = omega (arith, log-length (cursorIn cursor) log) in
       record-in d log i k l ∙ sym (record-in (cursorIn cursor) log i (omega arith) l)
 
   undone-back : wordAt cursor 0 ≤ length (logIn (cursorIn cursor) log) → (noted : List ℕ) →

@@ -14,20 +14,20 @@ use Rattle.graph_division.specs.declared.Outcome.{Outcome}
 use Rattle.graph_division.specs.declared.Answer.{Answer}
 use Rattle.graph_division.specs.Calls.{outcome, withNoted, undone, Fetched, reasonFetched, lastFetched}
 use Rattle.graph_division.specs.Answers.{isRefused}
-use Rattle.byte_calls.specs.Codes.{codeOf}
+use Rattle.byte_calls.specs.Codes.{answerCode}
 use Rattle.byte_calls.specs.Layout.{stateIn}
-use Rattle.byte_calls.specs.Stores.{Kept, putCursor, putNoted}
+use Rattle.byte_calls.specs.Stores.{BytesKept, putCursor, putNoted}
 use Rattle.byte_calls.specs.Host.{Back, back, backOf, backBy, givenIn, StateAfter, AfterOf}
 use Rattle.byte_calls.proofs.Coding.{code-back}
 use Rattle.byte_calls.proofs.Storing.{noted-stored}
 use Rattle.byte_calls.proofs.Keeping.{kept-same}
 
 module _ (s : GraphDivision) (noted : List ℕ) (d : Cursor) (a : Answer) (y : Outcome) (e : outcome (withNoted noted s) d a ≡ y) (b : List ℕ) (q : s ≡ stateIn b) where
-  pub undo-left : (cursor : List ℕ) (z : ℤ) → z ≡ codeOf a → isRefused a ≡ true → back (toZ w32 (ofZ w32 z)) cursor ≡ backBy y cursor
+  pub undo-left : (cursor : List ℕ) (z : ℤ) → z ≡ answerCode a → isRefused a ≡ true → back (toZ w32 (ofZ w32 z)) cursor ≡ backBy y cursor
   unfolding backBy backOf
   undo-left cursor z h t = (λ i. back (code-back a z h i) (sym (pick-yes cursor (putCursor d cursor) t) i)) ∙ ap (λ (y : Outcome). backBy y cursor) e
 
-  pub undo-kept : (cursor cursor′ : List ℕ) (z : ℤ) → z ≡ codeOf a → isRefused a ≡ false → cursor′ ≡ putCursor d cursor → back (toZ w32 (ofZ w32 z)) cursor′ ≡ backBy y cursor
+  pub undo-kept : (cursor cursor′ : List ℕ) (z : ℤ) → z ≡ answerCode a → isRefused a ≡ false → cursor′ ≡ putCursor d cursor → back (toZ w32 (ofZ w32 z)) cursor′ ≡ backBy y cursor
   unfolding backBy backOf
   undo-kept cursor cursor′ z h t k = (λ i. back (code-back a z h i) ((k ∙ sym (pick-no cursor (putCursor d cursor) t)) i)) ∙ ap (λ (y : Outcome). backBy y cursor) e
 
@@ -35,27 +35,27 @@ module _ (s : GraphDivision) (noted : List ℕ) (d : Cursor) (a : Answer) (y : O
   state-same t = subst (λ (y : Outcome). StateAfter (isRefused (y .answer)) (y .state) b b) e
       (record { same = λ n. refl; is = λ (n : isRefused a ≡ false) h. absurd (true≢false (sym t ∙ n)); kept = kept-same b })
 
-  pub state-stored : (b′ : List ℕ) → isRefused a ≡ false → stateIn b′ ≡ withNoted noted (stateIn b) → Kept b b′ → AfterOf false y b b′
+  pub state-stored : (b′ : List ℕ) → isRefused a ≡ false → stateIn b′ ≡ withNoted noted (stateIn b) → BytesKept b b′ → AfterOf false y b b′
   state-stored b′ t h l = subst (λ (y : Outcome). StateAfter (isRefused (y .answer)) (y .state) b b′) e
       (record { same = λ (n : isRefused a ≡ true). absurd (true≢false (sym n ∙ t)); is = λ n k. h ∙ ap (withNoted noted) (sym q); kept = l })
 
-back-code : (y : Outcome) (cursor : List ℕ) → backBy y cursor .code ≡ codeOf (y .answer)
+back-code : (y : Outcome) (cursor : List ℕ) → backBy y cursor .code ≡ answerCode (y .answer)
 unfolding backBy backOf
 back-code y cursor = refl
 
 -- the number is handed on
 pub undo-back : (y : Outcome) (cursor cursor′ : List ℕ) (z : ℤ) → back z cursor′ ≡ backBy y cursor → back (toZ w32 (ofZ w32 z)) cursor′ ≡ backBy y cursor
 undo-back y cursor cursor′ z e =
-    let q : z ≡ codeOf (y .answer) = ap (λ (x : Back). x .code) e ∙ back-code y cursor in
+    let q : z ≡ answerCode (y .answer) = ap (λ (x : Back). x .code) e ∙ back-code y cursor in
     ap (λ (r : ℤ). back r cursor′) (code-back (y .answer) z q ∙ sym q) ∙ e
 
-given-code : (y : Fetched) (buffer : List ℕ) → givenIn y buffer .code ≡ codeOf (y .answer)
+given-code : (y : Fetched) (buffer : List ℕ) → givenIn y buffer .code ≡ answerCode (y .answer)
 unfolding givenIn
 given-code y buffer = refl
 
 pub given-back : (y : Fetched) (buffer buffer′ : List ℕ) (z : ℤ) → back z buffer′ ≡ givenIn y buffer → back (toZ w32 (ofZ w32 z)) buffer′ ≡ givenIn y buffer
 given-back y buffer buffer′ z e =
-    let q : z ≡ codeOf (y .answer) = ap (λ (x : Back). x .code) e ∙ given-code y buffer in
+    let q : z ≡ answerCode (y .answer) = ap (λ (x : Back). x .code) e ∙ given-code y buffer in
     ap (λ (r : ℤ). back r buffer′) (code-back (y .answer) z q ∙ sym q) ∙ e
 
 pub undo-after : (y z : Outcome) (b b′ : List ℕ) → y ≡ z → AfterOf false y b b′ → AfterOf false z b b′

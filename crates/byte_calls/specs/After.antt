@@ -8,13 +8,13 @@ use Rattle.graph_division.specs.declared.GraphDivision.{GraphDivision}
 use Rattle.graph_division.specs.declared.Outcome.{Outcome}
 use Rattle.graph_division.specs.Answers.{isRefused}
 use Rattle.byte_calls.specs.Layout.{stateIn}
-use Rattle.byte_calls.specs.Stores.{Kept}
+use Rattle.byte_calls.specs.Stores.{BytesKept}
 
 -- as they were where a call is refused, else those of state s; the bytes past the layout stay
 pub record BytesAfter (refused : Bool) (s : GraphDivision) (before after : List ℕ) : Type 0 where
   pub same : refused ≡ true → after ≡ before
   pub is : refused ≡ false → stateIn after ≡ s
-  pub kept : Kept before after
+  pub kept : BytesKept before after
 
 -- after a call with outcome y, refused too where the state or the cursor is too short
 abbrev pub Leaves : Bool → Outcome → List ℕ → List ℕ → Type 0

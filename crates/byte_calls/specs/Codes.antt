@@ -10,13 +10,13 @@ use Rattle.graph_division.specs.declared.Answer.the-variants.{Consistent, Confl
 unfoldable pub fitted : ℕ → ℕ
 fitted n = capped n 2147483647
 
-unfoldable pub codeOf : Answer → ℤ
-codeOf (Consistent handed) = pos (fitted handed)
-codeOf Conflict = negsuc 99
-codeOf Noted = negsuc 100
-codeOf Undone = pos 0
-codeOf (Reason len) = pos (fitted len)
-codeOf (Refused number) = negℤ (pos (fitted number))
+unfoldable pub answerCode : Answer → ℤ
+answerCode (Consistent handed) = pos (fitted handed)
+answerCode Conflict = negsuc 99
+answerCode Noted = negsuc 100
+answerCode Undone = pos 0
+answerCode (Reason len) = pos (fitted len)
+answerCode (Refused number) = negℤ (pos (fitted number))
 
 -- how many literals the answer says are in the list or the buffer
 abbrev pub givenBy : Answer → ℕ

@@ -16,9 +16,9 @@ use Rattle.graph_division.specs.Calls.{Called, propagated, undone, Fetched, rea
 use Rattle.graph_division.specs.Initialize.{initialized}
 use Rattle.byte_calls.specs.Bytes.{wordAt}
 use Rattle.graph_division.specs.Answers.{isRefused}
-use Rattle.byte_calls.specs.Codes.{fitted, codeOf, givenBy}
+use Rattle.byte_calls.specs.Codes.{fitted, answerCode, givenBy}
 use Rattle.byte_calls.specs.Layout.{stateIn, cursorIn, logIn, listIn, bufferIn}
-use Rattle.byte_calls.specs.Stores.{Kept, putCursor, putList, putLog}
+use Rattle.byte_calls.specs.Stores.{BytesKept, putCursor, putList, putLog}
 
 -- a call's number, and the bytes that it was lent, but for the state's
 pub record Left : Type 0 where
@@ -28,8 +28,8 @@ pub record Left : Type 0 where
   pub log : List ℕ
   pub cursor : List ℕ
 
-abbrev pub left : ℤ → List ℕ → List ℕ → List ℕ → List ℕ → Left
-left r table list log cursor = record { code = r; table = table; list = list; log = log; cursor = cursor }
+abbrev pub leftWith : ℤ → List ℕ → List ℕ → List ℕ → List ℕ → Left
+leftWith r table list log cursor = record { code = r; table = table; list = list; log = log; cursor = cursor }
 
 -- 7: a state or a cursor that is shorter than its layout
 unfoldable pub tooShort : List ℕ → List ℕ → Bool
@@ -41,8 +41,8 @@ short = negsuc 6
 -- what answer a, cursor d, and the lists after the call leave in the bytes: where it is refused, all is as it was
 unfoldable pub leftBy : Answer → Cursor → Cursor → List ℕ → List ℕ → List ℕ → List ℕ → List ℕ → List ℕ → Left
 leftBy a c d t lits records list log cursor =
-    pick (isRefused a) (left (codeOf a) t list log cursor)
-    (left (codeOf a) t (putList lits (givenBy a) list) (putLog records (c .used) (d .used) log) (putCursor d cursor))
+    pick (isRefused a) (leftWith (answerCode a) t list log cursor)
+    (leftWith (answerCode a) t (putList lits (givenBy a) list) (putLog records (c .used) (d .used) log) (putCursor d cursor))
 
 unfoldable pub leftOf : Cursor → Called → List ℕ → List ℕ → List ℕ → Left
 leftOf c y list log cursor = leftBy (y .outcome .answer) c (y .outcome .cursor) (y .table) (y .list) (y .log) list log cursor
@@ -53,7 +53,7 @@ propagatedIn state t list log cursor lit pending = propagated (stateIn state) (c
 
 unfoldable pub hostPropagated : List ℕ → List ℕ → List ℕ → List ℕ → List ℕ → ℤ → ℤ → Left
 hostPropagated state t list log cursor lit pending =
-    pick (tooShort state cursor) (left short t list log cursor) (leftOf (cursorIn cursor) (propagatedIn state t list log cursor lit pending) list log cursor)
+    pick (tooShort state cursor) (leftWith short t list log cursor) (leftOf (cursorIn cursor) (propagatedIn state t list log cursor lit pending) list log cursor)
 
 -- `calls::initialize`
 unfoldable pub initializedIn : List ℕ → List ℕ → List ℕ → List ℕ → List ℕ → Called
@@ -61,7 +61,7 @@ initializedIn state t list log cursor = initialized (stateIn state) (cursorIn cu
 
 unfoldable pub hostInitialized : List ℕ → List ℕ → List ℕ → List ℕ → List ℕ → Left
 hostInitialized state t list log cursor =
-    pick (tooShort state cursor) (left short t list log cursor) (leftOf (cursorIn cursor) (initializedIn state t list log cursor) list log cursor)
+    pick (tooShort state cursor) (leftWith short t list log cursor) (leftOf (cursorIn cursor) (initializedIn state t list log cursor) list log cursor)
 
 -- `calls::undo`: the number, and the cursor's bytes
 pub record Back : Type 0 where
@@ -75,7 +75,7 @@ unfoldable pub undoneIn : List ℕ → List ℕ → List ℕ → ℤ → Outcome
 undoneIn state log cursor lit = undone (stateIn state) (cursorIn cursor) lit (logIn (cursorIn cursor) log)
 
 unfoldable pub backOf : Answer → Cursor → List ℕ → Back
-backOf a d cursor = back (codeOf a) (pick (isRefused a) cursor (putCursor d cursor))
+backOf a d cursor = back (answerCode a) (pick (isRefused a) cursor (putCursor d cursor))
 
 unfoldable pub backBy : Outcome → List ℕ → Back
 backBy y cursor = backOf (y .answer) (y .cursor) cursor
@@ -86,7 +86,7 @@ hostUndone state log cursor lit =
 
 -- a fetch: the number, and the buffer's bytes
 unfoldable pub givenIn : Fetched → List ℕ → Back
-givenIn y buffer = back (codeOf (y .answer)) (putList (y .buffer) (givenBy (y .answer)) buffer)
+givenIn y buffer = back (answerCode (y .answer)) (putList (y .buffer) (givenBy (y .answer)) buffer)
 
 unfoldable pub hostReason : List ℕ → List ℕ → List ℕ → ℤ → List ℕ → Back
 hostReason state log cursor lit buffer =
@@ -103,7 +103,7 @@ hostLast state log cursor buffer =
 pub record StateAfter (unchanged : Bool) (s : GraphDivision) (before after : List ℕ) : Type 0 where
   pub same : unchanged ≡ true → after ≡ before
   pub is : unchanged ≡ false → s .«last_len» < 4294967296 → stateIn after ≡ s
-  pub kept : Kept before after
+  pub kept : BytesKept before after
 
 abbrev pub AfterOf : Bool → Outcome → List ℕ → List ℕ → Type 0
 AfterOf short y before after = StateAfter (short || isRefused (y .answer)) (y .state) before after

@@ -81,15 +81,15 @@ unfoldable pub cursorIn : List ℕ → Cursor
 cursorIn b = record { used = wordAt b 0; standing = wordAt b 4 }
 
 -- how many records of a log are used: a plan has at most 2112 literals, and 4224 records are as many as a log of it holds
-unfoldable pub roomOf : ℕ → ℕ
-roomOf entries = capped entries 4352
+unfoldable pub usedEntries : ℕ → ℕ
+usedEntries entries = capped entries 4352
 
 -- the log's records up to the cursor; those past it count as 0
 unfoldable pub recordsIn : Cursor → List ℕ → List ℕ
-recordsIn c log = filled 0 (capped (c .used) (roomOf (length log / 8))) (λ i. longAt log (8 * i)) (replicate 4352 0)
+recordsIn c log = filled 0 (capped (c .used) (usedEntries (length log / 8))) (λ i. longAt log (8 * i)) (replicate 4352 0)
 
 unfoldable pub logIn : Cursor → List ℕ → List ℕ
-logIn c log = take (roomOf (length log / 8)) (recordsIn c log)
+logIn c log = take (usedEntries (length log / 8)) (recordsIn c log)
 
 -- what a call reads of the bytes that it is lent, but for the edges' ends
 pub record Decoded : Type 0 where
@@ -106,7 +106,7 @@ decodedIn state log cursor = decoded (planIn state) (wordsIn state 61220 384) (r
 
 -- a list of literals, or a reason buffer of at most 260: its entries count as 0 before a call
 unfoldable pub listIn : List ℕ → List ℕ
-listIn list = take (roomOf (length list / 2)) (replicate 4352 0)
+listIn list = take (usedEntries (length list / 2)) (replicate 4352 0)
 
 unfoldable pub bufferIn : List ℕ → List ℕ
 bufferIn b = take (capped (length b / 2) 260) (replicate 260 0)

@@ -13,7 +13,7 @@ use Rattle.sweep.specs.Sweep.{proposedAt}
 use Rattle.byte_calls.specs.Bytes.{putWord, putLong, putHalves, putWords, putLongs}
 
 -- the state's bytes are as many as before, and those past the layout stay
-pub record Kept (before after : List ℕ) : Type 0 where
+pub record BytesKept (before after : List ℕ) : Type 0 where
   pub size : length after ≡ length before
   pub past : drop 133440 after ≡ drop 133440 before
 

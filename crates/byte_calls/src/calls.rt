@@ -3,7 +3,7 @@ use builder::input::no_edges;
 use builder::input::no_vertices;
 ghost use mathlib.Core.Path.{_≡_};
 ghost use mathlib.Core.Bool.{true, false};
-ghost use Rattle.byte_calls.specs.Host.{left, back, tooShort, hostInitialized, initializedIn, hostPropagated, propagatedIn, hostUndone, undoneIn, hostReason, hostLast, buildCode};
+ghost use Rattle.byte_calls.specs.Host.{leftWith, back, tooShort, hostInitialized, initializedIn, hostPropagated, propagatedIn, hostUndone, undoneIn, hostReason, hostLast, buildCode};
 ghost use Rattle.byte_calls.specs.After.{Leaves};
 ghost use Rattle.byte_calls.specs.Build.{BuiltIn};
 ghost use Rattle.byte_calls.specs.Numbers.{numbersIn};
@@ -53,7 +53,7 @@ pub fn initialize(
     log: &mut [u8],
     cursor: &mut [u8],
 ) -> i32
-    ensures { λ r. ⌜ left r (now (table .exit)) (now (list .exit)) (now (log .exit)) (now (cursor .exit))
+    ensures { λ r. ⌜ leftWith r (now (table .exit)) (now (list .exit)) (now (log .exit)) (now (cursor .exit))
         ≡ hostInitialized (now (state .entry)) (now (table .entry)) (now (list .entry)) (now (log .entry)) (now (cursor .entry)) ⌝ }
     ensures { λ _. ⌜ Leaves (tooShort (now (state .entry)) (now (cursor .entry))) (initializedIn (now (state .entry)) (now (table .entry)) (now (list .entry)) (now (log .entry)) (now (cursor .entry)) .outcome) (now (state .entry)) (now (state .exit)) ⌝ }
 {
@@ -73,7 +73,7 @@ pub fn propagate(
     lit: i32,
     num_pending_propagations: i32,
 ) -> i32
-    ensures { λ r. ⌜ left r (now (table .exit)) (now (list .exit)) (now (log .exit)) (now (cursor .exit))
+    ensures { λ r. ⌜ leftWith r (now (table .exit)) (now (list .exit)) (now (log .exit)) (now (cursor .exit))
         ≡ hostPropagated (now (state .entry)) (now (table .entry)) (now (list .entry)) (now (log .entry)) (now (cursor .entry)) lit «num_pending_propagations» ⌝ }
     ensures { λ _. ⌜ Leaves (tooShort (now (state .entry)) (now (cursor .entry))) (propagatedIn (now (state .entry)) (now (table .entry)) (now (list .entry)) (now (log .entry)) (now (cursor .entry)) lit «num_pending_propagations» .outcome) (now (state .entry)) (now (state .exit)) ⌝ }
 {

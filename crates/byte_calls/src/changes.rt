@@ -30,8 +30,8 @@ ghost use mathlib.Core.Bool.{true, false};
 ghost use Rattle.lent.specs.Lent.{stateAfter};
 ghost use Rattle.graph_division.specs.Answers.{isRefused};
 ghost use Rattle.byte_calls.specs.Layout.{planIn, endsIn, wordsIn, stateIn, cursorIn, listIn, logIn};
-ghost use Rattle.byte_calls.specs.Stores.{Kept};
-ghost use Rattle.byte_calls.specs.Host.{AfterOf, left, leftBy, leftOf, propagatedIn, back, backBy, undoneIn};
+ghost use Rattle.byte_calls.specs.Stores.{BytesKept};
+ghost use Rattle.byte_calls.specs.Host.{AfterOf, leftWith, leftBy, leftOf, propagatedIn, back, backBy, undoneIn};
 ghost use Rattle.graph_division.specs.Calls.{undone};
 
 // The state's words that a call has changed.
@@ -46,7 +46,7 @@ fn store_state(
     requires { ⌜ (133440 ≤ length (now state)) × (length (now noted) ≡ 384) × (length (now proposals) ≡ 8704) × (length (now words) ≡ 260) ⌝ }
     ensures { λ _. ⌜ (now (plan .entry) ≡ planIn (now (state .entry)) → stateAfter (stateIn (now (state .entry))) (now (noted .entry)) (now (proposals .entry)) (now (words .entry)) done .«last_len» < 4294967296 →
         stateIn (now (state .exit)) ≡ stateAfter (stateIn (now (state .entry))) (now (noted .entry)) (now (proposals .entry)) (now (words .entry)) done) ⌝ }
-    ensures { λ _. ⌜ Kept (now (state .entry)) (now (state .exit)) ⌝ }
+    ensures { λ _. ⌜ BytesKept (now (state .entry)) (now (state .exit)) ⌝ }
 {
     let judged = done.judged;
     let len = done.len;
@@ -76,11 +76,11 @@ pub(crate) fn finish(
 ) -> i32
     requires { ⌜ (133440 ≤ length (now state)) × (length (now noted) ≡ 384) × (length (now proposals) ≡ 8704) × (length (now words) ≡ 260)
         × (2 * length (now lits) ≤ length (now list)) × (8 * length (now records) ≤ length (now log)) × (8 ≤ length (now cursor)) ⌝ }
-    ensures { λ r. ⌜ left r [] (now (list .exit)) (now (log .exit)) (now (cursor .exit)) ≡ leftBy (done .answer) «before» (done .cursor) [] (now (lits .entry)) (now (records .entry)) (now (list .entry)) (now (log .entry)) (now (cursor .entry)) ⌝ }
+    ensures { λ r. ⌜ leftWith r [] (now (list .exit)) (now (log .exit)) (now (cursor .exit)) ≡ leftBy (done .answer) «before» (done .cursor) [] (now (lits .entry)) (now (records .entry)) (now (list .entry)) (now (log .entry)) (now (cursor .entry)) ⌝ }
     ensures { λ _. ⌜ (isRefused (done .answer) ≡ true → now (state .exit) ≡ now (state .entry)) ⌝ }
     ensures { λ _. ⌜ (isRefused (done .answer) ≡ false → now (plan .entry) ≡ planIn (now (state .entry)) → stateAfter (stateIn (now (state .entry))) (now (noted .entry)) (now (proposals .entry)) (now (words .entry)) done .«last_len» < 4294967296 →
         stateIn (now (state .exit)) ≡ stateAfter (stateIn (now (state .entry))) (now (noted .entry)) (now (proposals .entry)) (now (words .entry)) done) ⌝ }
-    ensures { λ _. ⌜ Kept (now (state .entry)) (now (state .exit)) ⌝ }
+    ensures { λ _. ⌜ BytesKept (now (state .entry)) (now (state .exit)) ⌝ }
 {
     let answer = done.answer;
     if is_refused(answer) {
@@ -112,7 +112,7 @@ fn notify(
 ) -> i32
     requires { ⌜ (133440 ≤ length (now state)) × (now plan ≡ planIn (now state)) × (edges ≡ endsIn (now state)) × (now noted ≡ wordsIn (now state) 61220 384)
         × (now lits ≡ listIn (now list)) × («before» ≡ cursorIn (now cursor)) × (now records ≡ logIn («before») (now log)) × (8 ≤ length (now cursor)) ⌝ }
-    ensures { λ r. ⌜ left r (now (table .exit)) (now (list .exit)) (now (log .exit)) (now (cursor .exit))
+    ensures { λ r. ⌜ leftWith r (now (table .exit)) (now (list .exit)) (now (log .exit)) (now (cursor .exit))
         ≡ leftOf (cursorIn (now (cursor .entry))) (propagatedIn (now (state .entry)) (now (table .entry)) (now (list .entry)) (now (log .entry)) (now (cursor .entry)) lit «num_pending_propagations») (now (list .entry)) (now (log .entry)) (now (cursor .entry)) ⌝ }
     ensures { λ _. ⌜ AfterOf false (propagatedIn (now (state .entry)) (now (table .entry)) (now (list .entry)) (now (log .entry)) (now (cursor .entry)) lit «num_pending_propagations» .outcome) (now (state .entry)) (now (state .exit)) ⌝ }
 {
@@ -157,7 +157,7 @@ pub(crate) fn propagate(
     num_pending_propagations: i32,
 ) -> i32
     requires { ⌜ (133440 ≤ length (now state)) × (8 ≤ length (now cursor)) ⌝ }
-    ensures { λ r. ⌜ left r (now (table .exit)) (now (list .exit)) (now (log .exit)) (now (cursor .exit))
+    ensures { λ r. ⌜ leftWith r (now (table .exit)) (now (list .exit)) (now (log .exit)) (now (cursor .exit))
         ≡ leftOf (cursorIn (now (cursor .entry))) (propagatedIn (now (state .entry)) (now (table .entry)) (now (list .entry)) (now (log .entry)) (now (cursor .entry)) lit «num_pending_propagations») (now (list .entry)) (now (log .entry)) (now (cursor .entry)) ⌝ }
     ensures { λ _. ⌜ AfterOf false (propagatedIn (now (state .entry)) (now (table .entry)) (now (list .entry)) (now (log .entry)) (now (cursor .entry)) lit «num_pending_propagations» .outcome) (now (state .entry)) (now (state .exit)) ⌝ }
 {

@@ -3,7 +3,7 @@ use graph_division::Answer;
 ghost use mathlib.Core.Path.{_≡_};
 ghost use Prim.Native.Nat.{_≤_};
 ghost use lib.IntN.{pos, negℤ};
-ghost use Rattle.byte_calls.specs.Codes.{fitted, codeOf, givenBy};
+ghost use Rattle.byte_calls.specs.Codes.{fitted, answerCode, givenBy};
 
 fn count_code(n: usize) -> i32
     ensures { λ r. ⌜ r ≡ pos (fitted n) ⌝ }
@@ -32,7 +32,7 @@ pub(crate) fn refusal_code(n: u32) -> i32
 }
 
 pub(crate) fn code_of(answer: Answer) -> i32
-    ensures { λ r. ⌜ r ≡ codeOf answer ⌝ }
+    ensures { λ r. ⌜ r ≡ answerCode answer ⌝ }
 {
     match answer {
         Answer::Consistent { handed } => count_code(handed),

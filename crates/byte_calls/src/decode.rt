@@ -10,7 +10,7 @@ ghost use Prim.Native.Nat.{ℕ, _+_, _*_, _/_, _<_, _≤_};
 ghost use lib.ListN.{length, replicate};
 ghost use Rattle.noting.specs.Words.{capped};
 ghost use Rattle.byte_calls.specs.Bytes.{wordAt, longAt};
-ghost use Rattle.byte_calls.specs.Layout.{sizesOf, litsOf, placesOf, indexOf, inUseOver, endsIn, cursorIn, roomOf, decoded, decodedIn};
+ghost use Rattle.byte_calls.specs.Layout.{sizesOf, litsOf, placesOf, indexOf, inUseOver, endsIn, cursorIn, usedEntries, decoded, decodedIn};
 ghost use Rattle.base.specs.Lists.{filled};
 
 pub(crate) fn capped(n: usize, most: usize) -> usize
@@ -24,7 +24,7 @@ pub(crate) fn capped(n: usize, most: usize) -> usize
 
 // How many records of a log, or literals of a list, are used.
 pub(crate) fn room_of(entries: usize) -> usize
-    ensures { λ r. ⌜ r ≡ roomOf entries ⌝ }
+    ensures { λ r. ⌜ r ≡ usedEntries entries ⌝ }
 {
     capped(entries, 4352)
 }
@@ -112,7 +112,7 @@ fn read_cursor(cursor: &[u8]) -> Cursor
 // The log's records up to the cursor.
 fn read_log(log: &[u8], cursor: Cursor, records: &mut [u64])
     requires { ⌜ length (now records) ≡ 4352 ⌝ }
-    ensures { λ _. ⌜ now (records .exit) ≡ filled 0 (capped (cursor .used) (roomOf (length (now (log .entry)) / 8))) (λ i. longAt (now (log .entry)) (8 * i)) (now (records .entry)) ⌝ }
+    ensures { λ _. ⌜ now (records .exit) ≡ filled 0 (capped (cursor .used) (usedEntries (length (now (log .entry)) / 8))) (λ i. longAt (now (log .entry)) (8 * i)) (now (records .entry)) ⌝ }
 {
     let used = cursor.used;
     let n = capped(used, room_of(log.len() / 8));

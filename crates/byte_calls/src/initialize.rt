@@ -27,8 +27,8 @@ ghost use Rattle.graph_division.specs.Answers.{isConsistent};
 ghost use Rattle.lent.specs.Lent.{withInitialized};
 ghost use Rattle.byte_calls.specs.Bytes.{wordAt};
 ghost use Rattle.byte_calls.specs.Layout.{planIn, endsIn, wordsIn, stateIn, cursorIn, listIn, logIn};
-ghost use Rattle.byte_calls.specs.Stores.{Kept};
-ghost use Rattle.byte_calls.specs.Host.{AfterOf, left, leftOf, initializedIn};
+ghost use Rattle.byte_calls.specs.Stores.{BytesKept};
+ghost use Rattle.byte_calls.specs.Host.{AfterOf, leftWith, leftOf, initializedIn};
 
 // Whether an initialise was consistent: any number but 0 says so.
 fn is_initialized(state: &[u8]) -> bool
@@ -46,7 +46,7 @@ fn store_initialized(state: &mut [u8], answer: Answer)
     requires { ⌜ 133440 ≤ length (now state) ⌝ }
     ensures { λ _. ⌜ (isConsistent answer ≡ true → stateIn (now (state .exit)) ≡ withInitialized (stateIn (now (state .entry)))) ⌝ }
     ensures { λ _. ⌜ (isConsistent answer ≡ false → now (state .exit) ≡ now (state .entry)) ⌝ }
-    ensures { λ _. ⌜ Kept (now (state .entry)) (now (state .exit)) ⌝ }
+    ensures { λ _. ⌜ BytesKept (now (state .entry)) (now (state .exit)) ⌝ }
 {
     if is_consistent(answer) {
         put_word(state, 62760, 1);
@@ -70,7 +70,7 @@ fn begin(
 ) -> i32
     requires { ⌜ (133440 ≤ length (now state)) × (now plan ≡ planIn (now state)) × (edges ≡ endsIn (now state)) × (now noted ≡ wordsIn (now state) 61220 384) × (now last ≡ wordsIn (now state) 62764 260)
         × (now lits ≡ listIn (now list)) × («before» ≡ cursorIn (now cursor)) × (now records ≡ logIn («before») (now log)) × (8 ≤ length (now cursor)) ⌝ }
-    ensures { λ r. ⌜ left r (now (table .exit)) (now (list .exit)) (now (log .exit)) (now (cursor .exit))
+    ensures { λ r. ⌜ leftWith r (now (table .exit)) (now (list .exit)) (now (log .exit)) (now (cursor .exit))
         ≡ leftOf (cursorIn (now (cursor .entry))) (initializedIn (now (state .entry)) (now (table .entry)) (now (list .entry)) (now (log .entry)) (now (cursor .entry))) (now (list .entry)) (now (log .entry)) (now (cursor .entry)) ⌝ }
     ensures { λ _. ⌜ AfterOf false (initializedIn (now (state .entry)) (now (table .entry)) (now (list .entry)) (now (log .entry)) (now (cursor .entry)) .outcome) (now (state .entry)) (now (state .exit)) ⌝ }
 {
@@ -117,7 +117,7 @@ pub(crate) fn initialize(
     cursor: &mut [u8],
 ) -> i32
     requires { ⌜ (133440 ≤ length (now state)) × (8 ≤ length (now cursor)) ⌝ }
-    ensures { λ r. ⌜ left r (now (table .exit)) (now (list .exit)) (now (log .exit)) (now (cursor .exit))
+    ensures { λ r. ⌜ leftWith r (now (table .exit)) (now (list .exit)) (now (log .exit)) (now (cursor .exit))
         ≡ leftOf (cursorIn (now (cursor .entry))) (initializedIn (now (state .entry)) (now (table .entry)) (now (list .entry)) (now (log .entry)) (now (cursor .entry))) (now (list .entry)) (now (log .entry)) (now (cursor .entry)) ⌝ }
     ensures { λ _. ⌜ AfterOf false (initializedIn (now (state .entry)) (now (table .entry)) (now (list .entry)) (now (log .entry)) (now (cursor .entry)) .outcome) (now (state .entry)) (now (state .exit)) ⌝ }
 {

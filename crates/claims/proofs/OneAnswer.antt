@@ -22,7 +22,7 @@ use Rattle.calls.proofs.Queries.{not-false, Answered, denied, given, answer-jud
 use Rattle.calls.proofs.View.{Did, away, added, agreed, clashed, took, asked, began, beganLast, beganClash, did}
 use Rattle.graph_division.specs.Answers.{numberOf, valuesOf}
 use Rattle.graph_division.specs.Outcomes.{answerFor, answerOf}
-use Rattle.graph_division.specs.Runs.{Request, initialize, propagate, undo, ask, tableOf, listOf, tailOf, Kept, logFor, Reply, reply, keeping, roomFor, callOf}
+use Rattle.graph_division.specs.Runs.{Request, initialize, propagate, undo, ask, tableOf, lentList, tailOf, Kept, logFor, Reply, reply, keeping, roomFor, callOf}
 use Rattle.simulation.specs.Represents.{Represents, valuesFor}
 use Rattle.simulation.proofs.Running.{with-tail}
 use Rattle.claims.specs.Whole.{literalsOf, writtenBy, writtenOf, Whole}
@@ -161,7 +161,7 @@ module _ (D : Plan) (k : Kept) (w : World) (a : At D k w) (q : Request) where
         values =
             ap (λ x. valuesOf x (reply k q .list)) (r .answer)
             ∙ values-for (o .answer) (o .handed) (reply k q .list) (subst (λ (l : List ℕ). take (length l) (reply k q .list) ≡ l) written-is (r .whole));
-        list = r .list ∙ ap (sets (listOf q) 0) written-is;
+        list = r .list ∙ ap (sets (lentList q) 0) written-is;
         table = r .table;
         marked = subst (Marked (tableOf q) (o .handed)) (sym (r .table))
             (subst (λ (t : List ℕ). Marked t (o .handed) (o .table)) (table-same k q) (call-marked D w (callOf k q)));

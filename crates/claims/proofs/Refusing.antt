@@ -23,7 +23,7 @@ use Rattle.graph_division.specs.declared.Answer.{Answer}
 use Rattle.graph_division.specs.declared.Answer.the-variants.{Consistent, Conflict, Noted, Undone, Reason, Refused}
 use Rattle.graph_division.specs.Calls.{Called, called, refuse, adding, accepting, handingOn, settledBy, settled, propagated, undone, Fetched, fetched, copied, reasonGiven, isNone, listFor, recordedFor, giving, reasonFetched, lastFetched}
 use Rattle.graph_division.specs.Initialize.{taking, takenOver, endedBy, begun, initialized}
-use Rattle.graph_division.specs.Runs.{Query, reasonFor, lastLeft, Request, initialize, propagate, undo, ask, tableOf, listOf, tailOf, Kept, logFor, Reply, replied, repliedCalled, repliedFetched, asked, reply}
+use Rattle.graph_division.specs.Runs.{Query, reasonFor, lastLeft, Request, initialize, propagate, undo, ask, tableOf, lentList, tailOf, Kept, logFor, Reply, replied, repliedCalled, repliedFetched, asked, reply}
 use Rattle.claims.specs.Conditions.{turnedAwayWith}
 use Rattle.claims.proofs.Replying.{kindOf, amountOf}
 
@@ -53,34 +53,34 @@ module _ (k : Kept) (q : Request) where
 
 module _ (k : Kept) where
   ended-unchanged : (t list tail words left : List ℕ) (x : Progress) (j : Judgement) (u m : List ℕ) → Unchanged k (initialize t list tail) (repliedCalled (endedBy (k .state) (k .cursor) t (logFor k tail) words left x j t u m list))
-  unfolding endedBy taking takenOver repliedCalled replied turnedAwayWith tableOf listOf tailOf kindOf
+  unfolding endedBy taking takenOver repliedCalled replied turnedAwayWith tableOf lentList tailOf kindOf
   ended-unchanged t list tail words left x Fine u m = other k (initialize t list tail) _ (Consistent _) refl (λ e. omega arith)
   ended-unchanged t list tail words left x (Clash n) u m = other k (initialize t list tail) _ Conflict refl (λ e. omega arith)
   ended-unchanged t list tail words left x (Stopped n) u m = away k (initialize t list tail) n _ refl
 
   settled-unchanged : (lit pending : ℤ) (t list tail : List ℕ) (l : ℕ) (x : Judged) (j : Judgement) → Unchanged k (propagate lit pending t list tail) (repliedCalled (settledBy (k .state) (k .cursor) l x j t list (logFor k tail)))
-  unfolding settledBy handingOn accepting repliedCalled replied turnedAwayWith tableOf listOf tailOf kindOf
+  unfolding settledBy handingOn accepting repliedCalled replied turnedAwayWith tableOf lentList tailOf kindOf
   settled-unchanged lit pending t list tail l x Fine = other k (propagate lit pending t list tail) _ (Consistent _) refl (λ e. omega arith)
   settled-unchanged lit pending t list tail l x (Clash n) = other k (propagate lit pending t list tail) _ Conflict refl (λ e. omega arith)
   settled-unchanged lit pending t list tail l x (Stopped n) = away k (propagate lit pending t list tail) n _ refl
 
   copied-unchanged : (q : Query) (b tail ws l : List ℕ) (n : ℕ) → Unchanged k (ask q b tail) (repliedFetched k (logFor k tail) (copied ws l n b))
-  unfolding copied repliedFetched replied refuse turnedAwayWith tableOf listOf tailOf kindOf
+  unfolding copied repliedFetched replied refuse turnedAwayWith tableOf lentList tailOf kindOf
   copied-unchanged q b tail ws l n =
       by-fetch k (ask q b tail) _ _ _ _ (away k (ask q b tail) 7 _ refl) (other k (ask q b tail) _ (Reason n) refl (λ e. omega arith))
 
   given-unchanged : (q : Query) (b tail ws l : List ℕ) (x : Listed) → Unchanged k (ask q b tail) (repliedFetched k (logFor k tail) (reasonGiven ws l x b))
-  unfolding reasonGiven repliedFetched replied refuse turnedAwayWith tableOf listOf tailOf
+  unfolding reasonGiven repliedFetched replied refuse turnedAwayWith tableOf lentList tailOf
   given-unchanged q b tail ws l (Past n) = copied-unchanged q b tail ws l n
   given-unchanged q b tail ws l Missing = away k (ask q b tail) 16 _ refl
 
   -- a call that is refused leaves the state, the cursor and all that it was lent
   refused-initialize : (t list tail : List ℕ) → Unchanged k (initialize t list tail) (reply k (initialize t list tail))
-  unfolding reply initialized begun turnedAwayWith tableOf listOf tailOf repliedCalled
+  unfolding reply initialized begun turnedAwayWith tableOf lentList tailOf repliedCalled
   refused-initialize t list tail = by-test k (initialize t list tail) _ _ _ (ended-unchanged t list tail _ _ _ _ _ _) (away k (initialize t list tail) _ _ refl)
 
   refused-propagate : (lit pending : ℤ) (t list tail : List ℕ) → Unchanged k (propagate lit pending t list tail) (reply k (propagate lit pending t list tail))
-  unfolding reply propagated settled adding turnedAwayWith tableOf listOf tailOf repliedCalled replied kindOf
+  unfolding reply propagated settled adding turnedAwayWith tableOf lentList tailOf repliedCalled replied kindOf
   refused-propagate lit pending t list tail =
       let q = propagate lit pending t list tail in
       by-test k q _ _ _
@@ -88,13 +88,13 @@ module _ (k : Kept) where
       (away k q _ _ refl)
 
   refused-undo : (lit : ℤ) (tail : List ℕ) → Unchanged k (undo lit tail) (reply k (undo lit tail))
-  unfolding reply undone turnedAwayWith tableOf listOf tailOf replied kindOf
+  unfolding reply undone turnedAwayWith tableOf lentList tailOf replied kindOf
   refused-undo lit tail = tested (eqb (undoRefusal (k .state .plan) (k .state .edges .ends) (k .state .noted) (logFor k tail) (k .cursor) lit) 0)
       (λ e. other k (undo lit tail) _ Undone (ap (λ (y : Outcome). y .answer) (pick-yes _ _ e)) (λ z. omega arith))
       (λ e. away k (undo lit tail) _ _ (ap (λ (y : Outcome). replied y [] [] (logFor k tail)) (pick-no _ _ e)))
 
   refused-ask : (q : Query) (b tail : List ℕ) → Unchanged k (ask q b tail) (reply k (ask q b tail))
-  unfolding reply asked reasonFetched giving lastFetched turnedAwayWith tableOf listOf tailOf repliedFetched replied refuse kindOf
+  unfolding reply asked reasonFetched giving lastFetched turnedAwayWith tableOf lentList tailOf repliedFetched replied refuse kindOf
   refused-ask (reasonFor lit) b tail =
       let q = ask (reasonFor lit) b tail in
       by-fetch k q _ _ _ _

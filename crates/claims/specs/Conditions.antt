@@ -28,7 +28,7 @@ use Rattle.graph_division.specs.declared.Answer.the-variants.{Consistent, Confl
 use Rattle.graph_division.specs.New.{built}
 use Rattle.graph_division.specs.Answers.{numberOf, isConsistent}
 use Rattle.graph_division.specs.Calls.{refuse}
-use Rattle.graph_division.specs.Runs.{Query, reasonFor, lastLeft, Request, initialize, propagate, undo, ask, tableOf, listOf, tailOf, Kept, logFor, Reply, replied, reply, keeping, after, callOf, callsOf}
+use Rattle.graph_division.specs.Runs.{Query, reasonFor, lastLeft, Request, initialize, propagate, undo, ask, tableOf, lentList, tailOf, Kept, logFor, Reply, replied, reply, keeping, after, callOf, callsOf}
 use Rattle.simulation.specs.Start.{statePlan, justBuilt}
 use Rattle.claims.specs.Whole.{literalsOf, Whole}
 
@@ -73,7 +73,7 @@ pub data AllQuiet : Kept → List Request → Type 0 where
 
 -- the reply to a call that is refused: the number, and the state, the cursor and all that it was lent as before
 unfoldable pub turnedAwayWith : Kept → Request → ℕ → Reply
-turnedAwayWith k q n = replied (refuse n (k .state) (k .cursor)) (tableOf q) (listOf q) (logFor k (tailOf q))
+turnedAwayWith k q n = replied (refuse n (k .state) (k .cursor)) (tableOf q) (lentList q) (logFor k (tailOf q))
 
 -- the world of the definitions of crate calls after a list of requests
 abbrev pub worldAfter : Plan → Kept → List Request → World

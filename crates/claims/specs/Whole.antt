@@ -10,7 +10,7 @@ use Rattle.calls.specs.Marks.{Marked}
 use Rattle.as_noted.specs.AsNoted.{AsNoted}
 use Rattle.graph_division.specs.Answers.{numberOf, valuesOf}
 use Rattle.graph_division.specs.Outcomes.{answerOf}
-use Rattle.graph_division.specs.Runs.{Request, tableOf, listOf, tailOf, Kept, logFor, Reply, reply}
+use Rattle.graph_division.specs.Runs.{Request, tableOf, lentList, tailOf, Kept, logFor, Reply, reply}
 
 -- the literals of a reply, by what document 01 asks for: "a definition gives this paper's number and values for each of its cases"
 abbrev pub literalsOf : Reply → List ℕ
@@ -40,7 +40,7 @@ pub record Whole (k : Kept) (q : Request) (o : calls.Outcome) : Type 0 where
   -- its literals are the outcome's, in their order
   pub values : literalsOf (reply k q) ≡ valuesOf (answerOf o) (writtenOf o)
   -- they stand from the start of the list or of the reason buffer on; all else of it stays
-  pub list : reply k q .list ≡ sets (listOf q) 0 (writtenOf o)
+  pub list : reply k q .list ≡ sets (lentList q) 0 (writtenOf o)
   -- "the table must show each"; every other entry keeps its code
   pub table : reply k q .table ≡ o .table
   pub marked : Marked (tableOf q) (o .handed) (reply k q .table)

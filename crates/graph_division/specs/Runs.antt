@@ -36,11 +36,11 @@ tableOf (undo lit tail) = []
 tableOf (ask q b tail) = []
 
 -- the list or the reason buffer
-unfoldable pub listOf : Request → List ℕ
-listOf (initialize t list tail) = list
-listOf (propagate lit pending t list tail) = list
-listOf (undo lit tail) = []
-listOf (ask q b tail) = b
+unfoldable pub lentList : Request → List ℕ
+lentList (initialize t list tail) = list
+lentList (propagate lit pending t list tail) = list
+lentList (undo lit tail) = []
+lentList (ask q b tail) = b
 
 unfoldable pub tailOf : Request → List ℕ
 tailOf (initialize t list tail) = tail

@@ -5,12 +5,12 @@ use mathlib.Core.List.{List}
 use Prim.Native.Nat.{ℕ}
 use lib.IntN.{ℤ}
 use Rattle.graph_division.specs.declared.Outcome.{Outcome}
-use Rattle.byte_calls.specs.Host.{Left, left, Back, back}
+use Rattle.byte_calls.specs.Host.{Left, leftWith, Back, back}
 use Rattle.byte_calls.specs.After.{Leaves}
 use Rattle.byte_calls.specs.Build.{BuiltIn}
 
-pub left-handed : (r s : ℤ) (t list log cursor : List ℕ) (x : Left) → s ≡ r → left r t list log cursor ≡ x → left s t list log cursor ≡ x
-left-handed r s t list log cursor x e h = ap (λ (r : ℤ). left r t list log cursor) e ∙ h
+pub left-handed : (r s : ℤ) (t list log cursor : List ℕ) (x : Left) → s ≡ r → leftWith r t list log cursor ≡ x → leftWith s t list log cursor ≡ x
+left-handed r s t list log cursor x e h = ap (λ (r : ℤ). leftWith r t list log cursor) e ∙ h
 
 pub back-handed : (r s : ℤ) (cursor : List ℕ) (x : Back) → s ≡ r → back r cursor ≡ x → back s cursor ≡ x
 back-handed r s cursor x e h = ap (λ (r : ℤ). back r cursor) e ∙ h

@@ -1,7 +1,7 @@
 // The C host: the calls of crate byte_calls, exported under C's names. A slice is a pointer and a length in C; include/zuntjev.h has the
 // layout of the bytes. Every call takes any bytes. `rt staticlib` proves this crate once more: it stays thin.
 ghost use mathlib.Core.Path.{_≡_};
-ghost use Rattle.byte_calls.specs.Host.{left, back, tooShort, hostInitialized, initializedIn, hostPropagated, propagatedIn, hostUndone, undoneIn, hostReason, hostLast, buildCode};
+ghost use Rattle.byte_calls.specs.Host.{leftWith, back, tooShort, hostInitialized, initializedIn, hostPropagated, propagatedIn, hostUndone, undoneIn, hostReason, hostLast, buildCode};
 ghost use Rattle.byte_calls.specs.After.{Leaves};
 ghost use Rattle.byte_calls.specs.Build.{BuiltIn};
 ghost use Rattle.byte_calls.specs.Numbers.{numbersIn};
@@ -32,7 +32,7 @@ pub extern "C" fn zuntjev_initialize(
     log: &mut [u8],
     cursor: &mut [u8],
 ) -> i32
-    ensures { λ r. ⌜ left r (now (table .exit)) (now (list .exit)) (now (log .exit)) (now (cursor .exit))
+    ensures { λ r. ⌜ leftWith r (now (table .exit)) (now (list .exit)) (now (log .exit)) (now (cursor .exit))
         ≡ hostInitialized (now (state .entry)) (now (table .entry)) (now (list .entry)) (now (log .entry)) (now (cursor .entry)) ⌝ }
     ensures { λ _. ⌜ Leaves (tooShort (now (state .entry)) (now (cursor .entry))) (initializedIn (now (state .entry)) (now (table .entry)) (now (list .entry)) (now (log .entry)) (now (cursor .entry)) .outcome) (now (state .entry)) (now (state .exit)) ⌝ }
 {
@@ -50,7 +50,7 @@ pub extern "C" fn zuntjev_propagate(
     lit: i32,
     num_pending_propagations: i32,
 ) -> i32
-    ensures { λ r. ⌜ left r (now (table .exit)) (now (list .exit)) (now (log .exit)) (now (cursor .exit))
+    ensures { λ r. ⌜ leftWith r (now (table .exit)) (now (list .exit)) (now (log .exit)) (now (cursor .exit))
         ≡ hostPropagated (now (state .entry)) (now (table .entry)) (now (list .entry)) (now (log .entry)) (now (cursor .entry)) lit «num_pending_propagations» ⌝ }
     ensures { λ _. ⌜ Leaves (tooShort (now (state .entry)) (now (cursor .entry))) (propagatedIn (now (state .entry)) (now (table .entry)) (now (list .entry)) (now (log .entry)) (now (cursor .entry)) lit «num_pending_propagations» .outcome) (now (state .entry)) (now (state .exit)) ⌝ }
 {

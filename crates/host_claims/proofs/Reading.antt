@@ -18,10 +18,10 @@ use Rattle.calls.specs.Calls as calls
 use Rattle.graph_division.specs.declared.Answer.{Answer}
 use Rattle.graph_division.specs.Answers.{valuesOf}
 use Rattle.graph_division.specs.Outcomes.{answerFor, answerOf}
-use Rattle.graph_division.specs.Runs.{Request, initialize, propagate, undo, ask, listOf, Kept, Reply, reply}
+use Rattle.graph_division.specs.Runs.{Request, initialize, propagate, undo, ask, lentList, Kept, Reply, reply}
 use Rattle.claims.specs.Whole.{literalsOf, writtenBy, writtenOf, Whole}
-use Rattle.byte_calls.specs.Codes.{fitted, codeOf, givenBy}
-use Rattle.byte_calls.specs.Layout.{roomOf, listIn, bufferIn}
+use Rattle.byte_calls.specs.Codes.{fitted, answerCode, givenBy}
+use Rattle.byte_calls.specs.Layout.{usedEntries, listIn, bufferIn}
 use Rattle.byte_calls.specs.Stores.{putList}
 use Rattle.byte_calls.proofs.Filling.{capped-most}
 use Rattle.byte_calls.proofs.ReadBack.{halfAt, list-back}
@@ -69,15 +69,15 @@ none-small zero = omega arith
 none-small (suc i) = omega arith
 
 -- the list that a call of the host is lent, in words: zeros, and no more than 4352
-made-small : {k k′ : Kept} {q : Request} {list : List ℕ} {x : Said} → HostMade k q list x k′ → Small (listOf q)
-unfolding listOf listIn bufferIn
-made-small (initializes r state t list log cursor state′ t′ list′ log′ cursor′ p e s) = zeros-small (roomOf (length list / 2)) 4352
-made-small (propagates r lit pending state t list log cursor state′ t′ list′ log′ cursor′ p e s) = zeros-small (roomOf (length list / 2)) 4352
+made-small : {k k′ : Kept} {q : Request} {list : List ℕ} {x : Said} → HostMade k q list x k′ → Small (lentList q)
+unfolding lentList listIn bufferIn
+made-small (initializes r state t list log cursor state′ t′ list′ log′ cursor′ p e s) = zeros-small (usedEntries (length list / 2)) 4352
+made-small (propagates r lit pending state t list log cursor state′ t′ list′ log′ cursor′ p e s) = zeros-small (usedEntries (length list / 2)) 4352
 made-small (undoes r lit state log cursor state′ cursor′ p e s) = none-small
 made-small (asks r q state log cursor buffer buffer′ p e) = zeros-small (capped (length buffer / 2) 260) 260
 
-made-few : {k k′ : Kept} {q : Request} {list : List ℕ} {x : Said} → HostMade k q list x k′ → length (listOf q) ≤ 4352
-unfolding listOf listIn bufferIn roomOf
+made-few : {k k′ : Kept} {q : Request} {list : List ℕ} {x : Said} → HostMade k q list x k′ → length (lentList q) ≤ 4352
+unfolding lentList listIn bufferIn usedEntries
 made-few (initializes r state t list log cursor state′ t′ list′ log′ cursor′ p e s) =
     omega (arith, length-take (capped (length list / 2) 4352) (replicate {A = ℕ} 4352 0), capped-most (length list / 2) 4352)
 made-few (propagates r lit pending state t list log cursor state′ t′ list′ log′ cursor′ p e s) =
@@ -107,7 +107,7 @@ module _ {h k k′ : Kept} {q : Request} {list : List ℕ} {x : Said} (o : calls
   -- an answer that gives all that is written
   module _ (b : calls.Answer) (answered : o .answer ≡ b) (v : List ℕ) (writes : writtenBy b (o .handed) ≡ v)
       (values : (l : List ℕ) → valuesOf (answerFor b (length (o .handed))) l ≡ take (length v) l)
-      (many : givenBy (answerFor b (length (o .handed))) ≡ length v) (code : codeOf (answerFor b (length (o .handed))) ≡ pos (fitted (length v))) where
+      (many : givenBy (answerFor b (length (o .handed))) ≡ length v) (code : answerCode (answerFor b (length (o .handed))) ≡ pos (fitted (length v))) where
     answer-is : reply h q .answer ≡ answerFor b (length (o .handed))
     unfolding answerOf
     answer-is = w .answer ∙ ap (λ (z : calls.Answer). answerFor z (length (o .handed))) answered
@@ -124,24 +124,24 @@ module _ {h k k′ : Kept} {q : Request} {list : List ℕ} {x : Said} (o : calls
     taken : take (length v) (reply h q .list) ≡ v
     taken = sym (values (reply h q .list)) ∙ sym (ap (λ (z : Answer). valuesOf z (reply h q .list)) answer-is) ∙ lits
 
-    list-is : reply h q .list ≡ sets (listOf q) 0 v
-    list-is = w .list ∙ ap (sets (listOf q) 0) written-is
+    list-is : reply h q .list ≡ sets (lentList q) 0 v
+    list-is = w .list ∙ ap (sets (lentList q) 0) written-is
 
     lits-small : (u : ℕ) → In v u → u < 65536
     lits-small u i = let z = small u (subst (λ (l : List ℕ). In l u) (sym written-is) i) in omega arith
 
     list-small : Small (reply h q .list)
-    list-small = subst Small (sym list-is) (sets-small v (listOf q) 0 (made-small m) lits-small)
+    list-small = subst Small (sym list-is) (sets-small v (lentList q) 0 (made-small m) lits-small)
 
-    list-long : length (reply h q .list) ≡ length (listOf q)
-    list-long = ap length list-is ∙ length-sets (listOf q) 0 v
+    list-long : length (reply h q .list) ≡ length (lentList q)
+    list-long = ap length list-is ∙ length-sets (lentList q) 0 v
 
     fits : length v ≤ length (reply h q .list)
     fits = let z = ap length taken in omega (arith, z, length-take (length v) (reply h q .list))
 
     code-is : (n : ℕ) → x .code ≡ pos n → n ≡ length v
     code-is n e =
-        up-is (pos (fitted (length v))) n (sym (a .code ∙ ap codeOf answer-is ∙ code) ∙ e)
+        up-is (pos (fitted (length v))) n (sym (a .code ∙ ap answerCode answer-is ∙ code) ∙ e)
         ∙ fitted-up (length v) (omega (arith, fits, list-long, made-few m))
 
     bytes-are : x .list ≡ putList (reply h q .list) (length v) list
@@ -154,16 +154,16 @@ module _ {h k k′ : Kept} {q : Request} {list : List ℕ} {x : Said} (o : calls
         ∙ sym lits
 
   -- one that gives none: no number of literals but 0
-  none-read : (b : calls.Answer) → o .answer ≡ b → ((l : List ℕ) → valuesOf (answerFor b (length (o .handed))) l ≡ []) → up (codeOf (answerFor b (length (o .handed)))) ≡ 0 →
+  none-read : (b : calls.Answer) → o .answer ≡ b → ((l : List ℕ) → valuesOf (answerFor b (length (o .handed))) l ≡ []) → up (answerCode (answerFor b (length (o .handed)))) ≡ 0 →
       (n : ℕ) → x .code ≡ pos n → literalsAt (x .list) n ≡ literalsOf (reply h q)
   unfolding answerOf literalsAt tab
   none-read b e f g n c =
       let s : reply h q .answer ≡ answerFor b (length (o .handed)) = w .answer ∙ ap (λ (z : calls.Answer). answerFor z (length (o .handed))) e in
-      ap (literalsAt (x .list)) (up-is (x .code) n c ∙ ap up (a .code ∙ ap codeOf s) ∙ g)
+      ap (literalsAt (x .list)) (up-is (x .code) n c ∙ ap up (a .code ∙ ap answerCode s) ∙ g)
       ∙ sym (ap (λ (z : Answer). valuesOf z (reply h q .list)) s ∙ f (reply h q .list))
 
   read-by : (b : calls.Answer) → o .answer ≡ b → (n : ℕ) → x .code ≡ pos n → literalsAt (x .list) n ≡ literalsOf (reply h q)
-  unfolding valuesOf answerFor writtenBy codeOf up
+  unfolding valuesOf answerFor writtenBy answerCode up
   read-by calls.consistent e = whole-read calls.consistent e (o .handed) refl (λ l. refl) refl refl
   read-by (calls.reason ls) e = whole-read (calls.reason ls) e ls refl (λ l. refl) refl refl
   read-by calls.conflicting e = none-read calls.conflicting e (λ l. refl) refl

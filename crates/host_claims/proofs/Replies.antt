@@ -27,8 +27,8 @@ use Rattle.claims.specs.Conditions.{turnedAwayWith}
 use Rattle.claims.proofs.Refusing.{refused-unchanged}
 use Rattle.claims.proofs.Past.{reply-log}
 use Rattle.graph_division.specs.Answers.{isRefused}
-use Rattle.byte_calls.specs.Codes.{codeOf, givenBy}
-use Rattle.byte_calls.specs.Layout.{stateIn, cursorIn, roomOf, recordsIn, logIn, listIn, bufferIn}
+use Rattle.byte_calls.specs.Codes.{answerCode, givenBy}
+use Rattle.byte_calls.specs.Layout.{stateIn, cursorIn, usedEntries, recordsIn, logIn, listIn, bufferIn}
 use Rattle.byte_calls.specs.Stores.{putList, putLog}
 use Rattle.byte_calls.specs.Bytes.{putHalves}
 use Rattle.byte_calls.specs.Host.{Left, tooShort, leftBy, leftOf, propagatedIn, hostPropagated, initializedIn, hostInitialized, Back, back, undoneIn, backOf, backBy, hostUndone, givenIn, hostReason, hostLast}
@@ -40,12 +40,12 @@ use Rattle.host_claims.specs.HostRuns.{keptIn, tailIn, Bytes, hostAsked}
 
 -- left, with the state's bytes after it, is the reply to request q where k is kept
 pub record HostReplies (k : Kept) (q : Request) (list : List ℕ) (l : Left) (after : List ℕ) : Type 0 where
-  pub code : l .code ≡ codeOf (reply k q .answer)
+  pub code : l .code ≡ answerCode (reply k q .answer)
   pub table : l .table ≡ reply k q .table
   pub literals : l .list ≡ putList (reply k q .list) (givenBy (reply k q .answer)) list
   pub keeps : keptIn after (l .cursor) (l .log) ≡ keeping (reply k q)
 
-log-length : (c : Cursor) (log : List ℕ) → length (logIn c log) ≡ roomOf (length log / 8)
+log-length : (c : Cursor) (log : List ℕ) → length (logIn c log) ≡ usedEntries (length log / 8)
 unfolding logIn recordsIn
 log-length c log = room-length (length log / 8) (recordsIn c log) (filled-length 0 _ (replicate 4352 0) _ ∙ length-replicate {A = ℕ} 4352 0)
 
@@ -78,9 +78,9 @@ list-by Undone c d t lits records list log cursor = refl
 list-by (Reason n) c d t lits records list log cursor = refl
 list-by (Refused n) c d t lits records list log cursor = sym (put-none lits list)
 
-code-by : (a : Answer) (c d : Cursor) (t lits records list log cursor : List ℕ) → leftBy a c d t lits records list log cursor .code ≡ codeOf a
+code-by : (a : Answer) (c d : Cursor) (t lits records list log cursor : List ℕ) → leftBy a c d t lits records list log cursor .code ≡ answerCode a
 unfolding leftBy
-code-by a c d t lits records list log cursor = pick-ind (λ (z : Left). z .code ≡ codeOf a) (isRefused a) _ _ (λ _. refl) (λ _. refl)
+code-by a c d t lits records list log cursor = pick-ind (λ (z : Left). z .code ≡ answerCode a) (isRefused a) _ _ (λ _. refl) (λ _. refl)
 
 table-by : (a : Answer) (c d : Cursor) (t lits records list log cursor : List ℕ) → leftBy a c d t lits records list log cursor .table ≡ t
 unfolding leftBy
@@ -139,14 +139,14 @@ module _ (state list log cursor : List ℕ) (q : Request) (y : Called) where
         ap (λ (d : Cursor). take (d .used) (logIn d (l .log))) (b .cursor-is)
         ∙ take-same (y .outcome .cursor .used) (logIn (y .outcome .cursor) (l .log)) (y .log)
         (log-length (y .outcome .cursor) (l .log)
-        ∙ ap (λ (n : ℕ). roomOf (n / 8)) (log-by (y .outcome .answer) c (y .outcome .cursor) (y .table) (y .list) (y .log) list log cursor)
+        ∙ ap (λ (n : ℕ). usedEntries (n / 8)) (log-by (y .outcome .answer) c (y .outcome .cursor) (y .table) (y .list) (y .log) list log cursor)
         ∙ sym (log-length c log) ∙ sym long)
         (b .log-is)
 
     replies : HostReplies k q list l after
     unfolding leftOf repliedCalled replied keeping
     replies = record {
-      code = code-by _ c _ _ _ _ list log cursor ∙ ap codeOf answer-is;
+      code = code-by _ c _ _ _ _ list log cursor ∙ ap answerCode answer-is;
       table = table-by _ c _ _ _ _ list log cursor ∙ ap (λ (z : Reply). z .table) (sym r);
       literals = list-by _ c _ _ _ _ list log cursor
           ∙ ap₂ (λ (x : List ℕ) (a : Answer). putList x (givenBy a) list) (ap (λ (z : Reply). z .list) (sym r)) answer-is;
@@ -235,13 +235,13 @@ module _ (state log cursor : List ℕ) (hc : Bytes cursor) (ls : 133440 ≤ leng
     unfolding replied
     undo-answer = ap (λ (z : Reply). z .answer) (sym undo-words)
 
-    back-code : (a : Answer) (d : Cursor) → backOf a d cursor .code ≡ codeOf a
+    back-code : (a : Answer) (d : Cursor) → backOf a d cursor .code ≡ answerCode a
     unfolding backOf
     back-code a d = refl
 
-    pub undo-code : hostUndone state log cursor lit .code ≡ codeOf (reply k₁ q₁ .answer)
+    pub undo-code : hostUndone state log cursor lit .code ≡ answerCode (reply k₁ q₁ .answer)
     unfolding hostUndone backBy
-    undo-code = ap (λ (z : Back). z .code) (pick-no _ _ (enough state cursor ls lc)) ∙ back-code _ _ ∙ ap codeOf undo-answer
+    undo-code = ap (λ (z : Back). z .code) (pick-no _ _ (enough state cursor ls lc)) ∙ back-code _ _ ∙ ap answerCode undo-answer
 
     module _ (s : Leaves (tooShort state cursor) y₁ state after) where
       undo-state : stateIn after ≡ y₁ .state
@@ -270,9 +270,9 @@ module _ (state log cursor : List ℕ) (hc : Bytes cursor) (ls : 133440 ≤ leng
     unfolding reply
     ask-words = ap (λ (m : List ℕ). repliedFetched k₁ (logFor k₁ (tailIn cursor log)) (asked (stateIn state) c₁ m q (bufferIn buffer))) (whole state cursor log)
 
-    pub ask-replies : hostAsked state log cursor q buffer ≡ back (codeOf (reply k₁ q₂ .answer)) (putList (reply k₁ q₂ .list) (givenBy (reply k₁ q₂ .answer)) buffer)
+    pub ask-replies : hostAsked state log cursor q buffer ≡ back (answerCode (reply k₁ q₂ .answer)) (putList (reply k₁ q₂ .list) (givenBy (reply k₁ q₂ .answer)) buffer)
     unfolding givenIn repliedFetched
-    ask-replies = asked-given state log cursor (enough state cursor ls lc) q buffer ∙ ap (λ (z : Reply). back (codeOf (z .answer)) (putList (z .list) (givenBy (z .answer)) buffer)) (sym ask-words)
+    ask-replies = asked-given state log cursor (enough state cursor ls lc) q buffer ∙ ap (λ (z : Reply). back (answerCode (z .answer)) (putList (z .list) (givenBy (z .answer)) buffer)) (sym ask-words)
 
     pub ask-table : [] ≡ reply k₁ q₂ .table
     unfolding repliedFetched

@@ -32,13 +32,13 @@ use Rattle.graph_division.specs.declared.Answer.the-variants.{Consistent, Confl
 use Rattle.graph_division.specs.Calls.{Fetched, reasonOver, copied, reasonGiven, giving, reasonFetched, lastFetched}
 use Rattle.graph_division.specs.Answers.{valuesOf, isRefused}
 use Rattle.graph_division.specs.Outcomes.{answerFor, answerOf}
-use Rattle.graph_division.specs.Runs.{Query, reasonFor, lastLeft, Request, initialize, propagate, undo, ask, listOf, Kept, Reply, replied, asked, reply, keeping, after}
+use Rattle.graph_division.specs.Runs.{Query, reasonFor, lastLeft, Request, initialize, propagate, undo, ask, lentList, Kept, Reply, replied, asked, reply, keeping, after}
 use Rattle.claims.specs.Whole.{writtenBy, writtenOf, Whole}
 use Rattle.byte_calls.specs.Bytes.{putHalves}
-use Rattle.byte_calls.specs.Codes.{fitted, codeOf, givenBy}
+use Rattle.byte_calls.specs.Codes.{fitted, answerCode, givenBy}
 use Rattle.byte_calls.specs.Layout.{stateIn, cursorIn, logIn, listIn, bufferIn}
 use Rattle.byte_calls.specs.Stores.{putList}
-use Rattle.byte_calls.specs.Host.{Left, left, tooShort, hostInitialized, hostPropagated, Back, back, hostUndone, givenIn, hostReason, hostLast}
+use Rattle.byte_calls.specs.Host.{Left, leftWith, tooShort, hostInitialized, hostPropagated, Back, back, hostUndone, givenIn, hostReason, hostLast}
 use Rattle.byte_calls.proofs.Filling.{capped-most, capped-less}
 use Rattle.byte_calls.proofs.Leaving.{list-room}
 use Rattle.host_claims.specs.HostRuns.{keptIn, tailIn, LentFor, Said, saying, hostAsked, HostMade, initializes, propagates, undoes, asks, AllHostMade, none, next, HostAnswers, ShortRefused}
@@ -50,11 +50,11 @@ pub record Made (h : Kept) (q : Request) (list : List ℕ) (x : Said) (k′ : Ke
   pub answers : HostAnswers h q list x
   pub keeps : k′ ≡ keeping (reply h q)
 
-made-left : (k h : Kept) (q : Request) (r : ℤ) (list state′ t′ list′ log′ cursor′ : List ℕ) (l : Left) → h ≡ k → left r t′ list′ log′ cursor′ ≡ l →
+made-left : (k h : Kept) (q : Request) (r : ℤ) (list state′ t′ list′ log′ cursor′ : List ℕ) (l : Left) → h ≡ k → leftWith r t′ list′ log′ cursor′ ≡ l →
     HostReplies h q list l state′ → Made k q list (saying r t′ list′) (keptIn state′ cursor′ log′)
 made-left k h q r list state′ t′ list′ log′ cursor′ l e f y =
-    let z : HostReplies k q list (left r t′ list′ log′ cursor′) state′ =
-    subst (λ (x : Kept). HostReplies x q list (left r t′ list′ log′ cursor′) state′) e (subst (λ (x : Left). HostReplies h q list x state′) (sym f) y) in
+    let z : HostReplies k q list (leftWith r t′ list′ log′ cursor′) state′ =
+    subst (λ (x : Kept). HostReplies x q list (leftWith r t′ list′ log′ cursor′) state′) e (subst (λ (x : Left). HostReplies h q list x state′) (sym f) y) in
     record { answers = record { code = z .code; table = z .table; literals = z .literals }; keeps = z .keeps }
 
 -- nothing is written where there is nothing
@@ -84,7 +84,7 @@ host-made {k} (undoes r lit state log cursor state′ cursor′ p e s) =
     record {
       answers = record {
         code = ap (λ (z : Back). z .code) e ∙ undo-code state log cursor (p .cursor-bytes) (p .state-long) (p .cursor-long) lit state′
-            ∙ ap (λ (x : Kept). codeOf (reply x q .answer)) (p .stands);
+            ∙ ap (λ (x : Kept). answerCode (reply x q .answer)) (p .stands);
         table = sym t;
         literals = sym (ap (λ (x : List ℕ). putList x (givenBy (reply k q .answer)) []) l ∙ put-empty _);
       };
@@ -96,7 +96,7 @@ host-made {k} (asks r q state log cursor buffer buffer′ p e) =
     let h = keptIn state cursor log in
     let x = ask q (bufferIn buffer) (tailIn cursor log) in
     let f = e ∙ ask-replies state log cursor (p .cursor-bytes) (p .state-long) (p .cursor-long) q buffer
-    ∙ ap (λ (y : Kept). back (codeOf (reply y x .answer)) (putList (reply y x .list) (givenBy (reply y x .answer)) buffer)) (p .stands) in
+    ∙ ap (λ (y : Kept). back (answerCode (reply y x .answer)) (putList (reply y x .list) (givenBy (reply y x .answer)) buffer)) (p .stands) in
     record {
       answers = record {
         code = ap (λ (z : Back). z .code) f;
@@ -121,8 +121,8 @@ fitted-less : (n : ℕ) → fitted n ≤ n
 unfolding fitted
 fitted-less n = capped-less n 2147483647
 
-fits-for : (a : calls.Answer) (h l : List ℕ) → valuesOf (answerFor a (length h)) l ≡ valuesOf (answerFor a (length h)) (writtenBy a h) → up (codeOf (answerFor a (length h))) ≤ length l
-unfolding valuesOf answerFor writtenBy codeOf up
+fits-for : (a : calls.Answer) (h l : List ℕ) → valuesOf (answerFor a (length h)) l ≡ valuesOf (answerFor a (length h)) (writtenBy a h) → up (answerCode (answerFor a (length h))) ≤ length l
+unfolding valuesOf answerFor writtenBy answerCode up
 fits-for calls.consistent h l e = omega (arith, taken-fits h l e, fitted-less (length h))
 fits-for calls.conflicting h l e = zero-le
 fits-for calls.noted h l e = zero-le
@@ -130,12 +130,12 @@ fits-for calls.undone h l e = zero-le
 fits-for (calls.refused n) h l e = let z = up-negated (fitted n) in omega (arith, z)
 fits-for (calls.reason ls) h l e = omega (arith, taken-fits ls l e, fitted-less (length ls))
 
-answer-fits : (k : Kept) (q : Request) (o : calls.Outcome) → Whole k q o → up (codeOf (reply k q .answer)) ≤ length (listOf q)
+answer-fits : (k : Kept) (q : Request) (o : calls.Outcome) → Whole k q o → up (answerCode (reply k q .answer)) ≤ length (lentList q)
 unfolding answerOf
 answer-fits k q o w =
     let e = ap (λ (x : Answer). valuesOf x (reply k q .list)) (sym (w .answer)) ∙ w .values in
-    let a = ap (λ (x : Answer). up (codeOf x)) (w .answer) in
-    let b = ap length (w .list) ∙ length-sets (listOf q) 0 (writtenOf o) in
+    let a = ap (λ (x : Answer). up (answerCode x)) (w .answer) in
+    let b = ap length (w .list) ∙ length-sets (lentList q) 0 (writtenOf o) in
     omega (arith, a, b, fits-for (o .answer) (o .handed) (reply k q .list) e)
 
 buffer-room : (b : List ℕ) → 2 * length (bufferIn b) ≤ length b
@@ -145,8 +145,8 @@ buffer-room b =
     let e = length-take-le m (replicate {A = ℕ} 260 0) (omega (arith, capped-most (length b / 2) 260, length-replicate {A = ℕ} 260 0)) in
     omega (arith, e, capped-less (length b / 2) 260)
 
-pub made-room : {k k′ : Kept} {q : Request} {list : List ℕ} {x : Said} → HostMade k q list x k′ → 2 * length (listOf q) ≤ length list
-unfolding listOf
+pub made-room : {k k′ : Kept} {q : Request} {list : List ℕ} {x : Said} → HostMade k q list x k′ → 2 * length (lentList q) ≤ length list
+unfolding lentList
 made-room (initializes r state t list log cursor state′ t′ list′ log′ cursor′ p e s) = list-room list
 made-room (propagates r lit pending state t list log cursor state′ t′ list′ log′ cursor′ p e s) = list-room list
 made-room (undoes r lit state log cursor state′ cursor′ p e s) = zero-le
@@ -155,7 +155,7 @@ made-room (asks r q state log cursor buffer buffer′ p e) = buffer-room buffer
 pub host-fits : {h k k′ : Kept} {q : Request} {list : List ℕ} {x : Said} (o : calls.Outcome) → Whole h q o → HostAnswers h q list x → HostMade k q list x k′ →
     (n : ℕ) → x .code ≡ pos n → 2 * n ≤ length list
 host-fits {h} {q = q} o w a m n e =
-    let z = up-is (codeOf (reply h q .answer)) n (sym (a .code) ∙ e) in
+    let z = up-is (answerCode (reply h q .answer)) n (sym (a .code) ∙ e) in
     omega (arith, z, answer-fits h q o w, made-room m)
 
 -- ---- bytes that are too short
@@ -175,8 +175,8 @@ short-refused state log cursor e = record {
 }
 
 -- ---- a fetch on any bytes
-up-code : (a : Answer) → up (codeOf a) ≤ givenBy a
-unfolding up codeOf
+up-code : (a : Answer) → up (answerCode a) ≤ givenBy a
+unfolding up answerCode
 up-code (Consistent n) = fitted-less n
 up-code Conflict = zero-le
 up-code Noted = zero-le
@@ -218,7 +218,7 @@ asked-within s c log lastLeft b =
     (λ t. copied-within (s .plan) _ _ b (room-for (s .plan) (s .edges .ends) (s .noted) log (length b) c (eqb-true _ 0 t)))
     (λ _. zero-le)
 
-given-code : (x : Fetched) (buffer : List ℕ) → givenIn x buffer .code ≡ codeOf (x .answer)
+given-code : (x : Fetched) (buffer : List ℕ) → givenIn x buffer .code ≡ answerCode (x .answer)
 unfolding givenIn
 given-code x buffer = refl
 
@@ -229,5 +229,5 @@ fetch-fits state log cursor q buffer n e = tested (tooShort state cursor)
     (λ t. let z : n ≡ 0 = up-is (negsuc 6) n (sym (ap (λ (z : Back). z .code) (short-asked state log cursor t q buffer)) ∙ e) in omega arith)
     (λ t.
     let x = asked (stateIn state) (cursorIn cursor) (logIn (cursorIn cursor) log) q (bufferIn buffer) in
-    let z = up-is (codeOf (x .answer)) n (sym (ap (λ (z : Back). z .code) (asked-given state log cursor t q buffer) ∙ given-code x buffer) ∙ e) in
+    let z = up-is (answerCode (x .answer)) n (sym (ap (λ (z : Back). z .code) (asked-given state log cursor t q buffer) ∙ given-code x buffer) ∙ e) in
     omega (arith, z, up-code (x .answer), asked-within (stateIn state) (cursorIn cursor) (logIn (cursorIn cursor) log) q (bufferIn buffer), buffer-room buffer))

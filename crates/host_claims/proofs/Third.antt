@@ -25,7 +25,7 @@ use Rattle.graph_division.specs.Answers.{numberOf, isConsistent}
 use Rattle.graph_division.specs.Runs.{reasonFor, lastLeft, Request, propagate, ask, Kept, Reply, replied, repliedCalled, reply, keeping, after}
 use Rattle.claims.specs.Whole.{literalsOf}
 use Rattle.claims.specs.Conditions.{accepted, AllQuiet, Condition3}
-use Rattle.byte_calls.specs.Codes.{fitted, codeOf}
+use Rattle.byte_calls.specs.Codes.{fitted, answerCode}
 use Rattle.host_claims.specs.HostRuns.{Said, HostMade, AllHostMade, none, next, HostAnswers, Tells, literalsAt, IsAccepted, BytesCondition3}
 use Rattle.host_claims.proofs.Signed.{down, down-negated}
 use Rattle.host_claims.proofs.Runs.{host-runs}
@@ -77,8 +77,8 @@ propagated-once k lit pending t list tail =
 abbrev Ranged : Answer → Type 0
 Ranged a = (i : ℕ) → a ≡ Refused i → (0 < i) × (i ≤ 16)
 
-code-positive : (a : Answer) → Ranged a → down (codeOf a) ≡ 0 → positive a ≡ true
-unfolding codeOf down positive
+code-positive : (a : Answer) → Ranged a → down (answerCode a) ≡ 0 → positive a ≡ true
+unfolding answerCode down positive
 code-positive (Consistent n) h e = refl
 code-positive Conflict h e = absurd (omega arith)
 code-positive Noted h e = absurd (omega arith)
@@ -89,8 +89,8 @@ code-positive (Refused m) h e =
     let z = sym (down-negated (fitted m) ∙ fitted-is m (omega arith)) ∙ e in
     absurd (omega arith)
 
-consistent-code : (a : Answer) → isConsistent a ≡ true → (n : ℕ) × (codeOf a ≡ pos n)
-unfolding codeOf
+consistent-code : (a : Answer) → isConsistent a ≡ true → (n : ℕ) × (answerCode a ≡ pos n)
+unfolding answerCode
 consistent-code (Consistent n) e = (fitted n, refl)
 consistent-code Conflict e = absurd (false≢true e)
 consistent-code Noted e = absurd (false≢true e)
@@ -98,8 +98,8 @@ consistent-code Undone e = absurd (false≢true e)
 consistent-code (Reason n) e = absurd (false≢true e)
 consistent-code (Refused m) e = absurd (false≢true e)
 
-is-accepted : (a : Answer) → Ranged a → IsAccepted (codeOf a) → accepted a ≡ true
-unfolding codeOf accepted numberOf
+is-accepted : (a : Answer) → Ranged a → IsAccepted (answerCode a) → accepted a ≡ true
+unfolding answerCode accepted numberOf
 is-accepted (Consistent n) h f = refl
 is-accepted Conflict h f = refl
 is-accepted Noted h f = refl

@@ -23,10 +23,10 @@ use Rattle.graph_division.specs.Answers.{numberOf}
 use Rattle.graph_division.specs.Runs.{Query, reasonFor, lastLeft, Request, initialize, propagate, undo, ask, tableOf, Kept, kept, reply, after}
 use Rattle.claims.specs.Whole.{literalsOf}
 use Rattle.claims.specs.Conditions.{AllQuiet, standingThen, Condition1, Condition2, Condition3}
-use Rattle.byte_calls.specs.Codes.{codeOf, givenBy}
+use Rattle.byte_calls.specs.Codes.{answerCode, givenBy}
 use Rattle.byte_calls.specs.Layout.{stateIn, cursorIn, logIn, listIn, bufferIn}
 use Rattle.byte_calls.specs.Stores.{putList}
-use Rattle.byte_calls.specs.Host.{left, tooShort, initializedIn, hostInitialized, propagatedIn, hostPropagated, Back, back, undoneIn, hostUndone, hostReason, hostLast}
+use Rattle.byte_calls.specs.Host.{leftWith, tooShort, initializedIn, hostInitialized, propagatedIn, hostPropagated, Back, back, undoneIn, hostUndone, hostReason, hostLast}
 use Rattle.byte_calls.specs.After.{Leaves}
 
 -- what the bytes of a state, of a cursor and of a log keep from call to call, and the log's entries from the cursor on
@@ -68,11 +68,11 @@ hostAsked state log cursor lastLeft buffer = hostLast state log cursor buffer
 -- says, and what its bytes keep then. The primed ones are the bytes after it.
 pub data HostMade (k : Kept) : Request → List ℕ → Said → Kept → Type 0 where
   initializes : (r : ℤ) (state t list log cursor state′ t′ list′ log′ cursor′ : List ℕ) → LentFor k state log cursor →
-      left r t′ list′ log′ cursor′ ≡ hostInitialized state t list log cursor →
+      leftWith r t′ list′ log′ cursor′ ≡ hostInitialized state t list log cursor →
       Leaves (tooShort state cursor) (initializedIn state t list log cursor .outcome) state state′ →
       HostMade k (initialize t (listIn list) (tailIn cursor log)) list (saying r t′ list′) (keptIn state′ cursor′ log′)
   propagates : (r lit pending : ℤ) (state t list log cursor state′ t′ list′ log′ cursor′ : List ℕ) → LentFor k state log cursor →
-      left r t′ list′ log′ cursor′ ≡ hostPropagated state t list log cursor lit pending →
+      leftWith r t′ list′ log′ cursor′ ≡ hostPropagated state t list log cursor lit pending →
       Leaves (tooShort state cursor) (propagatedIn state t list log cursor lit pending .outcome) state state′ →
       HostMade k (propagate lit pending t (listIn list) (tailIn cursor log)) list (saying r t′ list′) (keptIn state′ cursor′ log′)
   undoes : (r lit : ℤ) (state log cursor state′ cursor′ : List ℕ) → LentFor k state log cursor →
@@ -92,7 +92,7 @@ pub data AllHostMade : Kept → List Request → Kept → Type 0 where
 -- number and bytes are those of the reply to request q where k is kept: the answer's number, the table, and the literals, two bytes each, from
 -- the start of the list or the reason buffer on; all else of it stays
 pub record HostAnswers (k : Kept) (q : Request) (list : List ℕ) (x : Said) : Type 0 where
-  pub code : x .code ≡ codeOf (reply k q .answer)
+  pub code : x .code ≡ answerCode (reply k q .answer)
   pub table : x .table ≡ reply k q .table
   pub literals : x .list ≡ putList (reply k q .list) (givenBy (reply k q .answer)) list
 
@@ -110,8 +110,8 @@ literalsAt b n = tab (λ i. getD b (2 * i) 0 + 256 * getD b (2 * i + 1) 0) n
 
 -- a call that is lent a state or a cursor shorter than its layout: 7, and every byte stays
 pub record ShortRefused (state log cursor : List ℕ) : Type 0 where
-  pub on-initialize : (t list : List ℕ) → hostInitialized state t list log cursor ≡ left (negsuc 6) t list log cursor
-  pub on-propagate : (lit pending : ℤ) (t list : List ℕ) → hostPropagated state t list log cursor lit pending ≡ left (negsuc 6) t list log cursor
+  pub on-initialize : (t list : List ℕ) → hostInitialized state t list log cursor ≡ leftWith (negsuc 6) t list log cursor
+  pub on-propagate : (lit pending : ℤ) (t list : List ℕ) → hostPropagated state t list log cursor lit pending ≡ leftWith (negsuc 6) t list log cursor
   pub on-undo : (lit : ℤ) → hostUndone state log cursor lit ≡ back (negsuc 6) cursor
   pub on-ask : (q : Query) (b : List ℕ) → hostAsked state log cursor q b ≡ back (negsuc 6) b
   pub states : (y : Outcome) (state′ : List ℕ) → Leaves (tooShort state cursor) y state state′ → state′ ≡ state

@@ -35,7 +35,7 @@ use Rattle.graph_division.specs.declared.Answer.the-variants as answer
 use Rattle.graph_division.specs.New.{built}
 use Rattle.graph_division.specs.Calls.{Called, called, refuse, propagated, undone, Fetched, fetched, lastFetched, reasonFetched}
 use Rattle.graph_division.specs.Initialize.{initialized}
-use Rattle.graph_division.specs.Runs.{Query, reasonFor, lastLeft, Request, initialize, propagate, undo, ask, tableOf, listOf, Kept, kept, logFor, Reply, replied, repliedCalled, repliedFetched, asked, reply, keeping, after, roomFor, queryOf, bufferShort, callOf, callsOf}
+use Rattle.graph_division.specs.Runs.{Query, reasonFor, lastLeft, Request, initialize, propagate, undo, ask, tableOf, lentList, Kept, kept, logFor, Reply, replied, repliedCalled, repliedFetched, asked, reply, keeping, after, roomFor, queryOf, bufferShort, callOf, callsOf}
 use Rattle.graph_division.specs.Outcomes.{answerFor, answerOf}
 use Rattle.simulation.specs.Start.{statePlan, justBuilt}
 use Rattle.simulation.specs.Represents.{Represents, Simulates, SimulatesCalled, SimulatesFetched, valuesFor, RepresentsKept, Replies, Leads}
@@ -117,7 +117,7 @@ module _ (k : Kept) (w : World) (r : RepresentsKept k w) where
     unfolding roomFor
     no-room b = ap (λ (x : Bool). not (x || b)) short
 
-    refused-here : (q : Request) → valuesFor q (calls.refuse 7 w (tableOf q)) ≡ [] → Replies k q (replied (refuse 7 (k .state) (k .cursor)) (tableOf q) (listOf q) (logFor k tail)) (calls.refuse 7 w (tableOf q))
+    refused-here : (q : Request) → valuesFor q (calls.refuse 7 w (tableOf q)) ≡ [] → Replies k q (replied (refuse 7 (k .state) (k .cursor)) (tableOf q) (lentList q) (logFor k tail)) (calls.refuse 7 w (tableOf q))
     unfolding replied refuse keeping calls.refuse answerOf answerFor
     refused-here q none = record {
       answer = refl;
@@ -125,19 +125,19 @@ module _ (k : Kept) (w : World) (r : RepresentsKept k w) where
       plan = refl;
       edges = refl;
       table = refl;
-      list = ap (sets (listOf q) 0) (sym none);
-      whole = subst (λ (l : List ℕ). take (length l) (listOf q) ≡ l) (sym none) refl;
+      list = ap (sets (lentList q) 0) (sym none);
+      whole = subst (λ (l : List ℕ). take (length l) (lentList q) ≡ l) (sym none) refl;
     }
 
     -- is refused, in the definition too
-    turned-away : (q : Request) → valuesFor q (calls.refuse 7 w (tableOf q)) ≡ [] → (y : Reply) → y ≡ replied (refuse 7 (k .state) (k .cursor)) (tableOf q) (listOf q) (logFor k tail) → (o : calls.Outcome) → o ≡ calls.refuse 7 w (tableOf q) → Replies k q y o
-    turned-away q none y e o f = subst (λ (z : Reply). Replies k q z o) (sym e) (subst (Replies k q (replied (refuse 7 (k .state) (k .cursor)) (tableOf q) (listOf q) (logFor k tail))) (sym f) (refused-here q none))
+    turned-away : (q : Request) → valuesFor q (calls.refuse 7 w (tableOf q)) ≡ [] → (y : Reply) → y ≡ replied (refuse 7 (k .state) (k .cursor)) (tableOf q) (lentList q) (logFor k tail) → (o : calls.Outcome) → o ≡ calls.refuse 7 w (tableOf q) → Replies k q y o
+    turned-away q none y e o f = subst (λ (z : Reply). Replies k q z o) (sym e) (subst (Replies k q (replied (refuse 7 (k .state) (k .cursor)) (tableOf q) (lentList q) (logFor k tail))) (sym f) (refused-here q none))
 
     seven : (n : ℕ) → n ≡ 7 → eqb n 0 ≡ false
     seven n e = ap (λ (m : ℕ). eqb m 0) e
 
     short-initialize : (t list : List ℕ) → Replies k (initialize t list tail) (reply k (initialize t list tail)) (calls.call d (callOf k (initialize t list tail)) w)
-    unfolding reply callOf calls.call repliedCalled initialized initializeRefusal tableStateBad tableOf listOf valuesFor calls.onInitialize calls.refuse
+    unfolding reply callOf calls.call repliedCalled initialized initializeRefusal tableStateBad tableOf lentList valuesFor calls.onInitialize calls.refuse
     short-initialize t list =
         let n : initializeRefusal (k .state .plan) (k .state .edges .ends) (k .state .noted) t (length list) (logFor k tail) (k .cursor) (k .state .initialized) ≡ 7 = pick-yes _ _ (ap (λ (b : Bool). b || (listShort (k .state .plan) (length list) || tableBad (k .state .plan) t)) bad) in
         turned-away (initialize t list tail) refl _
@@ -145,7 +145,7 @@ module _ (k : Kept) (w : World) (r : RepresentsKept k w) where
         (pick-yes _ _ (ap (λ (b : Bool). not b || badTable d t) (no-room (listShort (k .state .plan) (length list)))))
 
     short-propagate : (lit pending : ℤ) (t list : List ℕ) → Replies k (propagate lit pending t list tail) (reply k (propagate lit pending t list tail)) (calls.call d (callOf k (propagate lit pending t list tail)) w)
-    unfolding reply callOf calls.call repliedCalled propagated propagateRefusal tableStateBad tableOf listOf valuesFor calls.onPropagate calls.refuse
+    unfolding reply callOf calls.call repliedCalled propagated propagateRefusal tableStateBad tableOf lentList valuesFor calls.onPropagate calls.refuse
     short-propagate lit pending t list =
         let n : propagateRefusal (k .state .plan) (k .state .edges .ends) (k .state .noted) t (length list) (logFor k tail) (k .cursor) lit ≡ 7 = pick-yes _ _ (ap (λ (b : Bool). b || (listShort (k .state .plan) (length list) || tableBad (k .state .plan) t)) bad) in
         turned-away (propagate lit pending t list tail) refl _
@@ -153,7 +153,7 @@ module _ (k : Kept) (w : World) (r : RepresentsKept k w) where
         (pick-yes _ _ (ap (λ (b : Bool). not b || badTable d t) (no-room (listShort (k .state .plan) (length list)))))
 
     short-undo : (lit : ℤ) → Replies k (undo lit tail) (reply k (undo lit tail)) (calls.call d (callOf k (undo lit tail)) w)
-    unfolding reply callOf calls.call undone undoRefusal tableOf listOf valuesFor calls.onUndo calls.refuse
+    unfolding reply callOf calls.call undone undoRefusal tableOf lentList valuesFor calls.onUndo calls.refuse
     short-undo lit =
         let n : undoRefusal (k .state .plan) (k .state .edges .ends) (k .state .noted) (logFor k tail) (k .cursor) lit ≡ 7 = pick-yes _ _ bad in
         turned-away (undo lit tail) refl _
@@ -175,7 +175,7 @@ module _ (k : Kept) (w : World) (r : RepresentsKept k w) where
     asked-short lastLeft b = fetch-short b _
 
     short-ask : (q : Query) (b : List ℕ) → Replies k (ask q b tail) (reply k (ask q b tail)) (calls.call d (callOf k (ask q b tail)) w)
-    unfolding reply callOf calls.call repliedFetched tableOf listOf valuesFor answerList calls.onAsk calls.tell calls.refuse replied refuse
+    unfolding reply callOf calls.call repliedFetched tableOf lentList valuesFor answerList calls.onAsk calls.tell calls.refuse replied refuse
     short-ask q b =
         turned-away (ask q b tail) refl _ (ap (repliedFetched k (logFor k tail)) (asked-short q b)) _
         (ap (calls.tell w) (pick-yes _ _ (ap not (no-room (bufferShort q (k .state .plan) (length b))))))
@@ -189,7 +189,7 @@ module _ (k : Kept) (w : World) (r : RepresentsKept k w) where
     unfolding roomFor
     room-is b = ap (λ (x : Bool). not (x || b)) long
 
-    by-called : (t list : List ℕ) (q : Request) (x : Called) (o : calls.Outcome) → listOf q ≡ list → valuesFor q o ≡ o .handed → SimulatesCalled (k .state) list x o → Replies k q (repliedCalled x) o
+    by-called : (t list : List ℕ) (q : Request) (x : Called) (o : calls.Outcome) → lentList q ≡ list → valuesFor q o ≡ o .handed → SimulatesCalled (k .state) list x o → Replies k q (repliedCalled x) o
     unfolding repliedCalled replied keeping
     by-called t list q x o e f h = record {
       answer = h .call .answer;
@@ -202,7 +202,7 @@ module _ (k : Kept) (w : World) (r : RepresentsKept k w) where
     }
 
     long-initialize : (t list : List ℕ) → Replies k (initialize t list tail) (reply k (initialize t list tail)) (calls.call d (callOf k (initialize t list tail)) w)
-    unfolding reply callOf calls.call listOf valuesFor
+    unfolding reply callOf calls.call lentList valuesFor
     long-initialize t list =
         by-called t list (initialize t list tail) _ _ refl refl
         (subst (λ (b : Bool). SimulatesCalled (k .state) list (initialized (k .state) (k .cursor) t (logFor k tail) list) (calls.onInitialize d w b t))
@@ -210,7 +210,7 @@ module _ (k : Kept) (w : World) (r : RepresentsKept k w) where
         (initialize-simulated (k .state) (logFor k tail) (k .cursor) w rep t list))
 
     long-propagate : (lit pending : ℤ) (t list : List ℕ) → Replies k (propagate lit pending t list tail) (reply k (propagate lit pending t list tail)) (calls.call d (callOf k (propagate lit pending t list tail)) w)
-    unfolding reply callOf calls.call listOf valuesFor
+    unfolding reply callOf calls.call lentList valuesFor
     long-propagate lit pending t list =
         by-called t list (propagate lit pending t list tail) _ _ refl refl
         (subst (λ (b : Bool). SimulatesCalled (k .state) list (propagated (k .state) (k .cursor) lit pending t list (logFor k tail)) (calls.onPropagate d w b t (litGiven lit) (not (inRange (pos 0) pending))))
@@ -218,7 +218,7 @@ module _ (k : Kept) (w : World) (r : RepresentsKept k w) where
         (propagate-simulated (k .state) (logFor k tail) (k .cursor) w rep lit t list pending))
 
     long-undo : (lit : ℤ) → Replies k (undo lit tail) (reply k (undo lit tail)) (calls.call d (callOf k (undo lit tail)) w)
-    unfolding reply callOf calls.call calls.tableOf listOf valuesFor replied keeping
+    unfolding reply callOf calls.call calls.tableOf lentList valuesFor replied keeping
     long-undo lit =
         let h = subst (λ (b : Bool). Simulates (k .state) (undone (k .state) (k .cursor) lit (logFor k tail)) (logFor k tail) (calls.onUndo d w b (litGiven lit)))
         (state-room (k .state) (logFor k tail) (k .cursor) w rep ∙ sym (ap not long)) (undo-simulated (k .state) (logFor k tail) (k .cursor) w rep lit) in
@@ -233,7 +233,7 @@ module _ (k : Kept) (w : World) (r : RepresentsKept k w) where
         }
 
     long-ask : (q : Query) (b : List ℕ) → Replies k (ask q b tail) (reply k (ask q b tail)) (calls.call d (callOf k (ask q b tail)) w)
-    unfolding reply callOf calls.call calls.onAsk calls.tell listOf valuesFor repliedFetched keeping
+    unfolding reply callOf calls.call calls.onAsk calls.tell lentList valuesFor repliedFetched keeping
     long-ask q b =
         let h = subst (λ (x : Bool). SimulatesFetched (k .state) (logFor k tail) (k .cursor) b (asked (k .state) (k .cursor) (logFor k tail) q b) (calls.onAsk d w x (queryOf q (length b))))
         (sym (room-is (bufferShort q (k .state .plan) (length b)))) (asked-simulated (k .state) (logFor k tail) (k .cursor) w rep b q) in

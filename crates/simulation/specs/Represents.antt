@@ -22,7 +22,7 @@ use Rattle.graph_division.specs.declared.GraphDivision.{GraphDivision}
 use Rattle.graph_division.specs.declared.Outcome.{Outcome}
 use Rattle.graph_division.specs.Calls.{Called, Fetched}
 use Rattle.graph_division.specs.Outcomes.{answerOf}
-use Rattle.graph_division.specs.Runs.{Request, initialize, propagate, undo, ask, listOf, Kept, logFor, Reply, keeping}
+use Rattle.graph_division.specs.Runs.{Request, initialize, propagate, undo, ask, lentList, Kept, logFor, Reply, keeping}
 use Rattle.simulation.specs.Start.{statePlan}
 
 -- state, log and cursor stand for world w
@@ -89,7 +89,7 @@ pub record Replies (k : Kept) (q : Request) (y : Reply) (o : calls.Outcome) : Ty
   pub edges : y .state .edges ≡ k .state .edges
   pub table : y .table ≡ o .table
   -- they stand from the start of the list or of the reason buffer on; all else of it stays
-  pub list : y .list ≡ sets (listOf q) 0 (valuesFor q o)
+  pub list : y .list ≡ sets (lentList q) 0 (valuesFor q o)
   -- and they fit
   pub whole : take (length (valuesFor q o)) (y .list) ≡ valuesFor q o
 

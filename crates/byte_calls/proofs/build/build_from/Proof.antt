@@ -3,7 +3,7 @@ use Prim.Native.Nat.{ℕ, _≤_, _<_, _+_, _-_, _*_, _/_, _%_}
 use native.Mathlib.Omega.{arith}
 use lib.ListN.{length, length-set, getD, set, replicate}
 use mathlib.Core.List.{List, _∷_, []}
-use Rattle.byte_calls.specs.Host.{tooShort, back, givenIn, backBy, undoneIn, propagatedIn, AfterOf, left, leftOf, short, buildCode}
+use Rattle.byte_calls.specs.Host.{tooShort, back, givenIn, backBy, undoneIn, propagatedIn, AfterOf, leftWith, leftOf, short, buildCode}
 use borrow.Author.Tests.{lt-ltb, le-ltb, eq-eqb, ne-eqb}
 use Rattle.base.proofs.Loop.{pick-yes, pick-no}
 use lib.IntN.{ℤ, pos, negsuc, negℤ}

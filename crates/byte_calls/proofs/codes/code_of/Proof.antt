@@ -1,6 +1,6 @@
 use Rattle.byte_calls.proofs.Coding.{code-back}
 use mathlib.Core.Path.{_≡_, refl, sym, ap, ap₂, _∙_}
-use Rattle.byte_calls.specs.Codes.{fitted, codeOf, givenBy}
+use Rattle.byte_calls.specs.Codes.{fitted, answerCode, givenBy}
 use borrow.Author.Needs.{needs}
 use Rattle.byte_calls.proofs.codes.code_of.Statement.{statement}
 use Rattle.byte_calls.proofs.codes.code_of.Tie as tie
@@ -33,28 +33,28 @@ refusal-code-requires : tie.Need-refusal-code-requires
 refusal-code-requires c κs = search needs
 
 returns : tie.Need-returns
-unfolding codeOf
-returns c = code-back (c .before .before .before .before .args .answer) _ ((c .count-code .ensures) ∙ sym (ap codeOf ((c .before .before .answer .given .1))))
+unfolding answerCode
+returns c = code-back (c .before .before .before .before .args .answer) _ ((c .count-code .ensures) ∙ sym (ap answerCode ((c .before .before .answer .given .1))))
 
 returns-2 : tie.Need-returns-2
-unfolding codeOf
-returns-2 c = sym (ap codeOf ((c .enum-told .given .1)))
+unfolding answerCode
+returns-2 c = sym (ap answerCode ((c .enum-told .given .1)))
 
 returns-3 : tie.Need-returns-3
-unfolding codeOf
-returns-3 c = sym (ap codeOf ((c .enum-told2 .given .1)))
+unfolding answerCode
+returns-3 c = sym (ap answerCode ((c .enum-told2 .given .1)))
 
 returns-4 : tie.Need-returns-4
-unfolding codeOf
-returns-4 c = sym (ap codeOf ((c .enum-told3 .given .1)))
+unfolding answerCode
+returns-4 c = sym (ap answerCode ((c .enum-told3 .given .1)))
 
 returns-5 : tie.Need-returns-5
-unfolding codeOf
-returns-5 c = code-back (c .before .before .before .before .args .answer) _ ((c .count-code2 .ensures) ∙ sym (ap codeOf ((c .before .before .answer2 .given .1))))
+unfolding answerCode
+returns-5 c = code-back (c .before .before .before .before .args .answer) _ ((c .count-code2 .ensures) ∙ sym (ap answerCode ((c .before .before .answer2 .given .1))))
 
 returns-6 : tie.Need-returns-6
-unfolding codeOf
-returns-6 c = code-back (c .before .before .before .before .args .answer) _ ((c .refusal-code .ensures) ∙ sym (ap codeOf ((c .before .before .answer3 .given .1))))
+unfolding answerCode
+returns-6 c = code-back (c .before .before .before .before .args .answer) _ ((c .refusal-code .ensures) ∙ sym (ap answerCode ((c .before .before .answer3 .given .1))))
 
 pub code-of-spec : {M : Type 1} → statement M
 code-of-spec =

@@ -1,5 +1,5 @@
 use mathlib.Core.Path.{_≡_, refl, sym, ap, ap₂, _∙_}
-use Rattle.byte_calls.specs.Layout.{roomOf}
+use Rattle.byte_calls.specs.Layout.{usedEntries}
 use borrow.Author.Needs.{needs}
 use Rattle.byte_calls.proofs.decode.room_of.Statement.{statement}
 use Rattle.byte_calls.proofs.decode.room_of.Tie as tie
@@ -8,7 +8,7 @@ capped-requires : tie.Need-capped-requires
 capped-requires c κs = search needs
 
 returns : tie.Need-returns
-unfolding roomOf
+unfolding usedEntries
 returns c = (c .capped .ensures)
 
 pub room-of-spec : {M : Type 1} → statement M

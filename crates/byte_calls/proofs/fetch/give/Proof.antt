@@ -5,7 +5,7 @@ use lib.ListN.{length, length-set, getD, set, replicate}
 use mathlib.Core.List.{List, _∷_, []}
 use Rattle.byte_calls.specs.Host.{tooShort, back, givenIn, backOf, backBy}
 use Rattle.graph_division.specs.Answers.{isRefused}
-use Rattle.byte_calls.specs.Codes.{codeOf, givenBy}
+use Rattle.byte_calls.specs.Codes.{answerCode, givenBy}
 use Rattle.byte_calls.proofs.Coding.{code-back}
 use Rattle.byte_calls.specs.Stores.{putList, putCursor, putNoted}
 use borrow.Author.Needs.{needs}
