@@ -21,7 +21,7 @@ use Rattle.plan.specs.Proper.{ProperWords}
 use Rattle.noting.specs.Words.{edgeStateOf, lowerOf, upperOf, lowerLitOf, upperLitOf}
 use Rattle.noting.specs.Note.{Noting, noting, boundary, oneMore, levelPushed, placeIn, known, noteAt, note, cursorAt}
 use Rattle.noting.specs.Undo.{recordsOf}
-use Rattle.noting.specs.Standing.{standing, hasVariable, standingOf, OneEach as Distinct, AllKnown}
+use Rattle.noting.specs.Standing.{standing, hasVariable, standingOf, OneEach, AllKnown}
 use Rattle.noting.specs.Replay.{Followed, followed, place, followAt, edgeDiffers, vertexDiffers, notedDiffers, afresh, logBad}
 use Rattle.noting.specs.Buffers.{logShort}
 use Rattle.noting.proofs.UndoNote.{push-moves}
@@ -32,7 +32,7 @@ use Rattle.noting.proofs.Passing.{logged-passes}
 use Rattle.noting.proofs.Differs.{same-edge, same-vertex}
 use Rattle.noting.proofs.Alike.{same-alike, alike-same, alike-trans}
 use Rattle.noting.proofs.Replaying.{parts, counts, log-fits, passed-logged, standing-distinct, standing-known}
-use Rattle.noting.specs.Good.{GoodLog as Valid}
+use Rattle.noting.specs.Good.{GoodLog}
 use Rattle.noting.proofs.Valid.{fresh-valid, note-valid}
 use Rattle.as_noted.specs.AsNoted.{literalsIn, notedAfresh, Notable, none, one, SameNoted, AsNoted}
 
@@ -61,9 +61,9 @@ same-noted ws a b s = or-both
     (ap not (eq-eqb (upperLitOf a v) (upperLitOf b v) (s .upper-lit v h)))))))
 
 -- ---- literals that could be notified
-notable : (ws : List ℕ) {ls : List ℕ} → AllKnown ws ls → Distinct ls → Notable ws ls
-notable ws AllKnown.none Distinct.none = none
-notable ws (AllKnown.one k ks) (Distinct.one n ns) = one k n (notable ws ks ns)
+notable : (ws : List ℕ) {ls : List ℕ} → AllKnown ws ls → OneEach ls → Notable ws ls
+notable ws AllKnown.none OneEach.none = none
+notable ws (AllKnown.one k ks) (OneEach.one n ns) = one k n (notable ws ks ns)
 
 level-is : (l : ℕ) (noted log : List ℕ) (c : Cursor) → c .used < length log → c .standing ≤ c .used →
     levelPushed l (noting noted log c) ≡ noting noted (pushWords log c (boundary l)) (cursorAt (c .used + 1) (c .standing + 1))
@@ -106,7 +106,7 @@ module _ (ws : List ℕ) (ends : List (List ℕ)) (p : ProperWords ws ends) wher
 
   -- what noting gives passes, and its literals stand
   afresh-valid : (log : List ℕ) → logShort ws (length log) ≡ false → {ls : List ℕ} → Notable ws ls →
-      Valid ws (notedAfresh ws log ls) × (standingOf (notedAfresh ws log ls) ≡ ls)
+      GoodLog ws (notedAfresh ws log ls) × (standingOf (notedAfresh ws log ls) ≡ ls)
   unfolding notedAfresh
   afresh-valid log long none = fresh-valid ws ends p (replicate 384 0) log (zeros-length 384) long
   afresh-valid log long (one {l = l} {ls = ls} k n ns) =

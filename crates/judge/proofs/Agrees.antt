@@ -19,7 +19,7 @@ use Rattle.noting.specs.Note.{Noting}
 use Rattle.noting.proofs.Distinct.{never-both}
 use Rattle.noting.proofs.Replaying.{standing-distinct}
 use Rattle.noting.specs.Standing.{standingOf}
-use Rattle.noting.specs.Good.{GoodLog as Valid}
+use Rattle.noting.specs.Good.{GoodLog}
 use Rattle.noting.proofs.Valid.{valid-state}
 use Rattle.reasons.specs.Verdicts.{ranOf}
 use Rattle.lists.specs.Within.{Held}
@@ -35,7 +35,7 @@ pub record Agrees (ws : List ℕ) (ends : List (List ℕ)) (noted ls : List ℕ)
   pub consistent : Consistent ls
 
 -- what passes refusal 7 does
-pub valid-agrees : (ws : List ℕ) (ends : List (List ℕ)) → ProperWords ws ends → 4360 ≤ length ws → (x : Noting) → Valid ws x → Agrees ws ends (x .noted) (standingOf x)
+pub valid-agrees : (ws : List ℕ) (ends : List (List ℕ)) → ProperWords ws ends → 4360 ≤ length ws → (x : Noting) → GoodLog ws x → Agrees ws ends (x .noted) (standingOf x)
 valid-agrees ws ends p long x v = record {
   held = record { proper = p; words = long; states = omega (arith, v .words) };
   len = v .words;

@@ -22,7 +22,7 @@ use Rattle.plan.specs.Plan.{planOf}
 use Rattle.plan.specs.Proper.{ProperWords}
 use Rattle.noting.specs.Note.{Noting}
 use Rattle.noting.specs.Standing.{standingOf}
-use Rattle.noting.specs.Good.{GoodLog as Valid}
+use Rattle.noting.specs.Good.{GoodLog}
 use Rattle.reasons.specs.Words.{stored}
 use Rattle.reasons.specs.Verdicts.{verdictOf, ranOf}
 use Rattle.analysis.specs.Relabel.{relabelled}
@@ -118,7 +118,7 @@ module _ (ws : List ℕ) (ends : List (List ℕ)) (noted ls : List ℕ) (k : Agr
       )
 
 -- `judge` of a proper plan's words, where what it is lent passes refusal 7: the table may hold anything
-pub judged : (ws : List ℕ) (ends : List (List ℕ)) → ProperWords ws ends → 4360 ≤ length ws → (x : Noting) → Valid ws x →
+pub judged : (ws : List ℕ) (ends : List (List ℕ)) → ProperWords ws ends → 4360 ≤ length ws → (x : Noting) → GoodLog ws x →
     (t proposals l : List ℕ) → 4 * variablesOf ws ≤ length proposals → edgesOf ws + 2 * verticesOf ws + 4 ≤ length l →
     JudgedBy ws (planOf ws ends) (standingOf x) t proposals l (judgeWords ws ends (x .noted) t proposals l)
 judged ws ends p long x v t proposals l room fits = judged-words ws ends (x .noted) (standingOf x) (valid-agrees ws ends p long x v) proposals room t l fits

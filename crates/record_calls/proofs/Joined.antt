@@ -38,7 +38,7 @@ use Rattle.graph_division.specs.Initialize.{notedAt, notedUpTo, takenOver, taki
 use Rattle.record_calls.specs.Reach.{reaches}
 use Rattle.record_calls.proofs.Loaded.{AllFit, Within, loaded-length, loaded-in, pushed-there, pushed-moved, pushed-none, popped-moved, popped-none}
 use Rattle.refusals.proofs.Accepted.{propagate-accepted, initialize-accepted}
-use Rattle.noting.specs.Good.{GoodLog as Valid}
+use Rattle.noting.specs.Good.{GoodLog}
 use Rattle.noting.proofs.Valid.{note-valid}
 use Rattle.plan.specs.Proper.{ProperWords}
 use Rattle.walks.specs.Written.{outOf, written}
@@ -316,20 +316,20 @@ module _ (s : GraphDivision) (c : Cursor) (log : List Record) (blank : List ℕ)
     -- both logs so far, and the literals from place i on that stand: they stood on entry
     record Both (i : ℕ) : Type 0 where
       alike : Alike part whole (c .used) (upTo part i) (upTo whole i)
-      valid-part : Valid ws (upTo part i)
-      valid-whole : Valid ws (upTo whole i)
+      valid-part : GoodLog ws (upTo part i)
+      valid-whole : GoodLog ws (upTo whole i)
       ahead : (q : ℕ) → i ≤ q → q < 2 * variablesOf ws → trueIn t (uniqueLitAt ws q) ≡ true → hasVariable (uniqueLitAt ws q / 2) (standingOf (upTo part i)) ≡ hasVariable (uniqueLitAt ws q / 2) (standingOf (start part))
 
     -- what stands is the same in both
     both-standing : (x y : Noting) → Alike part whole (c .used) x y → standingOf y ≡ standingOf x
     both-standing x y h = ap (λ (d : Cursor). standing (recordsOf (y .log) (d .used))) (sym (h .cursor)) ∙ ap standing (records-same (y .log) (x .log) (x .cursor .used) (h .same))
 
-    counted : (x : Noting) (p : ProperWords ws ends) → Valid ws x → x .cursor .standing ≤ x .cursor .used
+    counted : (x : Noting) (p : ProperWords ws ends) → GoodLog ws x → x .cursor .standing ≤ x .cursor .used
     counted x p v =
         let a = logged-length ws (x .log) (passed-logged ws ends p (x .noted) (x .log) (x .cursor) (v .passes)) in
         omega (arith, a, counts ws ends p (x .noted) (x .log) (x .cursor) (v .passes))
 
-    module _ (e : can ≡ true) (p : ProperWords ws ends) (vp : Valid ws (start part)) (vw : Valid ws (start whole)) (free : ℕ) (is-free : Free ws ends t part (c .used) free) (far : free ≤ 2 * variablesOf ws) where
+    module _ (e : can ≡ true) (p : ProperWords ws ends) (vp : GoodLog ws (start part)) (vw : GoodLog ws (start whole)) (free : ℕ) (is-free : Free ws ends t part (c .used) free) (far : free ≤ 2 * variablesOf ws) where
       both-next : (i : ℕ) → i < free → Both i → Both (suc i)
       unfolding notedUpTo iter notedAt
       both-next i h b = tested (trueIn t (uniqueLitAt ws i)) due skipped
@@ -343,8 +343,8 @@ module _ (s : GraphDivision) (c : Cursor) (log : List Record) (blank : List ℕ)
               let ey : upTo whole (suc i) ≡ upTo whole i = pick-no _ _ d in
               record {
                 alike = subst (λ (z : Noting). Alike part whole (c .used) z (upTo whole (suc i))) (sym ex) (subst (Alike part whole (c .used) (upTo part i)) (sym ey) (b .alike));
-                valid-part = subst (Valid ws) (sym ex) (b .valid-part);
-                valid-whole = subst (Valid ws) (sym ey) (b .valid-whole);
+                valid-part = subst (GoodLog ws) (sym ex) (b .valid-part);
+                valid-whole = subst (GoodLog ws) (sym ey) (b .valid-whole);
                 ahead = λ q l k m. ap (λ (z : Noting). hasVariable (uniqueLitAt ws q / 2) (standingOf z)) ex ∙ b .ahead q (omega arith) k m;
               }
 
@@ -367,8 +367,8 @@ module _ (s : GraphDivision) (c : Cursor) (log : List Record) (blank : List ℕ)
               let ny = note-valid ws ends p y (b .valid-whole) lit k fy in
               record {
                 alike = subst (λ (z : Noting). Alike part whole (c .used) z (upTo whole (suc i))) (sym ex) (subst (Alike part whole (c .used) (note ws lit x)) (sym ey) (g .0));
-                valid-part = subst (Valid ws) (sym ex) (nx .0);
-                valid-whole = subst (Valid ws) (sym ey) (ny .0);
+                valid-part = subst (GoodLog ws) (sym ex) (nx .0);
+                valid-whole = subst (GoodLog ws) (sym ey) (ny .0);
                 ahead = λ q l m u.
                     ap (λ (z : Noting). hasVariable (uniqueLitAt ws q / 2) (standingOf z)) ex
                     ∙ ap (hasVariable (uniqueLitAt ws q / 2)) (nx .1)
@@ -400,7 +400,7 @@ module _ (s : GraphDivision) (c : Cursor) (log : List Record) (blank : List ℕ)
             omega (arith, log-fits ws ends p (in-whole .noted) (in-whole .log) (in-whole .cursor) (b .valid-whole .passes), b .alike .long-y, as-long, same-used),
           )
 
-    module _ (e : can ≡ true) (p : ProperWords ws ends) (vp : Valid ws (start part)) (vw : Valid ws (start whole)) (words left : List ℕ) (g : Progress) where
+    module _ (e : can ≡ true) (p : ProperWords ws ends) (vp : GoodLog ws (start part)) (vw : GoodLog ws (start whole)) (words left : List ℕ) (g : Progress) where
       taking-back : (done : Bool) (a : Answer) (after handed : List ℕ) → Free ws ends t part (c .used) (g .past) × (g .past ≤ 2 * variablesOf ws) → AllFit (taking s c t part words left g done a after handed list .log) →
           back (taking s c t part words left g done a after handed list) ≡ taking s c t whole words left g done a after handed list
       unfolding back taking takenOver

@@ -15,7 +15,7 @@ use Rattle.plan.specs.Proper.{ProperWords}
 use Rattle.noting.specs.Note.{noting, known}
 use Rattle.noting.specs.Standing.{hasVariable, notNewest, standingOf}
 use Rattle.noting.specs.Buffers.{tableBad, listShort, reasonShort}
-use Rattle.noting.specs.Good.{GoodLog as Valid}
+use Rattle.noting.specs.Good.{GoodLog}
 use Rattle.refusals.specs.Refusals.{stateBad, tableStateBad, litNumber, unknownLit, literalRefusal, initializeRefusal, propagateRefusal, undoRefusal, fetchRefusal}
 use Rattle.refusals.specs.Calls.{litGiven}
 use Rattle.refusals.proofs.Standing.{newest-there}
@@ -48,7 +48,7 @@ literal-accepted ws l e = literal-known ws l (pick-zero (unknownLit ws l) 9 0 (o
 -- of the plan, the log, the cursor and the noted words
 pub record GoodState (ws : List ℕ) (ends : List (List ℕ)) (noted log : List ℕ) (c : Cursor) : Type 0 where
   pub plan : ProperWords ws ends
-  pub valid : Valid ws (noting noted log c)
+  pub valid : GoodLog ws (noting noted log c)
 
 -- and of a table and a list of n entries
 pub record GoodTable (ws : List ℕ) (ends : List (List ℕ)) (noted t : List ℕ) (n : ℕ) (log : List ℕ) (c : Cursor) : Type 0 where

@@ -13,7 +13,7 @@ use Rattle.plan.proofs.Passes.{passes}
 use Rattle.noting.specs.Note.{noting}
 use Rattle.noting.specs.Replay.{logBad}
 use Rattle.noting.specs.Buffers.{logShort}
-use Rattle.noting.specs.Good.{GoodLog as Valid}
+use Rattle.noting.specs.Good.{GoodLog}
 use Rattle.refusals.specs.Refusals.{stateBad}
 
 module _ (ws : List ℕ) (ends : List (List ℕ)) (noted log : List ℕ) (c : Cursor) where
@@ -27,9 +27,9 @@ module _ (ws : List ℕ) (ends : List (List ℕ)) (noted log : List ℕ) (c : Cu
   pub state-proper : stateBad ws ends noted log c ≡ false → ProperWords ws ends
   state-proper e = proper ws ends (tests e .0)
 
-  pub good-state : stateBad ws ends noted log c ≡ false → length noted ≡ 384 → ProperWords ws ends × Valid ws (noting noted log c)
+  pub good-state : stateBad ws ends noted log c ≡ false → length noted ≡ 384 → ProperWords ws ends × GoodLog ws (noting noted log c)
   good-state e len = (state-proper e, record { words = len; passes = tests e .2; long = tests e .1 })
 
-  pub valid-good : ProperWords ws ends → Valid ws (noting noted log c) → stateBad ws ends noted log c ≡ false
+  pub valid-good : ProperWords ws ends → GoodLog ws (noting noted log c) → stateBad ws ends noted log c ≡ false
   unfolding stateBad
   valid-good p v = or-both (passes ws ends p) (or-both (v .long) (v .passes))

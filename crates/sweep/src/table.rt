@@ -3,7 +3,7 @@ ghost use mathlib.Core.Path.{_≡_};
 ghost use Prim.Native.Nat.{_-_, _<_};
 ghost use lib.ListN.{length, getD, take, drop};
 ghost use Rattle.calls.specs.Table.{codeOf, coded, trueIn, falseIn, unsetIn, currentIn, someCurrent, enter};
-ghost use Rattle.calls.specs.Marks.{currentCode as sign};
+ghost use Rattle.calls.specs.Marks.{currentCode};
 
 // The entry of a literal's variable; past the table's end 0.
 fn code(table: &[u8], lit: u64) -> u8
@@ -57,8 +57,8 @@ fn is_current(table: &[u8], lit: u64) -> bool
 }
 
 // The code of a literal that becomes true at the current level.
-fn sign(lit: u64) -> u8
-    ensures { λ r. ⌜ r ≡ sign lit ⌝ }
+fn current_code(lit: u64) -> u8
+    ensures { λ r. ⌜ r ≡ currentCode lit ⌝ }
 {
     if sat::is_positive(lit) {
         return 3;
@@ -72,7 +72,7 @@ pub(crate) fn enter(table: &mut [u8], lit: u64)
 {
     let i = sat::variable_index(lit);
     if i < table.len() {
-        let x = sign(lit);
+        let x = current_code(lit);
         table[i] = x;
     }
 }
