@@ -66,6 +66,12 @@ static int32_t last(size_t buffer_len)
                              buffer_len);
 }
 
+static int32_t run(int32_t from, int32_t to, size_t buffer_len)
+{
+    return zuntjev_run(state, sizeof state, undo_log, sizeof undo_log, cursor, sizeof cursor, from, to, buffer,
+                       buffer_len);
+}
+
 /* Two pens of one head and two gates between them, literals 0 and 2. */
 static void two_gates(void)
 {
@@ -123,6 +129,9 @@ int main(void)
     two_gates(); table[1] = 1; table[0] = 4; show(propagate(1, 0)); /* -100 */
     two_gates(); initialize(); show(reason(2)); /* -15 */
     two_gates(); propagate(1, 0); undo(1); show(reason(3)); /* -16 */
+    two_gates(); propagate(0, 1); propagate(2, 1); show(run(0, 1, sizeof buffer)); /* -18 */
+    two_gates(); show(run(0, 2, sizeof buffer)); /* -18 */
+    two_gates(); show(run(0, 2, ZUNTJEV_REASON_LEN_FOR(2, 2) - 1)); /* -7 */
     two_gates(); show(propagate(0, 1)); /* -101 */
     return 0;
 }

@@ -20,7 +20,7 @@
  *   table   a byte a variable, filled by the host: 0 unset; 1 true, 2 false, set at an earlier level of its search;
  *           3 true, 4 false, set at the current level
  *   list    2 bytes a literal: here a call puts the literals that follow ("handed on")
- *   buffer  2 bytes a literal: here a fetch puts a reason
+ *   buffer  2 bytes a literal: here a fetch puts a reason, and zuntjev_run the numbers of gates, 2 bytes each
  *
  * ANY BYTES may be lent: every function ends, with an answer. A call that is refused leaves all bytes as they were.
  * What is tested, in this order, the first that applies being the answer:
@@ -30,6 +30,7 @@
  *   zuntjev_undo         7, 9, 11
  *   zuntjev_calc_reason  7, 9, 15, 16
  *   zuntjev_calc_last    7
+ *   zuntjev_run          7, 18
  * 7 is tested in each call, and only of what that call is lent: the lengths; that the state's plan is one that a
  * build gives; that the log, the cursor and the noted words belong together (the log's literals, noted afresh from
  * the oldest on, give those words); that the whole table has no code over 4. NOT tested are the recorded reasons,
@@ -41,11 +42,11 @@
  * conflict only where some literal of its list is coded 3 or 4, and is refused with 14 elsewhere.
  *
  * THREADS. No function keeps anything, or reads anything, but what it is lent: calls on different buffers may run at
- * the same time, and so may fetches of one state. A call that changes a state must have it for itself.
+ * the same time, and so may fetches and zuntjev_run of one state. A call that changes a state must have it for itself.
  *
  * STACK that a call needs, as measured on x86-64; nothing is taken from the heap: zuntjev_build about 140 KB,
- * zuntjev_initialize about 312 KB, zuntjev_propagate about 204 KB, zuntjev_undo about 103 KB, a fetch about 104 KB.
- * Give a thread that makes calls 512 KB.
+ * zuntjev_initialize about 312 KB, zuntjev_propagate about 204 KB, zuntjev_undo about 103 KB, a fetch and zuntjev_run
+ * about 104 KB each. Give a thread that makes calls 512 KB.
  *
  * THE STATE'S BYTES:
  *        0  the plan's words, 15241 of 4 bytes. Bytes 24 to 27 of them hold the mark 1, ZUNTJEV_LAYOUT_VERSION, in a
@@ -122,6 +123,7 @@ extern "C" {
 #define ZUNTJEV_REFUSED_LEVEL (-14)        /* a proposal is false, and no literal of its list has code 3 or 4 */
 #define ZUNTJEV_REFUSED_NO_REASON (-15)    /* no reason was recorded for the literal */
 #define ZUNTJEV_REFUSED_PATH_GONE (-16)    /* the open gates that the reason goes by are not open any more */
+#define ZUNTJEV_REFUSED_NO_RUN (-18)       /* every run between the two vertices has a shut gate, or one is unknown */
 
 /* Whether an answer is a refusal: minus its number then. */
 static inline int zuntjev_is_refused(int32_t answer)
@@ -180,6 +182,12 @@ static inline int32_t zuntjev_lit_at(const uint8_t *list, size_t i)
     return (int32_t)list[2 * i] + 256 * (int32_t)list[2 * i + 1];
 }
 
+/* Gate number i, from 0 on, of the run that zuntjev_run put into a buffer. */
+static inline int32_t zuntjev_gate_at(const uint8_t *buffer, size_t i)
+{
+    return (int32_t)buffer[2 * i] + 256 * (int32_t)buffer[2 * i + 1];
+}
+
 /*
  * Builds the state of a plan of n vertices and m edges. Its numbers are signed, 4 bytes each. Vertex v has 67 of
  * them, from byte 268 * v of vertices on: its weight, how many sizes it has, how many size literals, room for 32
@@ -225,6 +233,17 @@ int32_t zuntjev_calc_reason(const uint8_t *state, size_t state_len, const uint8_
 /* Fetches the list last left: of a conflict straight after it. Answers as zuntjev_calc_reason does. */
 int32_t zuntjev_calc_last(const uint8_t *state, size_t state_len, const uint8_t *log, size_t log_len,
                           const uint8_t *cursor, size_t cursor_len, uint8_t *buffer, size_t buffer_len);
+
+/*
+ * Which gates to open for a bull: the run of gates, open or undecided, that joins vertex `from` with vertex `to` and
+ * has the fewest undecided ones; among equals the run with fewer gates, then the one whose edge numbers, compared from
+ * `from` on, come first. Answers how many gates it has: their numbers are at the buffer's start, in order from `from`
+ * on (zuntjev_gate_at). 0 for two equal vertices. Or minus the number of a refusal: 18 where every run between the two
+ * has a shut gate, or one of them is no vertex of the plan. A gate is open or shut by the literals that stand, those
+ * only noted included; the table is not asked. The buffer is as long as for a reason.
+ */
+int32_t zuntjev_run(const uint8_t *state, size_t state_len, const uint8_t *log, size_t log_len, const uint8_t *cursor,
+                    size_t cursor_len, int32_t from, int32_t to, uint8_t *buffer, size_t buffer_len);
 
 #ifdef __cplusplus
 }

@@ -58,6 +58,11 @@ static int32_t undo(int32_t lit)
     return zuntjev_undo(state, 133440, undo_log, LOG, cursor, 8, lit);
 }
 
+static int32_t run_in(size_t buffer_len, int32_t from, int32_t to)
+{
+    return zuntjev_run(state, 133440, undo_log, LOG, cursor, 8, from, to, buffer, buffer_len);
+}
+
 /* Number i of 4 bytes each, the lowest first, in two's complement. */
 static long number_at(const uint8_t *bytes, int i)
 {
@@ -91,10 +96,13 @@ static void helpers(void)
     check("the literal", number_at(bytes + 12, 2), 8190);
     check("literal 0 of a list", zuntjev_lit_at(two, 0), 513);
     check("literal 1 of a list", zuntjev_lit_at(two, 1), 8191);
+    check("gate 0 of a run", zuntjev_gate_at(two, 0), 513);
+    check("gate 1 of a run", zuntjev_gate_at(two, 1), 8191);
     check("0 is no refusal", zuntjev_is_refused(0), 0);
     check("3 is no refusal", zuntjev_is_refused(3), 0);
     check("-1 is one", zuntjev_is_refused(ZUNTJEV_REFUSED_COUNT), 1);
     check("-16 is one", zuntjev_is_refused(ZUNTJEV_REFUSED_PATH_GONE), 1);
+    check("-18 is one", zuntjev_is_refused(ZUNTJEV_REFUSED_NO_RUN), 1);
     check("a conflict is none", zuntjev_is_refused(ZUNTJEV_CONFLICT), 0);
     check("a noted literal is none", zuntjev_is_refused(ZUNTJEV_NOTED), 0);
 }
@@ -135,15 +143,20 @@ static void lengths(void)
     check("its second literal", zuntjev_lit_at(list, 1), 2);
     check("a buffer just long enough", reason_in(REASON, 2), 1);
     check("its literal", zuntjev_lit_at(buffer, 0), 5);
+    check("a run in a buffer one byte short", run_in(REASON - 1, 0, 1), -7);
+    check("a run in one just long enough", run_in(REASON, 0, 1), 1);
+    check("its gate", zuntjev_gate_at(buffer, 0), 0);
 }
 
-/* 7 comes before 9, 10, 11 and 15 where both apply; 9 before 10, 11 and 15. */
+/* 7 comes before 9, 10, 11, 15 and 18 where both apply; 9 before 10, 11 and 15. */
 static void order(void)
 {
     check("build", build(), 0);
     check("a short table and an unknown literal", propagate_in(TABLE - 1, LIST, LOG, 6, 0), -7);
     check("a short log and an undo of nothing", zuntjev_undo(state, 133440, undo_log, LOG - 1, cursor, 8, 0), -7);
     check("a short buffer and an unknown literal", reason_in(REASON - 1, 6), -7);
+    check("a short buffer and an unknown pen", run_in(REASON - 1, 0, 2), -7);
+    check("a run to an unknown pen", run_in(REASON, 0, 2), -18);
     check("an undo of an unknown literal", undo(6), -9);
     check("the reason of an unknown literal", reason_in(REASON, 6), -9);
     check("an undo of nothing", undo(0), -11);

@@ -23,6 +23,10 @@ extern "C" {
         state: *const u8, state_len: usize, log: *const u8, log_len: usize, cursor: *const u8, cursor_len: usize,
         buffer: *mut u8, buffer_len: usize,
     ) -> i32;
+    fn zuntjev_run(
+        state: *const u8, state_len: usize, log: *const u8, log_len: usize, cursor: *const u8, cursor_len: usize,
+        from: i32, to: i32, buffer: *mut u8, buffer_len: usize,
+    ) -> i32;
 }
 
 pub const STATE_LEN: usize = 133440;
@@ -120,6 +124,12 @@ impl Host {
         let Host { state: s, log: g, cursor: c, buffer: b, .. } = self;
         let (sp, gp, cp, bp) = (s.as_ptr(), g.as_ptr(), c.as_ptr(), b.as_mut_ptr());
         unsafe { zuntjev_calc_last(sp, s.len(), gp, g.len(), cp, c.len(), bp, b.len()) }
+    }
+
+    pub fn run(&mut self, from: i32, to: i32) -> i32 {
+        let Host { state: s, log: g, cursor: c, buffer: b, .. } = self;
+        let (sp, gp, cp, bp) = (s.as_ptr(), g.as_ptr(), c.as_ptr(), b.as_mut_ptr());
+        unsafe { zuntjev_run(sp, s.len(), gp, g.len(), cp, c.len(), from, to, bp, b.len()) }
     }
 }
 

@@ -3,4 +3,5 @@ pub mod after;
 pub mod calc_reason;
 pub mod initialize;
 pub mod propagate;
+pub mod run;
 pub mod undo;

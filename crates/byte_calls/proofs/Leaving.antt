@@ -22,7 +22,7 @@ use Rattle.recorded.specs.declared.Reasons.{Reasons}
 use Rattle.graph_division.specs.declared.GraphDivision.{GraphDivision}
 use Rattle.graph_division.specs.declared.Outcome.{Outcome}
 use Rattle.graph_division.specs.declared.Answer.{Answer}
-use Rattle.graph_division.specs.Calls.{Called, called, outcome, propagated, undone, reasonFetched, lastFetched}
+use Rattle.graph_division.specs.Calls.{Called, called, outcome, propagated, undone, reasonFetched, lastFetched, runFetched}
 use Rattle.lent.specs.declared.Done.{Done}
 use Rattle.lent.specs.Lent.{Parts, stateAfter, calledOf}
 use Rattle.byte_calls.specs.Bytes.{wordAt, longAt}
@@ -30,7 +30,7 @@ use Rattle.graph_division.specs.Answers.{isRefused}
 use Rattle.byte_calls.specs.Codes.{answerCode, givenBy}
 use Rattle.byte_calls.specs.Layout.{Decoded, decoded, decodedIn, inUse, inUseOver, planIn, endsIn, wordsIn, reasonsIn, stateIn, cursorIn, usedEntries, recordsIn, logIn, listIn, bufferIn}
 use Rattle.byte_calls.specs.Stores.{BytesKept, putCursor, putList, putLog}
-use Rattle.byte_calls.specs.Host.{Left, leftWith, leftBy, leftOf, StateAfter, AfterOf, propagatedIn, hostPropagated, tooShort, short, Back, back, backBy, undoneIn, hostUndone, givenIn, hostReason, hostLast}
+use Rattle.byte_calls.specs.Host.{Left, leftWith, leftBy, leftOf, StateAfter, AfterOf, propagatedIn, hostPropagated, tooShort, short, Back, back, backBy, undoneIn, hostUndone, givenIn, hostReason, hostLast, hostRun, hostRun}
 use Rattle.byte_calls.proofs.Coding.{code-back}
 use Rattle.byte_calls.proofs.Filling.{capped-most, capped-less, room-is}
 use Rattle.byte_calls.proofs.Keeping.{kept-same}
@@ -243,3 +243,13 @@ module _ (state log cursor : List ℕ) where
       x ≡ givenIn (lastFetched (stateIn state) (cursorIn cursor) (logIn (cursorIn cursor) log) (bufferIn buffer)) buffer → x ≡ hostLast state log cursor buffer
   unfolding hostLast
   long-last buffer x e h = h ∙ sym (pick-no _ _ e)
+
+  module _ (from to : ℤ) where
+    pub short-run : (buffer : List ℕ) → tooShort state cursor ≡ true → back short buffer ≡ hostRun state log cursor from to buffer
+    unfolding hostRun
+    short-run buffer e = sym (pick-yes _ _ e)
+
+    pub long-run : (buffer : List ℕ) (x : Back) → tooShort state cursor ≡ false →
+        x ≡ givenIn (runFetched (stateIn state) (cursorIn cursor) (logIn (cursorIn cursor) log) from to (bufferIn buffer)) buffer → x ≡ hostRun state log cursor from to buffer
+    unfolding hostRun
+    long-run buffer x e h = h ∙ sym (pick-no _ _ e)

@@ -12,7 +12,7 @@ use Rattle.undo_log.specs.declared.Cursor.{Cursor}
 use Rattle.graph_division.specs.declared.GraphDivision.{GraphDivision}
 use Rattle.graph_division.specs.declared.Outcome.{Outcome}
 use Rattle.graph_division.specs.declared.Answer.{Answer}
-use Rattle.graph_division.specs.Calls.{outcome, withNoted, undone, Fetched, reasonFetched, lastFetched}
+use Rattle.graph_division.specs.Calls.{outcome, withNoted, undone, Fetched, reasonFetched, lastFetched, runFetched}
 use Rattle.graph_division.specs.Answers.{isRefused}
 use Rattle.byte_calls.specs.Codes.{answerCode}
 use Rattle.byte_calls.specs.Layout.{stateIn}
@@ -73,3 +73,7 @@ reason-read s p r q o = λ i. reasonFetched s (p i) (r i) (q i) (o i)
 pub last-read : (s : GraphDivision) {c d : Cursor} {records log out b : List ℕ} → c ≡ d → records ≡ log → out ≡ b →
     lastFetched s c records out ≡ lastFetched s d log b
 last-read s p r o = λ i. lastFetched s (p i) (r i) (o i)
+
+pub run-read : (s : GraphDivision) {c d : Cursor} {records log out b : List ℕ} {from to p q : ℤ} → c ≡ d → records ≡ log → from ≡ p → to ≡ q → out ≡ b →
+    runFetched s c records from to out ≡ runFetched s d log p q b
+run-read s e r f t o = λ i. runFetched s (e i) (r i) (f i) (t i) (o i)

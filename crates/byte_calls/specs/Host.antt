@@ -12,7 +12,7 @@ use Rattle.undo_log.specs.declared.Cursor.{Cursor}
 use Rattle.graph_division.specs.declared.Answer.{Answer}
 use Rattle.graph_division.specs.declared.GraphDivision.{GraphDivision}
 use Rattle.graph_division.specs.declared.Outcome.{Outcome}
-use Rattle.graph_division.specs.Calls.{Called, propagated, undone, Fetched, reasonFetched, lastFetched}
+use Rattle.graph_division.specs.Calls.{Called, propagated, undone, Fetched, reasonFetched, lastFetched, runFetched}
 use Rattle.graph_division.specs.Initialize.{initialized}
 use Rattle.byte_calls.specs.Bytes.{wordAt}
 use Rattle.graph_division.specs.Answers.{isRefused}
@@ -97,6 +97,13 @@ unfoldable pub hostLast : List ℕ → List ℕ → List ℕ → List ℕ → Ba
 hostLast state log cursor buffer =
     pick (tooShort state cursor) (back short buffer)
     (givenIn (lastFetched (stateIn state) (cursorIn cursor) (logIn (cursorIn cursor) log) (bufferIn buffer)) buffer)
+
+-- `calls::run`: the number of edges, and the buffer's bytes, two for each edge's number
+unfoldable pub hostRun : List ℕ → List ℕ → List ℕ → ℤ → ℤ → List ℕ → Back
+hostRun state log cursor from to buffer =
+    pick (tooShort state cursor) (back short buffer)
+    (givenIn (runFetched (stateIn state) (cursorIn cursor) (logIn (cursorIn cursor) log) from to (bufferIn buffer))
+    buffer)
 
 -- The state's bytes after a call: as they were where it is too short or refused, else those of the outcome's state. A list last left is
 -- shorter than 2 to the 32. What follows the layout stays.

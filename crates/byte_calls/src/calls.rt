@@ -3,7 +3,7 @@ use builder::input::no_edges;
 use builder::input::no_vertices;
 ghost use mathlib.Core.Path.{_≡_};
 ghost use mathlib.Core.Bool.{true, false};
-ghost use Rattle.byte_calls.specs.Host.{leftWith, back, tooShort, hostInitialized, initializedIn, hostPropagated, propagatedIn, hostUndone, undoneIn, hostReason, hostLast, buildCode};
+ghost use Rattle.byte_calls.specs.Host.{leftWith, back, tooShort, hostInitialized, initializedIn, hostPropagated, propagatedIn, hostUndone, undoneIn, hostReason, hostLast, hostRun, buildCode};
 ghost use Rattle.byte_calls.specs.After.{Leaves};
 ghost use Rattle.byte_calls.specs.Build.{BuiltIn};
 ghost use Rattle.byte_calls.specs.Numbers.{numbersIn};
@@ -120,4 +120,16 @@ pub fn calc_last(state: &[u8], log: &[u8], cursor: &[u8], buffer: &mut [u8]) -> 
         return -7;
     }
     crate::fetch::calc_last(state, log, cursor, buffer)
+}
+
+// The run of edges, connected or undecided, from one vertex to the other goes to the buffer, two bytes for each
+// edge's number.
+pub fn run(state: &[u8], log: &[u8], cursor: &[u8], from: i32, to: i32, buffer: &mut [u8]) -> i32
+    ensures { λ r. ⌜ back r (now (buffer .exit)) ≡
+        hostRun (now (state .entry)) (now (log .entry)) (now (cursor .entry)) from to (now (buffer .entry)) ⌝ }
+{
+    if too_short(state, cursor) {
+        return -7;
+    }
+    crate::run::run(state, log, cursor, from, to, buffer)
 }

@@ -40,11 +40,12 @@ pub(crate) fn code_of(answer: Answer) -> i32
         Answer::Noted => -101,
         Answer::Undone => 0,
         Answer::Reason { len } => count_code(len),
+        Answer::Run { len } => count_code(len),
         Answer::Refused { number } => refusal_code(number),
     }
 }
 
-// How many literals the answer says are in the list or the buffer.
+// How many literals, or edges of a run, the answer says are in the list or the buffer.
 pub(crate) fn given_by(answer: Answer) -> usize
     ensures { λ r. ⌜ r ≡ givenBy answer ⌝ }
 {
@@ -54,6 +55,7 @@ pub(crate) fn given_by(answer: Answer) -> usize
         Answer::Noted => 0,
         Answer::Undone => 0,
         Answer::Reason { len } => len,
+        Answer::Run { len } => len,
         Answer::Refused { number: _ } => 0,
     }
 }

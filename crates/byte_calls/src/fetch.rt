@@ -74,8 +74,8 @@ fn find_last<'a>(
     lent::fetch::calc_last(plan, edges, noted, records, before, &last, len, out)
 }
 
-// The list goes to the buffer's bytes.
-fn give(buffer: &mut [u8], out: &[u32], answer: Answer) -> i32
+// The list, or the run, goes to the buffer's bytes.
+pub(crate) fn give(buffer: &mut [u8], out: &[u32], answer: Answer) -> i32
     requires { ⌜ 2 * length (now out) ≤ length (now buffer) ⌝ }
     ensures { λ r. ⌜ back r (now (buffer .exit)) ≡ givenIn (fetched answer (now (out .entry))) (now (buffer .entry)) ⌝ }
 {

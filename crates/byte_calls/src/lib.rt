@@ -9,4 +9,5 @@ mod decode;
 mod fetch;
 mod initialize;
 mod numbers;
+mod run;
 mod store;

@@ -1,19 +1,24 @@
--- Each query is refused with the first number of its rows that applies, or gives a list where none does.
+-- Each query is refused with the first number of its rows that applies, or gives a list or a run where none does.
 use Prim.Native.Nat.{ℕ, _<_}
 use native.Mathlib.Omega.{arith}
 use mathlib.Core.Path.{_≡_, refl, sym, _∙_, ap}
 use mathlib.Core.Bool.{Bool, true, false, not, true≢false, false≢true}
 use mathlib.Core.List.{List, [], _∷_}
-use lib.Dec.{eqb}
+use lib.Dec.{eqb, ltb}
 use lib.ListN.{length}
-use Rattle.base.proofs.Loop.{pick-ind}
-use Rattle.division.specs.Plan.{Plan}
+use borrow.Author.Tests.{ltb-true, ltb-false}
+use Rattle.base.proofs.Loop.{pick-ind, tested}
+use Rattle.division.specs.Plan.{Plan, Proper}
+use Rattle.division.specs.State.{potential}
 use Rattle.division.specs.Reasons.{Reason}
 use Rattle.division.specs.Analysis.{Proposal}
 use Rattle.division.specs.Noting.{noteAll}
 use Rattle.division.specs.Runs.{reasonOf}
+use Rattle.graph.specs.Search.{Graph}
+use Rattle.runs.specs.Walk.{bestRun}
+use Rattle.runs.proofs.Given.{given-best, none-joined}
 use Rattle.calls.specs.Look.{gone}
-use Rattle.calls.specs.Calls.{World, Query, reasonFor, lastLeft, Answer, refused, reason, giveReason, answerTo}
+use Rattle.calls.specs.Calls.{World, Query, reasonFor, lastLeft, runBetween, Answer, refused, reason, foundRun, giveReason, giveRun, answerTo}
 use Rattle.calls.specs.Refusals.{Known, AppliesTo}
 use Rattle.calls.proofs.Known.{known, unknown}
 use Rattle.calls.proofs.View.{not-not}
@@ -34,10 +39,16 @@ one-reason l (p ∷ ps) r rs e = pick-ind (λ (z : List Reason). z ≡ r ∷ rs 
     tails : {a b : Reason} {k m : List Reason} → a ∷ k ≡ b ∷ m → m ≡ k
     tails q = cc
 
+unfoldable pub isRun : Query → Bool
+isRun (reasonFor l) = false
+isRun lastLeft = false
+isRun (runBetween p q) = true
+
 -- how a query is judged
 pub data Answered (d : Plan) (w : World) (q : Query) (a : Answer) : Type 0 where
   denied : (n : ℕ) → a ≡ refused n → AppliesTo d w q n → ((m : ℕ) → m < n → AppliesTo d w q m → ⊥) → Answered d w q a
   given : (list : List ℕ) → a ≡ reason list → ((n : ℕ) → AppliesTo d w q n → ⊥) → Answered d w q a
+  found : (gs : List ℕ) → isRun q ≡ true → a ≡ foundRun gs → ((n : ℕ) → AppliesTo d w q n → ⊥) → Answered d w q a
 
 module _ (d : Plan) (w : World) where
   -- 7 comes first
@@ -45,6 +56,9 @@ module _ (d : Plan) (w : World) where
   query-late (AppliesTo.unknownReason l k) = omega arith
   query-late (AppliesTo.noReason l e) = omega arith
   query-late (AppliesTo.pathGone l r e g) = omega arith
+  query-late (AppliesTo.noRun p q n) = omega arith
+  query-late (AppliesTo.unknownFrom p q n) = omega arith
+  query-late (AppliesTo.unknownTo p q n) = omega arith
 
   nil-cons : {x : Reason} {k : List Reason} → [] ≡ x ∷ k → ⊥
   nil-cons q = let z : _≡_ {A = ℕ} 0 _ = ap length q in omega arith
@@ -68,9 +82,38 @@ module _ (d : Plan) (w : World) where
   only16 k q (AppliesTo.noReason l x) = absurd (nil-cons (sym x ∙ q))
   only16 k q (AppliesTo.pathGone l r x y) = (refl, ap (gone d (noteAll d (w .standing))) (heads (sym q ∙ x)) ∙ y)
 
-  pub answer-judged : (q : Query) → Answered d w q (answerTo d w q)
-  unfolding answerTo giveReason
-  answer-judged (reasonFor l) =
+  -- of a run only 18
+  only18 : {p q m : ℕ} → AppliesTo d w (runBetween p q) m → m ≡ 18
+  only18 (AppliesTo.noRun p q n) = refl
+  only18 (AppliesTo.unknownFrom p q n) = refl
+  only18 (AppliesTo.unknownTo p q n) = refl
+
+  abbrev e : Graph
+  e = potential d (noteAll d (w .standing))
+
+  module _ (pr : Proper d) (p q : ℕ) where
+    -- where there is no run, 18 applies; where there is one, it does not
+    run-denied : bestRun e (d .edges) (d .vertices) p q ≡ [] → AppliesTo d w (runBetween p q) 18
+    run-denied x = tested (ltb p (d .vertices))
+        (λ a. tested (ltb q (d .vertices))
+        (λ b. AppliesTo.noRun p q (none-joined e (d .edges) (d .vertices) (pr .fine) p q x (ltb-true p (d .vertices) a) (ltb-true q (d .vertices) b)))
+        (λ b. AppliesTo.unknownTo p q (λ h. let z = ltb-false q (d .vertices) b in omega arith)))
+        (λ a. AppliesTo.unknownFrom p q (λ h. let z = ltb-false p (d .vertices) a in omega arith))
+
+    run-applies : {m : ℕ} (gs : List ℕ) (rest : List (List ℕ)) → bestRun e (d .edges) (d .vertices) p q ≡ gs ∷ rest → AppliesTo d w (runBetween p q) m → ⊥
+    run-applies gs rest x (AppliesTo.noRun _ _ n) = n gs (given-best e (d .edges) (d .vertices) (pr .fine) p q gs rest x .0 .best .run)
+    run-applies gs rest x (AppliesTo.unknownFrom _ _ n) = n (given-best e (d .edges) (d .vertices) (pr .fine) p q gs rest x .0 .from)
+    run-applies gs rest x (AppliesTo.unknownTo _ _ n) = n (given-best e (d .edges) (d .vertices) (pr .fine) p q gs rest x .0 .to)
+
+    run-judged : (x : List (List ℕ)) → bestRun e (d .edges) (d .vertices) p q ≡ x → Answered d w (runBetween p q) (giveRun x)
+    unfolding giveRun isRun
+    run-judged [] x = denied 18 refl (run-denied x) (λ m h y. let z = only18 y in omega arith)
+    run-judged (gs ∷ rest) x = found gs refl refl (λ n y. run-applies gs rest x y)
+
+  -- a run is looked for on a proper plan
+  pub answer-judged : (q : Query) → (isRun q ≡ true → Proper d) → Answered d w q (answerTo d w q)
+  unfolding answerTo giveReason isRun
+  answer-judged (reasonFor l) pr =
       pick-ind J _ _ _ (λ k. denied 9 refl (AppliesTo.unknownReason l (unknown d l (not-false _ k))) (λ m h x. below9 h x))
       (λ k. by (known d l (not-not _ k)) (reasonOf l (w .reasons)) refl)
     where
@@ -82,4 +125,5 @@ module _ (d : Plan) (w : World) where
       by k (r ∷ rs) q =
           pick-ind J _ _ _ (λ e. denied 16 refl (AppliesTo.pathGone l r (q ∙ ap (λ z. r ∷ z) (one-reason l _ r rs q)) e) (λ m h x. let z = only16 k q x .0 in omega arith))
           (λ e. given _ refl (λ n x. true≢false (sym (only16 k q x .1) ∙ e)))
-  answer-judged lastLeft = given _ refl (λ n x. elim x [ ])
+  answer-judged lastLeft pr = given _ refl (λ n x. elim x [ ])
+  answer-judged (runBetween p q) pr = run-judged (pr refl) p q _ refl

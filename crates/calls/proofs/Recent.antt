@@ -14,8 +14,8 @@ use Rattle.division.specs.Noting.{In, Consistent}
 use Rattle.division.specs.Runs.{analysis, Justifies, reasonOf, Run, start, note, look}
 use Rattle.division.proofs.Whole.{conflicts, run-fetched, reason-there, reason-newer}
 use Rattle.calls.specs.Look.{fine, clash, Looked, looked}
-use Rattle.calls.specs.Calls.{World, Call, Answer, consistent, conflicting, noted, undone, refused, reason, Outcome, refuse, noting, adding, settledBy, Query, answerTo, tell, Going, joinBy, lastBy, finishBy, entry, call}
-use Rattle.calls.proofs.Queries.{Answered, denied, given, answer-judged}
+use Rattle.calls.specs.Calls.{World, Call, Answer, consistent, conflicting, noted, undone, refused, reason, foundRun, Outcome, refuse, noting, adding, settledBy, Query, reasonFor, lastLeft, runBetween, giveRun, answerTo, tell, Going, joinBy, lastBy, finishBy, entry, call}
+use Rattle.calls.proofs.Queries.{isRun, Answered, denied, given, found, answer-judged}
 use Rattle.calls.proofs.View.{Saw, saw, Steps, over, more, ends, halts, Did, away, added, agreed, clashed, took, asked, began, beganLast, beganClash, did}
 use Rattle.calls.proofs.Looks.{halted, saw-handed, saw-records, saw-clash, clash-not-fine}
 use Rattle.calls.proofs.Stands.{add-consistent, fine-on, clash-on, not-halted, steps-consistent, call-consistent}
@@ -111,15 +111,25 @@ isConflict noted = false
 isConflict undone = false
 isConflict (refused n) = false
 isConflict (reason ls) = false
+isConflict (foundRun gs) = false
 
 -- no query is answered a conflict
-pub answer-quiet : (d : Plan) (w : World) (q : Query) → isConflict (answerTo d w q) ≡ false
+run-quiet : (x : List (List ℕ)) → isConflict (giveRun x) ≡ false
+unfolding giveRun isConflict
+run-quiet [] = refl
+run-quiet (gs ∷ rest) = refl
+
+quiet-answered : {d : Plan} {w : World} {q : Query} {a : Answer} → Answered d w q a → isConflict a ≡ false
 unfolding isConflict
-answer-quiet d w q = by (answer-judged d w q)
-  where
-    by : {a : Answer} → Answered d w q a → isConflict a ≡ false
-    by (denied n e x f) = ap isConflict e
-    by (given list e f) = ap isConflict e
+quiet-answered (denied n e x f) = ap isConflict e
+quiet-answered (given list e f) = ap isConflict e
+quiet-answered (found gs r e f) = ap isConflict e
+
+pub answer-quiet : (d : Plan) (w : World) (q : Query) → isConflict (answerTo d w q) ≡ false
+unfolding answerTo isRun
+answer-quiet d w (reasonFor l) = quiet-answered (answer-judged d w (reasonFor l) (λ e. absurd (false≢true e)))
+answer-quiet d w lastLeft = quiet-answered (answer-judged d w lastLeft (λ e. absurd (false≢true e)))
+answer-quiet d w (runBetween p q) = run-quiet _
 
 -- the list that a conflict leaves
 did-conflict : (d : Plan) (k : Proper d) (pl : Plain d) (w : World) → Consistent (w .standing) → {c : Call} {o : Outcome} → Did d w c o → isConflict (o .answer) ≡ true →

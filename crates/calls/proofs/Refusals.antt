@@ -4,7 +4,7 @@ use Prim.Native.Nat.{ℕ, zero, suc, _<_, _≤_}
 use native.Mathlib.Omega.{arith}
 use mathlib.Core.Path.{_≡_, refl, sym, _∙_, ap, subst}
 use mathlib.Core.Logic.{_⊎_, inl, inr, ⊎-elim, _↔_}
-use mathlib.Core.Bool.{Bool, true, false, _||_, true≢false, false≢true, not}
+use mathlib.Core.Bool.{Bool, true, false, _&&_, _||_, true≢false, false≢true, not}
 use mathlib.Core.List.{List, [], _∷_}
 use lib.Dec.{eqb, ltb}
 use lib.ListN.{length, getD}
@@ -12,20 +12,20 @@ use borrow.Author.Tests.{eqb-true, eqb-false, ltb-true, ltb-false, ne-eqb}
 use Rattle.base.specs.Lists.{Every, none, more}
 use Rattle.base.proofs.Loop.{pick-ind, pick-no, tested, pick-yes}
 use Rattle.base.proofs.Tests.{or-cases, le-or-lt}
-use Rattle.division.specs.Plan.{Plan}
+use Rattle.division.specs.Plan.{Plan, Proper}
 use Rattle.division.specs.Runs.{analysis}
 use Rattle.division.specs.Analysis.{Verdict, going, conflict, crossed, zeroSize}
 use Rattle.division.proofs.Verdicts.{verdict-crosses, crosses-verdict, verdict-zero, zero-verdict}
 use Rattle.calls.specs.Table.{codeOf, coded, currentIn, someCurrent, tooHigh, badTable, has, variables, falseIn, entered}
 use Rattle.calls.specs.Look.{fine, clash, stopped, Looked, looked, lookedBy, offered, offers, firstFalse, stop, clashes, Judgement}
-use Rattle.calls.specs.Calls.{consistent, conflicting, noted, undone, refused, reason, World, taken, Call, onPropagate, onUndo, Query, Answer, settled, takeBack, tell, onAsk, refuse, propagate, accepted, undo, ask, Outcome, settledBy, Going, propagateAll, oneBy, entry, joinBy, finishBy, lastBy, initialize, onInitialize, call}
+use Rattle.calls.specs.Calls.{consistent, conflicting, noted, undone, refused, reason, foundRun, World, taken, Call, onPropagate, onUndo, Query, Answer, settled, takeBack, tell, onAsk, refuse, propagate, accepted, undo, ask, Outcome, settledBy, Going, propagateAll, oneBy, entry, joinBy, finishBy, lastBy, initialize, onInitialize, call}
 use Rattle.calls.specs.Refusals.{BadTable, short, high, Known, Stands, Stops, at12, at13, at14, roomOf, AppliesTo, Applies, First, Stage, CrossedAt, ZeroAt}
 use Rattle.calls.proofs.Looks.{stop-not-fine, stop-not-clash}
 use Rattle.calls.proofs.Known.{known, unknown}
 use Rattle.calls.proofs.Stands.{or-left}
 use Rattle.calls.proofs.View.{not-not, or-right, stop-stays, clash-stays}
 use Rattle.calls.proofs.Claim.{has-in, in-has}
-use Rattle.calls.proofs.Queries.{not-false, Answered, denied, given, query-late, answer-judged}
+use Rattle.calls.proofs.Queries.{not-false, isRun, Answered, denied, given, found, query-late, answer-judged}
 
 -- 7
 high-at : (t : List ℕ) → tooHigh t ≡ true → (i : ℕ) × (i < length t) × (4 < getD t i 0)
@@ -133,6 +133,14 @@ refused-or noted = inr refl
 refused-or undone = inr refl
 refused-or (refused n) = inl (n, refl)
 refused-or (reason ls) = inr refl
+refused-or (foundRun gs) = inr refl
+
+-- a run is asked for, with room
+unfoldable pub asksRun : Call → Bool
+asksRun (initialize room t) = false
+asksRun (propagate room t l pending) = false
+asksRun (undo room l) = false
+asksRun (ask room q) = room && isRun q
 
 -- how a call is judged
 data Judged (d : Plan) (w : World) (c : Call) (a : Answer) : Type 0 where
@@ -288,16 +296,17 @@ module _ (d : Plan) (w : World) where
   to-ask (Applies.noRoom c e) = inl (refl, e)
   to-ask (Applies.ofQuery room q n x) = inr x
 
-  judge-ask : (room : Bool) (q : Query) → Judged d w (ask room q) (onAsk d w room q .answer)
-  unfolding onAsk tell accepted roomOf
-  judge-ask room q =
+  judge-ask : (room : Bool) (q : Query) → (asksRun (ask room q) ≡ true → Proper d) → Judged d w (ask room q) (onAsk d w room q .answer)
+  unfolding onAsk tell accepted roomOf asksRun
+  judge-ask room q pr =
       pick-ind (Judged d w (ask room q)) _ _ _
       (λ e. turned 7 refl (record { applies = Applies.noRoom _ (not-false _ e); least = λ m h x. ⊎-elim (λ z. let y = z .0 in omega arith) (λ z. let y = query-late d w z in omega arith) (to-ask x) }))
-      (λ e. by (λ r. true≢false (sym (not-not _ e) ∙ r)) (answer-judged d w q))
+      (λ e. by (λ r. true≢false (sym (not-not _ e) ∙ r)) (answer-judged d w q (λ r. pr (ap (λ (x : Bool). x && isRun q) (not-not room e) ∙ r))))
     where
       by : {a : Answer} → (room ≡ false → ⊥) → Answered d w q a → Judged d w (ask room q) a
       by no7 (denied n e x f) = turned n e (record { applies = Applies.ofQuery room q n x; least = λ m h y. ⊎-elim (λ z. no7 (z .1)) (λ z. f m h z) (to-ask y) })
       by no7 (given list e f) = passed (ap accepted e) (λ n y. ⊎-elim (λ z. no7 (z .1)) (λ z. f n z) (to-ask y))
+      by no7 (found gs r e f) = passed (ap accepted e) (λ n y. ⊎-elim (λ z. no7 (z .1)) (λ z. f n z) (to-ask y))
 
 module _ (d : Plan) (w : World) (t : List ℕ) where
   -- what applies to the work of an initialize
@@ -471,16 +480,16 @@ module _ (d : Plan) (w : World) (t : List ℕ) where
       })
       by a b (inr e) = passed e (λ n x. not-refused e (work-answer n (only-work a b n (to-initialize x))))
 
-judge : (d : Plan) (w : World) (c : Call) → Judged d w c (call d c w .answer)
+judge : (d : Plan) (w : World) (c : Call) → (asksRun c ≡ true → Proper d) → Judged d w c (call d c w .answer)
 unfolding call
-judge d w (initialize room t) = judge-initialize d w t room
-judge d w (propagate room t l pending) = judge-propagate d w room t l pending
-judge d w (undo room l) = judge-undo d w room l
-judge d w (ask room q) = judge-ask d w room q
+judge d w (initialize room t) pr = judge-initialize d w t room
+judge d w (propagate room t l pending) pr = judge-propagate d w room t l pending
+judge d w (undo room l) pr = judge-undo d w room l
+judge d w (ask room q) pr = judge-ask d w room q pr
 
--- a call is refused with a number exactly when it is the first of the table that applies
-pub refusals : (d : Plan) (w : World) (c : Call) (n : ℕ) → (call d c w .answer ≡ refused n) ↔ First d w c n
-refusals d w c n = (λ e. to e (judge d w c), λ f. from f (judge d w c))
+-- a call is refused with a number exactly when it is the first of the table that applies; a run is looked for on a proper plan
+pub refusals : (d : Plan) (w : World) (c : Call) → (asksRun c ≡ true → Proper d) → (n : ℕ) → (call d c w .answer ≡ refused n) ↔ First d w c n
+refusals d w c pr n = (λ e. to e (judge d w c pr), λ f. from f (judge d w c pr))
   where
     to : {a : Answer} → a ≡ refused n → Judged d w c a → First d w c n
     to e (turned m q f) = subst (First d w c) (same-number (sym q ∙ e)) f
@@ -494,9 +503,9 @@ refusals d w c n = (λ e. to e (judge d w c), λ f. from f (judge d w c))
     from f (passed q g) = absurd (g n (f .applies))
 
 -- and accepted exactly when none applies
-pub acceptances : (d : Plan) (w : World) (c : Call) → (accepted (call d c w .answer) ≡ true) ↔ ((n : ℕ) → Applies d w c n → ⊥)
+pub acceptances : (d : Plan) (w : World) (c : Call) → (asksRun c ≡ true → Proper d) → (accepted (call d c w .answer) ≡ true) ↔ ((n : ℕ) → Applies d w c n → ⊥)
 unfolding accepted
-acceptances d w c = (λ e. to e (judge d w c), λ f. from f (judge d w c))
+acceptances d w c pr = (λ e. to e (judge d w c pr), λ f. from f (judge d w c pr))
   where
     to : {a : Answer} → accepted a ≡ true → Judged d w c a → (n : ℕ) → Applies d w c n → ⊥
     to e (turned m q f) = absurd (not-refused d w [] e q)

@@ -6,11 +6,13 @@ use lib.Dec.{eqb}
 use Rattle.base.specs.Iter.{pick}
 use Rattle.sat.specs.Literal.{negate}
 use Rattle.division.specs.Plan.{Plan}
+use Rattle.division.specs.State.{potential}
 use Rattle.division.specs.Reasons.{Reason}
 use Rattle.division.specs.Conflicts.{conflictList}
 use Rattle.division.specs.Analysis.{Verdict, going, conflict, crossed, zeroSize, Proposal, Out}
 use Rattle.division.specs.Noting.{noteAll}
 use Rattle.division.specs.Runs.{analysis, fetched, reasonOf}
+use Rattle.runs.specs.Walk.{bestRun}
 use Rattle.calls.specs.Table.{knows, entered, badTable, has}
 use Rattle.calls.specs.Look.{Judgement, fine, clash, stopped, Looked, looked, gone}
 
@@ -25,10 +27,12 @@ pub record World : Type 0 where
 unfoldable pub built : World
 built = record { standing = []; reasons = []; last = []; done = false }
 
--- what a call that changes nothing asks for: the reason of a literal, or the list last left
+-- what a call that changes nothing asks for: the reason of a literal, the list last left, or, document 02, request 1,
+-- the run of edges from vertex p to vertex q
 pub data Query : Type 0 where
   reasonFor : (l : ℕ) → Query
   lastLeft : Query
+  runBetween : (p q : ℕ) → Query
 
 -- room: all other buffers that the call is lent pass refusal 7's tests
 pub data Call : Type 0 where
@@ -44,6 +48,8 @@ pub data Answer : Type 0 where
   undone : Answer
   refused : (n : ℕ) → Answer
   reason : (ls : List ℕ) → Answer
+  -- the numbers of a run's edges, in order from the first vertex
+  foundRun : (gs : List ℕ) → Answer
 
 unfoldable pub accepted : Answer → Bool
 accepted consistent = true
@@ -52,8 +58,9 @@ accepted noted = true
 accepted undone = true
 accepted (refused n) = false
 accepted (reason ls) = true
+accepted (foundRun gs) = true
 
--- the list that an answer gives: a reason's, else none
+-- the list that an answer gives: a reason's or a run's, else none
 unfoldable pub answerList : Answer → List ℕ
 answerList consistent = []
 answerList conflicting = []
@@ -61,6 +68,7 @@ answerList noted = []
 answerList undone = []
 answerList (refused n) = []
 answerList (reason ls) = ls
+answerList (foundRun gs) = gs
 
 -- the table that a call is lent; one that is lent none has the empty one
 unfoldable pub tableOf : Call → List ℕ
@@ -116,10 +124,17 @@ unfoldable pub giveReason : Plan → World → List Reason → Answer
 giveReason d w [] = refused 15
 giveReason d w (r ∷ rs) = pick (gone d (noteAll d (w .standing)) r) (refused 16) (reason (fetched d (w .standing) r))
 
--- what a query is answered: no world comes out of it
+-- document 02, request 1: the run that is found, or 18
+unfoldable pub giveRun : List (List ℕ) → Answer
+giveRun [] = refused 18
+giveRun (gs ∷ rest) = foundRun gs
+
+-- what a query is answered: no world comes out of it. A run is that of the edges not disconnected where these literals
+-- stand.
 unfoldable pub answerTo : Plan → World → Query → Answer
 answerTo d w (reasonFor l) = pick (not (knows d l)) (refused 9) (giveReason d w (reasonOf l (w .reasons)))
 answerTo d w lastLeft = reason (w .last)
+answerTo d w (runBetween p q) = giveRun (bestRun (potential d (noteAll d (w .standing))) (d .edges) (d .vertices) p q)
 
 -- an answer where the world stays as it is
 unfoldable pub tell : World → Answer → Outcome

@@ -1,5 +1,5 @@
--- Document 01, "Verdicts turned away": when each number from 7 to 16 applies to a call in a world. The numbers 1 to 6 are the builder's
--- and 17 is the reader's.
+-- Document 01, "Verdicts turned away": when each number from 7 to 16, and 18 of document 02, applies to a call in a
+-- world. The numbers 1 to 6 are the builder's and 17 is the reader's.
 use Prim.Native.Nat.{ℕ, suc, _<_}
 use mathlib.Core.Path.{_≡_}
 use mathlib.Core.Logic.{_⊎_}
@@ -9,15 +9,17 @@ use lib.ListN.{length, getD}
 use Rattle.base.specs.Lists.{Every}
 use Rattle.sat.specs.Literal.{variable, negate}
 use Rattle.division.specs.Plan.{Plan}
+use Rattle.division.specs.State.{potential}
 use Rattle.division.specs.Reasons.{Reason}
 use Rattle.division.specs.Analysis.{going}
 use Rattle.division.specs.Refusals.{Crosses, FixedZero}
 use Rattle.division.specs.Noting.{noteAll, In}
 use Rattle.division.specs.Views.{viewOf}
 use Rattle.division.specs.Runs.{analysis, reasonOf}
+use Rattle.runs.specs.Run.{Run}
 use Rattle.calls.specs.Table.{codeOf, variables, entered}
 use Rattle.calls.specs.Look.{fine, looked, offers, firstFalse, falseList, gone}
-use Rattle.calls.specs.Calls.{World, Query, reasonFor, Call, initialize, propagate, undo, ask, Going, joinBy, entry}
+use Rattle.calls.specs.Calls.{World, Query, reasonFor, runBetween, Call, initialize, propagate, undo, ask, Going, joinBy, entry}
 
 unfoldable pub roomOf : Call → Bool
 roomOf (initialize room t) = room
@@ -73,6 +75,12 @@ pub data AppliesTo (d : Plan) (w : World) : Query → ℕ → Type 0 where
   noReason : (l : ℕ) → reasonOf l (w .reasons) ≡ [] → AppliesTo d w (reasonFor l) 15
   -- 16: "recorded path gone"
   pathGone : (l : ℕ) (r : Reason) → reasonOf l (w .reasons) ≡ r ∷ [] → gone d (noteAll d (w .standing)) r ≡ true → AppliesTo d w (reasonFor l) 16
+  -- 18: "when every run between the pens has a shut gate": no edges that are not disconnected lead from p to q
+  noRun : (p q : ℕ) → ((l : List ℕ) → Run (potential d (noteAll d (w .standing))) (d .edges) p l q → ⊥) →
+      AppliesTo d w (runBetween p q) 18
+  -- "or one pen is unknown"
+  unknownFrom : (p q : ℕ) → (p < d .vertices → ⊥) → AppliesTo d w (runBetween p q) 18
+  unknownTo : (p q : ℕ) → (q < d .vertices → ⊥) → AppliesTo d w (runBetween p q) 18
 
 -- and of any call
 pub data Applies (d : Plan) (w : World) : Call → ℕ → Type 0 where

@@ -1,8 +1,10 @@
 -- The three conditions of the order, on any plan that builds.
 use mathlib.Core.Path.{_≡_, refl, _∙_}
+use mathlib.Core.Logic.{⊎-elim}
 use mathlib.Core.Bool.{Bool, false}
 use mathlib.Core.List.{List}
 use Prim.Native.Nat.{ℕ, _<_, _≤_}
+use native.Mathlib.Omega.{arith}
 use lib.IntN.{ℤ}
 use Rattle.division.specs.Plan.{Proper, Plain}
 use Rattle.division.specs.Noting.{In}
@@ -18,8 +20,10 @@ use Rattle.graph_division.specs.Runs.{Request}
 use Rattle.simulation.proofs.Running.{fresh-represents}
 use Rattle.claims.specs.Whole.{writtenOf}
 use Rattle.claims.specs.Conditions.{builtStart, builtPlan, replyTo, outcomeTo, Condition1, Condition2, Condition3}
+use Rattle.claims.specs.Runs.{RunsBetween}
 use Rattle.claims.proofs.Replying.{At}
 use Rattle.claims.proofs.Lists as lists
+use Rattle.claims.proofs.Between as between
 
 module _ (vs : List ℤ) (n : ℕ) (es : List ℤ) (m : ℕ) (sameSize extraWalls : Bool) (z : built vs n es m sameSize extraWalls .refusal ≡ 0) where
   at-start : At (builtPlan vs n es m sameSize extraWalls) (builtStart vs n es m sameSize extraWalls) calls.built
@@ -43,19 +47,24 @@ module _ (vs : List ℤ) (n : ℕ) (es : List ℤ) (m : ℕ) (sameSize extraWall
   pub condition-2 : Condition2 (builtStart vs n es m sameSize extraWalls) (builtPlan vs n es m sameSize extraWalls)
   condition-2 = lists.condition-2 _ _ at-start proper-built
 
+  -- document 02, request 1
+  pub runs-between : RunsBetween (builtStart vs n es m sameSize extraWalls) (builtPlan vs n es m sameSize extraWalls)
+  runs-between = between.runs-between _ _ at-start proper-built
+
   -- "Verdicts turned away": a call's refusal has a number of that table
   pub refusal-range : (before : List Request) (q : Request) (m′ : ℕ) →
-      replyTo (builtStart vs n es m sameSize extraWalls) before q .answer ≡ Refused m′ → (0 < m′) × (m′ ≤ 16)
+      replyTo (builtStart vs n es m sameSize extraWalls) before q .answer ≡ Refused m′ → (0 < m′) × (m′ ≤ 18)
   refusal-range = lists.refusal-range _ _ at-start
 
-  -- what a call writes, literals handed on or a list fetched, is the plan's: "Literals run from 0 to 8191."
+  -- what a call writes, literals handed on, a list fetched or the edges of a run, is the plan's: "Literals run from 0 to 8191."
   pub written-small : (before : List Request) (q : Request) (l : ℕ) →
       let o = outcomeTo (builtPlan vs n es m sameSize extraWalls) (builtStart vs n es m sameSize extraWalls) before q in
       In (writtenOf o) l → l ≤ 8191
   unfolding built
   written-small before q l i =
       let p = new-proper vs n es m sameSize extraWalls z .0 in
-      known-small _ _ p l (known-is _ _ p l ∙ lists.written-known _ _ at-start proper-built before q l i)
+      ⊎-elim (λ k. known-small _ _ p l (known-is _ _ p l ∙ k)) (λ (h : l < builtPlan vs n es m sameSize extraWalls .edges). omega (arith, h, proper-built .fine .fits))
+      (lists.written-known _ _ at-start proper-built before q l i)
 
 -- "Both options off, on any plan that builds"
 module _ (vs : List ℤ) (n : ℕ) (es : List ℤ) (m : ℕ) (z : built vs n es m false false .refusal ≡ 0) where

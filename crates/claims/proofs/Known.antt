@@ -2,21 +2,22 @@
 -- that a fetch gives has none but the plan's literals.
 use mathlib.Core.Path.{_≡_, refl, sym, ap, subst, _∙_}
 use mathlib.Core.Logic.{_⊎_, ⊎-elim}
-use mathlib.Core.Bool.{Bool, true, false, _&&_, _||_, true≢false, false≢true}
+use mathlib.Core.Bool.{Bool, true, false, not, _&&_, _||_, true≢false, false≢true}
 use mathlib.Core.List.{List, [], _∷_, _++_, List·Memᴰ·head, List·Memᴰ·tail, List·Memᴰ·not-nil}
 use Prim.Native.Nat.{ℕ, pred, _/_}
 use lib.Dec.{eqb}
 use Rattle.base.specs.Lists.{Every, none, more, some}
 use Rattle.base.proofs.Lists.{every-map, every-append}
-use Rattle.base.proofs.Loop.{pick-no}
+use Rattle.base.proofs.Loop.{pick-no, pick-ind}
 use Rattle.base.proofs.Tests.{and-left}
 use Rattle.sat.specs.Literal.{negate}
 use Rattle.sat.proofs.Literal.{variable-negate}
 use Rattle.division.specs.Plan.{Plan, Proper}
-use Rattle.division.specs.State.{State}
+use Rattle.division.specs.State.{State, potential}
 use Rattle.division.specs.Reasons.{Reason}
 use Rattle.division.specs.Analysis.{Proposal, Each, nothing, also}
 use Rattle.division.specs.Noting.{noteAll, In, Consistent}
+use Rattle.runs.specs.Walk.{bestRun}
 use Rattle.division.specs.Runs.{analysis, fetched, reasonOf, Justifies, look, start}
 use Rattle.division.specs.Noted.{Noted}
 use Rattle.division.proofs.Noting.{noted-all}
@@ -25,7 +26,7 @@ use Rattle.division.specs.Proposed.{Proposes, ruleInGroup, ruleBetween, ruleToo
 use Rattle.division.proofs.Whole.{each-found, reason-there, reasons, conflicts}
 use Rattle.calls.specs.Table.{knows, trueIn, entered}
 use Rattle.calls.specs.Look.{Looked, looked, listFor, falseList, stop, clashes, offered}
-use Rattle.calls.specs.Calls.{World, built, Query, reasonFor, lastLeft, Call, ask, Answer, consistent, conflicting, noted, undone, refused, reason, Outcome, refuse, taken, adding, noting, settledBy, answerTo, tell, onAsk, Going, joinBy, lastBy, finishBy, entry, call, after, run, answerList}
+use Rattle.calls.specs.Calls.{World, built, Query, reasonFor, lastLeft, runBetween, Call, ask, Answer, consistent, conflicting, noted, undone, refused, reason, foundRun, Outcome, refuse, taken, adding, noting, settledBy, giveRun, answerTo, tell, onAsk, Going, joinBy, lastBy, finishBy, entry, call, after, run, answerList}
 use Rattle.calls.specs.Truths.{recordedIn}
 use Rattle.calls.proofs.Claim.{last-given}
 use Rattle.calls.proofs.Order.{swept-every}
@@ -170,10 +171,24 @@ module _ (d : Plan) (k : Proper d) where
   isReason undone = false
   isReason (refused n) = false
   isReason (reason ls) = true
+  isReason (foundRun gs) = false
 
   module _ (before : List Call) where
     abbrev w : World
     w = run d before
+
+    -- a run is no reason
+    run-no-reason : (x : List (List ℕ)) (ls : List ℕ) → isReason (giveRun x) ≡ true → ⊥
+    unfolding giveRun isReason
+    run-no-reason [] ls e = false≢true e
+    run-no-reason (gs ∷ rest) ls e = false≢true e
+
+    run-given : (room : Bool) (p q : ℕ) {ls : List ℕ} → call d (ask room (runBetween p q)) w .answer ≡ reason ls →
+        isReason (giveRun (bestRun (potential d (noteAll d (w .standing))) (d .edges) (d .vertices) p q)) ≡ true
+    unfolding call onAsk tell answerTo isReason
+    run-given room p q e =
+        pick-ind (λ (a : Answer). isReason a ≡ true → isReason (giveRun (bestRun (potential d (noteAll d (w .standing))) (d .edges) (d .vertices) p q)) ≡ true) (not room) _ _
+        (λ _ z. absurd (false≢true z)) (λ _ z. z) (ap isReason e)
 
     asked-known : (room : Bool) (q : Query) (ls : List ℕ) → call d (ask room q) w .answer ≡ reason ls → Every Known ls
     asked-known room (reasonFor l) ls e =
@@ -182,6 +197,7 @@ module _ (d : Plan) (k : Proper d) where
         let h = each-found l r (w .reasons) (x .reasons) f in
         every-map (λ y z. ⊎-elim (λ i. in-every (w .standing) (x .standing) y i) (λ i. in-every (recordedIn d r) h y i) z) g
     asked-known room lastLeft ls e = subst (Every Known) (last-given d w room ls e) (run-known before .last)
+    asked-known room (runBetween p q) ls e = absurd (run-no-reason _ ls (run-given room p q e))
 
     -- no other call gives one
     did-reason : {c : Call} {o : Outcome} → Did d w c o → (ls : List ℕ) → o .answer ≡ reason ls → Every Known ls

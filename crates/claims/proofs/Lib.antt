@@ -3,5 +3,7 @@ pub mod Refusing
 pub mod Past
 pub mod OneAnswer
 pub mod Known
+pub mod Runs
 pub mod Lists
+pub mod Between
 pub mod Built

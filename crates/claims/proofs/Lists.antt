@@ -31,6 +31,7 @@ use Rattle.calls.specs.Truths.{Walked, Backed}
 use Rattle.calls.specs.Claim as claim
 use Rattle.calls.specs.Claim.{Covers}
 use Rattle.calls.proofs.Marks.{call-marked}
+use Rattle.calls.proofs.Queries.{isRun}
 use Rattle.calls.proofs.Refusals.{refusals, acceptances}
 use Rattle.calls.proofs.Claim.{last-given, condition-3}
 use Rattle.calls.proofs.Count.{known-below}
@@ -40,7 +41,7 @@ use Rattle.calls.proofs.View.{Did, away, added, agreed, clashed, took, asked, b
 use Rattle.calls.proofs.Stands.{stands-from-calls, run-consistent, call-consistent}
 use Rattle.calls.proofs.Truths.{conflict-backed, fetched-walked, recorded-stood}
 use Rattle.graph_division.specs.declared.Answer.{Answer}
-use Rattle.graph_division.specs.declared.Answer.the-variants.{Consistent, Conflict, Noted, Undone, Reason, Refused}
+use Rattle.graph_division.specs.declared.Answer.the-variants.{Consistent, Conflict, Noted, Undone, Reason, Run, Refused}
 use Rattle.graph_division.specs.Answers.{numberOf, isConsistent}
 use Rattle.graph_division.specs.Runs.{Query, reasonFor, lastLeft, Request, initialize, propagate, undo, ask, tableOf, roomFor, queryOf, Kept, logFor, Reply, reply, keeping, after, callOf, callsOf}
 use Rattle.claims.specs.Whole.{literalsOf, writtenBy, writtenOf}
@@ -49,8 +50,9 @@ use Rattle.graph_division.specs.Outcomes.{answerOf}
 use Rattle.simulation.specs.Start.{statePlan}
 use Rattle.simulation.specs.Represents.{RepresentsKept, Replies}
 use Rattle.claims.proofs.Refusing.{refused-unchanged}
-use Rattle.claims.proofs.Replying.{conflict-back, refused-range, refused-is, accepted-is, consistent-is, At, reply-at, next-at, after-at}
+use Rattle.claims.proofs.Replying.{conflict-back, refused-range, refused-is, accepted-is, consistent-is, At, at-proper, reply-at, next-at, after-at}
 use Rattle.claims.proofs.Known.{reason-known}
+use Rattle.claims.proofs.Runs.{found-edges}
 use Rattle.claims.proofs.OneAnswer.{table-same, ask-told, one-answer, consistent-literals, reason-literals}
 
 -- ---- a literal that the table shows as handed on is one of those that the definition hands on
@@ -135,17 +137,24 @@ refused-number Conflict n h e = absurd (omega arith)
 refused-number Noted n h e = absurd (omega arith)
 refused-number Undone n h e = absurd (omega arith)
 refused-number (Reason m) n h e = absurd (omega arith)
+refused-number (Run m) n h e = absurd (omega arith)
 refused-number (Refused m) n h e = ap Refused e
 
--- ---- what is written is what is handed on, or the reason's
-written-in : (a : calls.Answer) (h : List ℕ) (l : ℕ) → In (writtenBy a h) l → In h l ⊎ ((ls : List ℕ) × (a ≡ calls.reason ls) × In ls l)
+-- ---- what is written is what is handed on, or the reason's, or the run's
+data WrittenIn (a : calls.Answer) (h : List ℕ) (l : ℕ) : Type 0 where
+  byHand : In h l → WrittenIn a h l
+  byReason : (ls : List ℕ) → a ≡ calls.reason ls → In ls l → WrittenIn a h l
+  byRun : (gs : List ℕ) → a ≡ calls.foundRun gs → In gs l → WrittenIn a h l
+
+written-in : (a : calls.Answer) (h : List ℕ) (l : ℕ) → In (writtenBy a h) l → WrittenIn a h l
 unfolding writtenBy
-written-in calls.consistent h l m = inl m
-written-in calls.conflicting h l m = inl m
-written-in calls.noted h l m = inl m
-written-in calls.undone h l m = inl m
-written-in (calls.refused n) h l m = inl m
-written-in (calls.reason ls) h l m = inr (ls, refl, m)
+written-in calls.consistent h l m = byHand m
+written-in calls.conflicting h l m = byHand m
+written-in calls.noted h l m = byHand m
+written-in calls.undone h l m = byHand m
+written-in (calls.refused n) h l m = byHand m
+written-in (calls.reason ls) h l m = byReason ls refl m
+written-in (calls.foundRun gs) h l m = byRun gs refl m
 
 -- ---- the requests as calls
 counts-same : (d : Plan) (k : Kept) (q : Request) (ls : List ℕ) → counts d q ls ≡ claim.counts d (callOf k q) ls
@@ -177,27 +186,27 @@ module _ (D : Plan) where
   counted-same [] k w a ls = refl
   counted-same (q ∷ qs) k w a ls =
       ap (λ (ms : List ℕ). counted D (keeping (reply k q)) qs ms)
-      (ap₂ (λ (b : Bool) (ms : List ℕ). pick b ms ls) (ap accepted (reply-at D k w a q .answer) ∙ accepted-is D w (callOf k q)) (counts-same D k q ls))
+      (ap₂ (λ (b : Bool) (ms : List ℕ). pick b ms ls) (ap accepted (reply-at D k w a q .answer) ∙ accepted-is D (at-proper D k w a) w (callOf k q)) (counts-same D k q ls))
       ∙ counted-same qs (keeping (reply k q)) (calls.call D (callOf k q) w .world) (next-at D k w a q) _
 
   quiet : (k : Kept) (w : World) → At D k w → {q : Request} → Quiet k q → claim.Quiet D w (callOf k q)
   unfolding callOf
   quiet k w a (aQuery q b tail) = claim.aQuery _ _
-  quiet k w a (turnedAway q e) = claim.turnedAway (callOf k q) (sym (accepted-is D w (callOf k q)) ∙ ap accepted (sym (reply-at D k w a q .answer)) ∙ e)
+  quiet k w a (turnedAway q e) = claim.turnedAway (callOf k q) (sym (accepted-is D (at-proper D k w a) w (callOf k q)) ∙ ap accepted (sym (reply-at D k w a q .answer)) ∙ e)
 
   all-quiet : (k : Kept) (w : World) → At D k w → {qs : List Request} → AllQuiet k qs → claim.AllQuiet D w (callsOf k qs)
   unfolding callsOf
   all-quiet k w a done = claim.done
   all-quiet k w a (next {q = q} x xs) = claim.next (quiet k w a x) (all-quiet (keeping (reply k q)) _ (next-at D k w a q) xs)
 
-  -- ---- a query that is accepted gives what the definition's does
-  ask-back : (k : Kept) (w : World) → At D k w → (q : Query) (b rest : List ℕ) → accepted (reply k (ask q b rest) .answer) ≡ true →
+  -- ---- a fetch that is accepted gives what the definition's does
+  ask-back : (k : Kept) (w : World) → At D k w → (q : Query) (b rest : List ℕ) → isRun (queryOf q (length b)) ≡ false → accepted (reply k (ask q b rest) .answer) ≡ true →
       calls.call D (callOf k (ask q b rest)) w .answer ≡ calls.reason (literalsOf (reply k (ask q b rest)))
   unfolding callOf
-  ask-back k w a q b rest e =
+  ask-back k w a q b rest r e =
       let c = callOf k (ask q b rest) in
       let y = reply-at D k w a (ask q b rest) in
-      let f = ask-told D w _ _ (sym (accepted-is D w c) ∙ ap accepted (sym (y .answer)) ∙ e) in
+      let f = ask-told D w _ _ r (sym (accepted-is D (at-proper D k w a) w c) ∙ ap accepted (sym (y .answer)) ∙ e) in
       f ∙ ap calls.reason (sym (reason-literals D k w a (ask q b rest) _ f))
 
   module _ (start : Kept) (a : At D start calls.built) where
@@ -216,23 +225,23 @@ module _ (D : Plan) where
     answer-of before q = reply-at D (after start before) (world before) (at before) q .answer
 
     accepted-as : (before : List Request) (q : Request) → accepted (reply (after start before) q .answer) ≡ calls.accepted (outcome before q .answer)
-    accepted-as before q = ap accepted (answer-of before q) ∙ accepted-is D (world before) (callOf (after start before) q)
+    accepted-as before q = ap accepted (answer-of before q) ∙ accepted-is D (at-proper D start calls.built a) (world before) (callOf (after start before) q)
 
     -- a refusal's number is one of the table's
-    pub refusal-range : (before : List Request) (q : Request) (m : ℕ) → reply (after start before) q .answer ≡ Refused m → (0 < m) × (m ≤ 16)
-    refusal-range before q m e = refused-range D (world before) (callOf (after start before) q) m (sym (answer-of before q) ∙ e)
+    pub refusal-range : (before : List Request) (q : Request) (m : ℕ) → reply (after start before) q .answer ≡ Refused m → (0 < m) × (m ≤ 18)
+    refusal-range before q m e = refused-range D (at-proper D start calls.built a) (world before) (callOf (after start before) q) m (sym (answer-of before q) ∙ e)
 
     pub condition-1 : Condition1 start D
     unfolding accepted
     condition-1 = record {
       accepts = λ before q.
-          let (f, g) = acceptances D (world before) (callOf (after start before) q) in (
+          let (f, g) = acceptances D (world before) (callOf (after start before) q) (λ _. at-proper D start calls.built a) in (
             λ e. f (sym (accepted-as before q) ∙ eq-eqb _ 0 e),
             λ h. eqb-true _ 0 (accepted-as before q ∙ g h),
           );
       answers = λ before q. one-answer D (after start before) (world before) (at before) q;
       refuses = λ before q n h.
-          let (f, g) = refusals D (world before) (callOf (after start before) q) n in
+          let (f, g) = refusals D (world before) (callOf (after start before) q) (λ _. at-proper D start calls.built a) n in
           let (x, y) = refused-is (outcome before q) n h in
           (λ e. f (x (ap numberOf (sym (answer-of before q)) ∙ e)), λ z. ap numberOf (answer-of before q) ∙ y (g z));
       unchanged = λ before q n h e. refused-unchanged (after start before) q n (refused-number _ n h e);
@@ -244,7 +253,7 @@ module _ (D : Plan) where
       unfolding calls.run
       run-more before q = ap (calls.after D calls.built) (calls-more start before q) ∙ after-more D calls.built (callsOf start before) (callOf (after start before) q)
 
-      standing-after : (before : List Request) → world before .standing ≡ counted D start before []
+      pub standing-after : (before : List Request) → world before .standing ≡ counted D start before []
       standing-after before = stands-from-calls D (callsOf start before) ∙ sym (counted-same before start calls.built a [])
 
       stands-then : (before : List Request) (q : Request) → outcome before q .world .standing ≡ standingThen D start before q
@@ -261,13 +270,17 @@ module _ (D : Plan) where
           let y : Explains D (noteAll D (v .standing)) l r = each-found l r (x .recent) (run-explained D proper (x .run) (v .standing) g (λ _ z. z)) e in
           is-known D proper (noteAll D (v .standing)) l r y
 
-      -- and so is every literal that a call writes
-      pub written-known : (before : List Request) (q : Request) (l : ℕ) → In (writtenOf (outcome before q)) l → knows D l ≡ true
-      written-known before q l m =
-          let o = outcome before q in
-          ⊎-elim (λ i. handed-known before q l i)
-          (λ (ls, e, i). reason-known D proper (callsOf start before) (callOf (after start before) q) ls e l i)
-          (written-in (o .answer) (o .handed) l m)
+      -- and so is every literal that a call writes, and every edge
+      pub written-known : (before : List Request) (q : Request) (l : ℕ) → In (writtenOf (outcome before q)) l → (knows D l ≡ true) ⊎ (l < D .edges)
+      written-known before q l m = by (written-in (o .answer) (o .handed) l m)
+        where
+          o : calls.Outcome
+          o = outcome before q
+
+          by : WrittenIn (o .answer) (o .handed) l → (knows D l ≡ true) ⊎ (l < D .edges)
+          by (byHand i) = inl (handed-known before q l i)
+          by (byReason ls e i) = inl (reason-known D proper (callsOf start before) (callOf (after start before) q) ls e l i)
+          by (byRun gs e i) = inr (found-edges D proper (world before) (callOf (after start before) q) gs e l i)
 
       handed-shown : (before : List Request) (q : Request) (l : ℕ) → In (outcome before q .handed) l → HandsOn (after start before) q l
       handed-shown before q l m =
@@ -300,13 +313,13 @@ module _ (D : Plan) where
             let wa = after-at D amid n v na in
             let (list, f, i, _) = handed-fetched D proper (callsOf start before) (callOf k q) (callsOf n amid) (litGiven lit) (hands-on k (world before) (at before) q (litGiven lit) h) (all-quiet n v na s) in
             let g : calls.call D (callOf (after n amid) x) w .answer ≡ calls.reason list = ap (λ (c : calls.Call). calls.call D c w .answer) (fetch-is e) ∙ f in (
-              ap accepted (reply-at D (after n amid) w wa x .answer) ∙ accepted-is D w (callOf (after n amid) x) ∙ ap calls.accepted g,
+              ap accepted (reply-at D (after n amid) w wa x .answer) ∙ accepted-is D proper w (callOf (after n amid) x) ∙ ap calls.accepted g,
               subst (Every (In (standingThen D start before q))) (sym (reason-literals D (after n amid) w wa x list g))
                   (subst (λ (ms : List ℕ). Every (In ms) list) (stands-then before q) i),
             )
 
       pub condition-2 : Condition2 start D
-      unfolding callOf queryOf
+      unfolding callOf queryOf isRun
       condition-2 = record {
         handed = λ before q e.
             consistent-literals D (after start before) (world before) (at before) q (consistent-is (outcome before q) .0 (ap isConsistent (sym (answer-of before q)) ∙ e));
@@ -316,14 +329,14 @@ module _ (D : Plan) where
             let o = outcome before q in
             let n = keeping (reply k q) in
             let na = next-at D k (world before) (at before) q in
-            let z : o .world .last ≡ literalsOf (reply n (ask lastLeft b rest)) = last-given D (o .world) _ _ (ask-back n (o .world) na lastLeft b rest f) in
+            let z : o .world .last ≡ literalsOf (reply n (ask lastLeft b rest)) = last-given D (o .world) _ _ (ask-back n (o .world) na lastLeft b rest refl f) in
             let g = conflict-backed D proper (callsOf start before) (callOf k q) (conflict-back o (sym (answer-of before q) ∙ e)) in
             subst (λ (l : List ℕ). Backed (standingThen D start before q) (reply k q .table) l) z
             (subst (λ (u : List ℕ). Backed (standingThen D start before q) u (o .world .last)) (sym (reply-at D k (world before) (at before) q .table))
             (subst (λ (ms : List ℕ). Backed ms (o .table) (o .world .last)) (stands-then before q) g));
         reasons = λ before lit b rest e.
             let k = after start before in
-            let (r, f, g) = fetched-walked D proper (callsOf start before) _ (litGiven lit) _ (ask-back k (world before) (at before) (reasonFor lit) b rest e) in
+            let (r, f, g) = fetched-walked D proper (callsOf start before) _ (litGiven lit) _ (ask-back k (world before) (at before) (reasonFor lit) b rest refl e) in
             (r, f, subst (λ (ms : List ℕ). Walked D ms r (literalsOf (reply k (ask (reasonFor lit) b rest)))) (standing-after before) g);
         recorded = λ before q.
             let (recent, e, f) = recorded-stood D proper (callsOf start before) (callOf (after start before) q) in
@@ -361,13 +374,13 @@ module _ (D : Plan) where
           exactly : accepted (reply k q .answer) ≡ true → Covers D (counted D start (before ++ (q ∷ [])) []) → (isConsistent (reply k q .answer) ≡ true) ↔ Describes D (counted D start (before ++ (q ∷ [])) [])
           exactly x y =
               let o = calls.call D c (world before) in
-              let (f, g) = condition-3 D proper plain .exact (callsOf start before) room t (litGiven lit) (sym (accepted-is D (world before) c) ∙ ap accepted (sym answer-is) ∙ x) (subst (Covers D) standing-is y) in (
+              let (f, g) = condition-3 D proper plain .exact (callsOf start before) room t (litGiven lit) (sym (accepted-is D proper (world before) c) ∙ ap accepted (sym answer-is) ∙ x) (subst (Covers D) standing-is y) in (
                 λ u. subst (Describes D) (sym standing-is) (f (consistent-is o .0 (ap isConsistent (sym answer-is) ∙ u))),
                 λ v. ap isConsistent answer-is ∙ consistent-is o .1 (g (subst (Describes D) standing-is v)),
               )
 
         pub condition-three : Condition3 start D
-        unfolding callOf queryOf calls.call
+        unfolding callOf queryOf calls.call isRun
         condition-three = record {
           conflicts = λ before q b rest e f σ v h.
               let k = after start before in
@@ -376,7 +389,7 @@ module _ (D : Plan) where
               let na = next-at D k (world before) (at before) q in
               condition-3 D proper plain .conflicts (callsOf start before) (callOf k q) _ (literalsOf (reply n (ask lastLeft b rest)))
               (conflict-back o (sym (reply-at D k (world before) (at before) q .answer) ∙ e))
-              (ask-back n (o .world) na lastLeft b rest f) σ v h;
+              (ask-back n (o .world) na lastLeft b rest refl f) σ v h;
           handed = λ before q amid lit b rest h s f σ v x.
               let k = after start before in
               let n = keeping (reply k q) in
@@ -384,6 +397,6 @@ module _ (D : Plan) where
               let na = next-at D k (world before) (at before) q in
               condition-3 D proper plain .handed (callsOf start before) (callOf k q) (callsOf n amid) (litGiven lit) _ (literalsOf (reply (after n amid) (ask (reasonFor lit) b rest)))
               (hands-on k (world before) (at before) q (litGiven lit) h) (all-quiet n (o .world) na s)
-              (ask-back (after n amid) _ (after-at D amid n (o .world) na) (reasonFor lit) b rest f) σ v x;
+              (ask-back (after n amid) _ (after-at D amid n (o .world) na) (reasonFor lit) b rest refl f) σ v x;
           exact = exactly;
         }

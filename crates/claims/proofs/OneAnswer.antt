@@ -11,14 +11,14 @@ use Rattle.base.proofs.Tests.{or-none}
 use Rattle.noting.specs.Buffers.{logShort}
 use Rattle.as_noted.specs.AsNoted.{AsNoted}
 use Rattle.as_noted.proofs.Afresh.{as-noted}
-use Rattle.division.specs.Plan.{Plan}
+use Rattle.division.specs.Plan.{Plan, Proper}
 use Rattle.calls.specs.Calls as calls
 use Rattle.calls.specs.Calls.{World, answerList}
 use Rattle.calls.specs.Marks.{Marked}
 use Rattle.calls.specs.Refusals.{roomOf, Applies}
 use Rattle.calls.proofs.Marks.{call-marked}
 use Rattle.calls.proofs.Refusals.{acceptances}
-use Rattle.calls.proofs.Queries.{not-false, Answered, denied, given, answer-judged}
+use Rattle.calls.proofs.Queries.{not-false, isRun, Answered, denied, given, found, answer-judged}
 use Rattle.calls.proofs.View.{Did, away, added, agreed, clashed, took, asked, began, beganLast, beganClash, did}
 use Rattle.graph_division.specs.Answers.{numberOf, valuesOf}
 use Rattle.graph_division.specs.Outcomes.{answerFor, answerOf}
@@ -27,7 +27,7 @@ use Rattle.simulation.specs.Represents.{Represents, valuesFor}
 use Rattle.simulation.proofs.Running.{with-tail}
 use Rattle.claims.specs.Whole.{literalsOf, writtenBy, writtenOf, Whole}
 use Rattle.claims.specs.Conditions.{accepted}
-use Rattle.claims.proofs.Replying.{accepted-is, At, reply-at}
+use Rattle.claims.proofs.Replying.{accepted-is, At, at-proper, reply-at}
 use Rattle.claims.proofs.Past.{reply-log}
 
 pub table-same : (k : Kept) (q : Request) → calls.tableOf (callOf k q) ≡ tableOf q
@@ -66,6 +66,7 @@ list-written calls.noted = refl
 list-written calls.undone = refl
 list-written (calls.refused n) = refl
 list-written (calls.reason ls) = refl
+list-written (calls.foundRun gs) = refl
 
 did-written : (d : Plan) (w : World) {c : calls.Call} {o : calls.Outcome} → Did d w c o → writtenTo c o ≡ writtenOf o
 unfolding writtenTo writtenBy calls.refuse calls.settledBy calls.tell calls.lastBy calls.finishBy
@@ -89,6 +90,7 @@ values-for calls.noted h l e = refl
 values-for calls.undone h l e = refl
 values-for (calls.refused n) h l e = refl
 values-for (calls.reason ls) h l e = e ∙ sym (take-length ls)
+values-for (calls.foundRun gs) h l e = e ∙ sym (take-length gs)
 
 consistent-values : (a : calls.Answer) (h : List ℕ) → a ≡ calls.consistent → valuesOf (answerFor a (length h)) (writtenBy a h) ≡ h
 unfolding valuesOf answerFor writtenBy
@@ -98,18 +100,23 @@ reason-values : (a : calls.Answer) (h ls : List ℕ) → a ≡ calls.reason ls �
 unfolding valuesOf answerFor writtenBy
 reason-values a h ls e = ap (λ (x : calls.Answer). valuesOf (answerFor x (length h)) (writtenBy x h)) e ∙ take-length ls
 
--- a query that is accepted gives a list
-told : (d : Plan) (w : World) (q : calls.Query) {a : calls.Answer} → Answered d w q a → calls.accepted a ≡ true → a ≡ calls.reason (answerList a)
-unfolding calls.accepted answerList
-told d w q (denied n e x f) t = absurd (false≢true (sym (ap calls.accepted e) ∙ t))
-told d w q {a} (given list e f) t = e ∙ ap calls.reason (sym (ap answerList e))
+run-values : (a : calls.Answer) (h gs : List ℕ) → a ≡ calls.foundRun gs → valuesOf (answerFor a (length h)) (writtenBy a h) ≡ gs
+unfolding valuesOf answerFor writtenBy
+run-values a h gs e = ap (λ (x : calls.Answer). valuesOf (answerFor x (length h)) (writtenBy x h)) e ∙ take-length gs
 
-pub ask-told : (d : Plan) (w : World) (room : Bool) (q : calls.Query) →
+-- a fetch that is accepted gives a list
+told : (d : Plan) (w : World) (q : calls.Query) {a : calls.Answer} → isRun q ≡ false → Answered d w q a → calls.accepted a ≡ true → a ≡ calls.reason (answerList a)
+unfolding calls.accepted answerList
+told d w q r (denied n e x f) t = absurd (false≢true (sym (ap calls.accepted e) ∙ t))
+told d w q {a} r (given list e f) t = e ∙ ap calls.reason (sym (ap answerList e))
+told d w q r (found gs s e f) t = absurd (false≢true (sym r ∙ s))
+
+pub ask-told : (d : Plan) (w : World) (room : Bool) (q : calls.Query) → isRun q ≡ false →
     let a = calls.call d (calls.ask room q) w .answer in
     calls.accepted a ≡ true → a ≡ calls.reason (answerList a)
 unfolding calls.call calls.onAsk calls.tell calls.accepted
-ask-told d w room q = pick-ind (λ (a : calls.Answer). calls.accepted a ≡ true → a ≡ calls.reason (answerList a)) (not room) (calls.refused 7) (calls.answerTo d w q)
-    (λ _ e. absurd (false≢true e)) (λ _ e. told d w q (answer-judged d w q) e)
+ask-told d w room q r = pick-ind (λ (a : calls.Answer). calls.accepted a ≡ true → a ≡ calls.reason (answerList a)) (not room) (calls.refused 7) (calls.answerTo d w q)
+    (λ _ e. absurd (false≢true e)) (λ _ e. told d w q r (answer-judged d w q (λ s. absurd (false≢true (sym r ∙ s)))) e)
 
 -- ---- the log of a call that is accepted is long enough
 room-long : (k : Kept) (q : Request) → roomOf (callOf k q) ≡ true → logShort (k .state .plan) (length (logFor k (tailOf q))) ≡ false
@@ -119,8 +126,8 @@ room-long k (propagate lit pending t list tail) e = or-none _ _ (not-false _ e) 
 room-long k (undo lit tail) e = not-false _ e
 room-long k (ask q b tail) e = or-none _ _ (not-false _ e) .0
 
-accepted-room : (d : Plan) (w : World) (c : calls.Call) → calls.accepted (calls.call d c w .answer) ≡ true → roomOf c ≡ true
-accepted-room d w c e = tested (roomOf c) (λ t. t) (λ f. absurd (acceptances d w c .0 e 7 (Applies.noRoom c f)))
+accepted-room : (d : Plan) → Proper d → (w : World) (c : calls.Call) → calls.accepted (calls.call d c w .answer) ≡ true → roomOf c ≡ true
+accepted-room d pr w c e = tested (roomOf c) (λ t. t) (λ f. absurd (acceptances d w c (λ _. pr) .0 e 7 (Applies.noRoom c f)))
 
 module _ (D : Plan) (k : Kept) (w : World) (a : At D k w) (q : Request) where
   abbrev o : calls.Outcome
@@ -135,7 +142,7 @@ module _ (D : Plan) (k : Kept) (w : World) (a : At D k w) (q : Request) where
   reply-represents e =
       let r = reply-at D k w a q in
       let y = reply k q in
-      let room = accepted-room D w (callOf k q) (sym (accepted-is D w (callOf k q)) ∙ ap accepted (sym (r .answer)) ∙ e) in
+      let room = accepted-room D (at-proper D k w a) w (callOf k q) (sym (accepted-is D (at-proper D k w a) w (callOf k q)) ∙ ap accepted (sym (r .answer)) ∙ e) in
       let long : logShort (y .state .plan) (length (y .log)) ≡ false =
       ap₂ logShort (r .plan) (reply-log k q .long) ∙ room-long k q room in
       let whole = take-append-drop (y .cursor .used) (y .log) in
@@ -173,6 +180,10 @@ module _ (D : Plan) (k : Kept) (w : World) (a : At D k w) (q : Request) where
   pub consistent-literals : o .answer ≡ calls.consistent → literalsOf (reply k q) ≡ o .handed
   unfolding answerOf
   consistent-literals e = one-answer .values ∙ consistent-values (o .answer) (o .handed) e
+
+  pub run-literals : (gs : List ℕ) → o .answer ≡ calls.foundRun gs → literalsOf (reply k q) ≡ gs
+  unfolding answerOf
+  run-literals gs e = one-answer .values ∙ run-values (o .answer) (o .handed) gs e
 
   pub reason-literals : (ls : List ℕ) → o .answer ≡ calls.reason ls → literalsOf (reply k q) ≡ ls
   unfolding answerOf

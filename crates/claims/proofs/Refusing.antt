@@ -9,7 +9,11 @@ use lib.Dec.{eqb, ltb}
 use lib.ListN.{length}
 use Rattle.base.specs.Iter.{pick}
 use Rattle.base.specs.Range.{inRange}
-use Rattle.base.proofs.Loop.{pick-yes, pick-no, tested}
+use Rattle.base.proofs.Loop.{pick-yes, pick-no, pick-ind, tested}
+use Rattle.walks.specs.Written.{outOf}
+use Rattle.walks.specs.Answers as walks
+use Rattle.walks.specs.Answers.{given, missing}
+use Rattle.runs.specs.Walk.{listed, runListed}
 use Rattle.walks.specs.declared.Listed.{Listed}
 use Rattle.walks.specs.declared.Listed.the-variants.{Past, Missing}
 use Rattle.noting.specs.Buffers.{tableBad, listShort, reasonShort}
@@ -20,10 +24,10 @@ use Rattle.judge.specs.Judge.{Judged}
 use Rattle.notifications.specs.declared.Progress.{Progress}
 use Rattle.graph_division.specs.declared.Outcome.{Outcome}
 use Rattle.graph_division.specs.declared.Answer.{Answer}
-use Rattle.graph_division.specs.declared.Answer.the-variants.{Consistent, Conflict, Noted, Undone, Reason, Refused}
-use Rattle.graph_division.specs.Calls.{Called, called, refuse, adding, accepting, handingOn, settledBy, settled, propagated, undone, Fetched, fetched, copied, reasonGiven, isNone, listFor, recordedFor, giving, reasonFetched, lastFetched}
+use Rattle.graph_division.specs.declared.Answer.the-variants.{Consistent, Conflict, Noted, Undone, Reason, Run, Refused}
+use Rattle.graph_division.specs.Calls.{Called, called, refuse, adding, accepting, handingOn, settledBy, settled, propagated, undone, Fetched, fetched, copied, reasonGiven, isNone, listFor, recordedFor, giving, reasonFetched, lastFetched, runAnswer, bestListed, runFetched}
 use Rattle.graph_division.specs.Initialize.{taking, takenOver, endedBy, begun, initialized}
-use Rattle.graph_division.specs.Runs.{Query, reasonFor, lastLeft, Request, initialize, propagate, undo, ask, tableOf, lentList, tailOf, Kept, logFor, Reply, replied, repliedCalled, repliedFetched, asked, reply}
+use Rattle.graph_division.specs.Runs.{Query, reasonFor, lastLeft, runBetween, Request, initialize, propagate, undo, ask, tableOf, lentList, tailOf, Kept, logFor, Reply, replied, repliedCalled, repliedFetched, asked, reply}
 use Rattle.claims.specs.Conditions.{turnedAwayWith}
 use Rattle.claims.proofs.Replying.{kindOf, amountOf}
 
@@ -93,8 +97,22 @@ module _ (k : Kept) where
       (λ e. other k (undo lit tail) _ Undone (ap (λ (y : Outcome). y .answer) (pick-yes _ _ e)) (λ z. omega arith))
       (λ e. away k (undo lit tail) _ _ (ap (λ (y : Outcome). replied y [] [] (logFor k tail)) (pick-no _ _ e)))
 
+  -- where there is no run the buffer stays
+  listed-unchanged : (q : Query) (b tail : List ℕ) (x : List (List ℕ)) →
+      Unchanged k (ask q b tail) (repliedFetched k (logFor k tail) (fetched (runAnswer (listed x (outOf b 0) .listed)) (listed x (outOf b 0) .text)))
+  unfolding listed given missing repliedFetched replied refuse turnedAwayWith tableOf lentList tailOf kindOf
+  listed-unchanged q b tail [] = away k (ask q b tail) 18 _ refl
+  listed-unchanged q b tail (gs ∷ rest) = other k (ask q b tail) _ (Run _) refl (λ e. omega arith)
+
+  run-unchanged : (q : Query) (from to : ℤ) (b tail : List ℕ) →
+      Unchanged k (ask q b tail) (repliedFetched k (logFor k tail) (fetched (runAnswer (bestListed (k .state) from to b .listed)) (bestListed (k .state) from to b .text)))
+  unfolding bestListed runListed missing repliedFetched replied refuse turnedAwayWith tableOf lentList tailOf
+  run-unchanged q from to b tail =
+      pick-ind (λ (a : walks.Answer). Unchanged k (ask q b tail) (repliedFetched k (logFor k tail) (fetched (runAnswer (a .listed)) (a .text)))) _ _ _
+      (λ _. listed-unchanged q b tail _) (λ _. away k (ask q b tail) 18 _ refl)
+
   refused-ask : (q : Query) (b tail : List ℕ) → Unchanged k (ask q b tail) (reply k (ask q b tail))
-  unfolding reply asked reasonFetched giving lastFetched turnedAwayWith tableOf lentList tailOf repliedFetched replied refuse kindOf
+  unfolding reply asked reasonFetched giving lastFetched runFetched turnedAwayWith tableOf lentList tailOf repliedFetched replied refuse kindOf
   refused-ask (reasonFor lit) b tail =
       let q = ask (reasonFor lit) b tail in
       by-fetch k q _ _ _ _
@@ -103,6 +121,9 @@ module _ (k : Kept) where
   refused-ask lastLeft b tail =
       let q = ask lastLeft b tail in
       by-fetch k q _ _ _ _ (copied-unchanged lastLeft b tail _ _ _) (away k q _ _ refl)
+  refused-ask (runBetween from to) b tail =
+      let q = ask (runBetween from to) b tail in
+      by-fetch k q _ _ _ _ (run-unchanged (runBetween from to) from to b tail) (away k q _ _ refl)
 
   -- a call that is refused leaves the state, the cursor and all that it was lent
   pub refused-unchanged : (q : Request) (n : ℕ) → reply k q .answer ≡ Refused n → reply k q ≡ turnedAwayWith k q n

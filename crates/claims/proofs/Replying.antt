@@ -8,14 +8,15 @@ use native.Mathlib.Omega.{arith}
 use lib.ListN.{length}
 use borrow.Author.Tests.{ne-eqb}
 use Rattle.edge_table.specs.declared.EdgeTable.{EdgeTable}
-use Rattle.division.specs.Plan.{Plan}
+use Rattle.division.specs.Plan.{Plan, Proper}
 use Rattle.plan.specs.Plan.{planOf}
+use Rattle.plan.proofs.Abstract.{proper-plan}
 use Rattle.calls.specs.Calls as calls
 use Rattle.calls.specs.Calls.{World}
 use Rattle.calls.specs.Refusals.{Stops, AppliesTo, Applies}
 use Rattle.calls.proofs.Refusals.{refusals}
 use Rattle.graph_division.specs.declared.Answer.{Answer}
-use Rattle.graph_division.specs.declared.Answer.the-variants.{Consistent, Conflict, Noted, Undone, Reason, Refused}
+use Rattle.graph_division.specs.declared.Answer.the-variants.{Consistent, Conflict, Noted, Undone, Reason, Run, Refused}
 use Rattle.graph_division.specs.Answers.{numberOf, isConsistent}
 use Rattle.graph_division.specs.Runs.{Request, Kept, Reply, reply, keeping, after, callOf, callsOf}
 use Rattle.claims.specs.Conditions.{accepted}
@@ -31,6 +32,7 @@ kindOf Conflict = 1
 kindOf Noted = 2
 kindOf Undone = 3
 kindOf (Reason n) = 4
+kindOf (Run n) = 6
 kindOf (Refused n) = 5
 
 unfoldable pub amountOf : Answer → ℕ
@@ -39,6 +41,7 @@ amountOf Conflict = 0
 amountOf Noted = 0
 amountOf Undone = 0
 amountOf (Reason n) = n
+amountOf (Run n) = n
 amountOf (Refused n) = n
 
 conflict-for : (a : calls.Answer) (n : ℕ) → answerFor a n ≡ Conflict → a ≡ calls.conflicting
@@ -49,6 +52,7 @@ conflict-for calls.noted n e = let z : _≡_ {A = ℕ} 2 1 = ap kindOf e in absu
 conflict-for calls.undone n e = let z : _≡_ {A = ℕ} 3 1 = ap kindOf e in absurd (omega arith)
 conflict-for (calls.refused m) n e = let z : _≡_ {A = ℕ} 5 1 = ap kindOf e in absurd (omega arith)
 conflict-for (calls.reason ls) n e = let z : _≡_ {A = ℕ} 4 1 = ap kindOf e in absurd (omega arith)
+conflict-for (calls.foundRun gs) n e = let z : _≡_ {A = ℕ} 6 1 = ap kindOf e in absurd (omega arith)
 
 refused-to : (a : calls.Answer) (n m : ℕ) → 0 < m → numberOf (answerFor a n) ≡ m → a ≡ calls.refused m
 unfolding answerFor numberOf
@@ -58,6 +62,7 @@ refused-to calls.noted n m h e = absurd (omega arith)
 refused-to calls.undone n m h e = absurd (omega arith)
 refused-to (calls.refused k) n m h e = ap calls.refused e
 refused-to (calls.reason ls) n m h e = absurd (omega arith)
+refused-to (calls.foundRun gs) n m h e = absurd (omega arith)
 
 consistent-to : (a : calls.Answer) (n : ℕ) → isConsistent (answerFor a n) ≡ true → a ≡ calls.consistent
 unfolding answerFor
@@ -67,19 +72,23 @@ consistent-to calls.noted n e = absurd (false≢true e)
 consistent-to calls.undone n e = absurd (false≢true e)
 consistent-to (calls.refused m) n e = absurd (false≢true e)
 consistent-to (calls.reason ls) n e = absurd (false≢true e)
+consistent-to (calls.foundRun gs) n e = absurd (false≢true e)
 
 -- a refusal's number is one of the table's, and never 0
-query-range : {d : Plan} {w : World} {q : calls.Query} {n : ℕ} → AppliesTo d w q n → (0 < n) × (n ≤ 16)
+query-range : {d : Plan} {w : World} {q : calls.Query} {n : ℕ} → AppliesTo d w q n → (0 < n) × (n ≤ 18)
 query-range (AppliesTo.unknownReason l k) = (omega arith, omega arith)
 query-range (AppliesTo.noReason l e) = (omega arith, omega arith)
 query-range (AppliesTo.pathGone l r e g) = (omega arith, omega arith)
+query-range (AppliesTo.noRun p q n) = (omega arith, omega arith)
+query-range (AppliesTo.unknownFrom p q n) = (omega arith, omega arith)
+query-range (AppliesTo.unknownTo p q n) = (omega arith, omega arith)
 
-stops-range : {d : Plan} {ls t : List ℕ} {n : ℕ} → Stops d ls t n → (0 < n) × (n ≤ 16)
+stops-range : {d : Plan} {ls t : List ℕ} {n : ℕ} → Stops d ls t n → (0 < n) × (n ≤ 18)
 stops-range (Stops.at12 x) = (omega arith, omega arith)
 stops-range (Stops.at13 x) = (omega arith, omega arith)
 stops-range (Stops.at14 x) = (omega arith, omega arith)
 
-applies-range : {d : Plan} {w : World} {c : calls.Call} {n : ℕ} → Applies d w c n → (0 < n) × (n ≤ 16)
+applies-range : {d : Plan} {w : World} {c : calls.Call} {n : ℕ} → Applies d w c n → (0 < n) × (n ≤ 18)
 applies-range (Applies.noRoom c e) = (omega arith, omega arith)
 applies-range (Applies.badInitialize room t x) = (omega arith, omega arith)
 applies-range (Applies.badPropagate room t l pending x) = (omega arith, omega arith)
@@ -103,6 +112,7 @@ accepted-for calls.noted n h = refl
 accepted-for calls.undone n h = refl
 accepted-for (calls.refused m) n h = ne-eqb m 0 (λ (e : m ≡ 0). h (ap calls.refused e))
 accepted-for (calls.reason ls) n h = refl
+accepted-for (calls.foundRun gs) n h = refl
 
 -- ---- the same of outcomes
 pub conflict-back : (o : calls.Outcome) → answerOf o ≡ Conflict → o .answer ≡ calls.conflicting
@@ -117,23 +127,24 @@ refused-for calls.noted n m e = let z : _≡_ {A = ℕ} 2 5 = ap kindOf e in abs
 refused-for calls.undone n m e = let z : _≡_ {A = ℕ} 3 5 = ap kindOf e in absurd (omega arith)
 refused-for (calls.refused k) n m e = ap calls.refused (ap amountOf e)
 refused-for (calls.reason ls) n m e = let z : _≡_ {A = ℕ} 4 5 = ap kindOf e in absurd (omega arith)
+refused-for (calls.foundRun gs) n m e = let z : _≡_ {A = ℕ} 6 5 = ap kindOf e in absurd (omega arith)
 
-pub refused-range : (d : Plan) (w : World) (c : calls.Call) (m : ℕ) → answerOf (calls.call d c w) ≡ Refused m → (0 < m) × (m ≤ 16)
+pub refused-range : (d : Plan) → Proper d → (w : World) (c : calls.Call) (m : ℕ) → answerOf (calls.call d c w) ≡ Refused m → (0 < m) × (m ≤ 18)
 unfolding answerOf
-refused-range d w c m e =
+refused-range d pr w c m e =
     let o = calls.call d c w in
-    applies-range (refusals d w c m .0 (refused-for (o .answer) (length (o .handed)) m e) .applies)
+    applies-range (refusals d w c (λ _. pr) m .0 (refused-for (o .answer) (length (o .handed)) m e) .applies)
 
 pub refused-is : (o : calls.Outcome) (n : ℕ) → 0 < n → (numberOf (answerOf o) ≡ n) ↔ (o .answer ≡ calls.refused n)
 unfolding answerOf answerFor numberOf
 refused-is o n h = (refused-to (o .answer) (length (o .handed)) n h, λ e. ap (λ (a : calls.Answer). numberOf (answerFor a (length (o .handed)))) e)
 
-pub accepted-is : (d : Plan) (w : World) (c : calls.Call) → accepted (answerOf (calls.call d c w)) ≡ calls.accepted (calls.call d c w .answer)
+pub accepted-is : (d : Plan) → Proper d → (w : World) (c : calls.Call) → accepted (answerOf (calls.call d c w)) ≡ calls.accepted (calls.call d c w .answer)
 unfolding answerOf
-accepted-is d w c =
+accepted-is d pr w c =
     let o = calls.call d c w in
     accepted-for (o .answer) (length (o .handed))
-    (λ e. let (h, _) = applies-range (refusals d w c 0 .0 e .applies) in omega arith)
+    (λ e. let (h, _) = applies-range (refusals d w c (λ _. pr) 0 .0 e .applies) in omega arith)
 
 pub consistent-is : (o : calls.Outcome) → (isConsistent (answerOf o) ≡ true) ↔ (o .answer ≡ calls.consistent)
 unfolding answerOf answerFor
@@ -144,6 +155,9 @@ module _ (D : Plan) where
   pub record At (k : Kept) (w : World) : Type 0 where
     pub represents : RepresentsKept k w
     pub plan : statePlan (k .state) ≡ D
+
+  pub at-proper : (k : Kept) (w : World) → At k w → Proper D
+  at-proper k w a = subst Proper (a .plan) (proper-plan _ _ (a .represents .represents .proper))
 
   module _ (k : Kept) (w : World) (a : At k w) where
     pub reply-at : (q : Request) → Replies k q (reply k q) (calls.call D (callOf k q) w)

@@ -12,11 +12,13 @@ use Rattle.graph_division.specs.Answers.{numberOf, valuesOf}
 use Rattle.graph_division.specs.Outcomes.{answerOf}
 use Rattle.graph_division.specs.Runs.{Request, tableOf, lentList, tailOf, Kept, logFor, Reply, reply}
 
--- the literals of a reply, by what document 01 asks for: "a definition gives this paper's number and values for each of its cases"
+-- the literals of a reply, or the edges of its run, by what document 01 asks for: "a definition gives this paper's
+-- number and values for each of its cases"
 abbrev pub literalsOf : Reply → List ℕ
 literalsOf r = valuesOf (r .answer) (r .list)
 
--- the literals that an answer of the definition writes to the list or to the reason buffer: the reason's, else those handed on, "conflict or not"
+-- what an answer of the definition writes to the list or to the reason buffer: the literals of the reason, the edges
+-- of the run, else the literals handed on, "conflict or not"
 unfoldable pub writtenBy : calls.Answer → List ℕ → List ℕ
 writtenBy calls.consistent handed = handed
 writtenBy calls.conflicting handed = handed
@@ -24,6 +26,7 @@ writtenBy calls.noted handed = handed
 writtenBy calls.undone handed = handed
 writtenBy (calls.refused n) handed = handed
 writtenBy (calls.reason ls) handed = ls
+writtenBy (calls.foundRun gs) handed = gs
 
 abbrev pub writtenOf : calls.Outcome → List ℕ
 writtenOf o = writtenBy (o .answer) (o .handed)

@@ -4,7 +4,7 @@ use mathlib.Core.List.{List, []}
 use Prim.Native.Nat.{ℕ}
 use lib.ListN.{take}
 use Rattle.graph_division.specs.declared.Answer.{Answer}
-use Rattle.graph_division.specs.declared.Answer.the-variants.{Consistent, Conflict, Noted, Undone, Reason, Refused}
+use Rattle.graph_division.specs.declared.Answer.the-variants.{Consistent, Conflict, Noted, Undone, Reason, Run, Refused}
 
 -- the number of the refusal, 0 for a call that is accepted
 unfoldable pub numberOf : Answer → ℕ
@@ -13,15 +13,18 @@ numberOf Conflict = 0
 numberOf Noted = 0
 numberOf Undone = 0
 numberOf (Reason len) = 0
+numberOf (Run len) = 0
 numberOf (Refused number) = number
 
--- the literals that the answer gives, where l is the list or the buffer that the call was lent, after it: those handed on, or the reason
+-- what the answer gives, where l is the list or the buffer that the call was lent, after it: the literals handed on,
+-- those of the reason, or the numbers of the run's edges
 unfoldable pub valuesOf : Answer → List ℕ → List ℕ
 valuesOf (Consistent handed) l = take handed l
 valuesOf Conflict l = []
 valuesOf Noted l = []
 valuesOf Undone l = []
 valuesOf (Reason len) l = take len l
+valuesOf (Run len) l = take len l
 valuesOf (Refused number) l = []
 
 abbrev pub isRefused : Answer → Bool
@@ -30,6 +33,7 @@ isRefused Conflict = false
 isRefused Noted = false
 isRefused Undone = false
 isRefused (Reason len) = false
+isRefused (Run len) = false
 isRefused (Refused number) = true
 
 abbrev pub isConsistent : Answer → Bool
@@ -38,4 +42,5 @@ isConsistent Conflict = false
 isConsistent Noted = false
 isConsistent Undone = false
 isConsistent (Reason len) = false
+isConsistent (Run len) = false
 isConsistent (Refused number) = false

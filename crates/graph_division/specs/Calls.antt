@@ -16,6 +16,7 @@ use Rattle.walks.specs.declared.Listed.{Listed}
 use Rattle.walks.specs.declared.Listed.the-variants.{Past, Missing}
 use Rattle.walks.specs.Written.{outOf, written}
 use Rattle.walks.specs.Answers as walks
+use Rattle.runs.specs.Walk.{runListed, vertexGiven}
 use Rattle.reasons.specs.declared.reason.Reason.{Reason}
 use Rattle.reasons.specs.declared.reason.Reason.the-variants.{NotPropagated, EdgeInSameGroup, EdgeBetweenDifferentGroups, TooLargeIfRegionsAreMerged, RegionAlreadyLarge, RegionAlreadySmall, InconsistentBoundsIfRegionsAreMerged, BoundPropagationWithinRegion, AdjacentSameSizeRegions}
 use Rattle.analysis.specs.Placed.{placeOfLit}
@@ -172,3 +173,21 @@ module _ (s : GraphDivision) (c : Cursor) (log : List ℕ) where
       let n = fetchRefusal (s .plan) (s .edges .ends) (s .noted) (length b) log c in
       let m = literalRefusal (s .plan) lit in
       pick (eqb n 0) (pick (eqb m 0) (giving s (recordedFor s (litNumber lit)) b) (fetched (answer.Refused m) b)) (fetched (answer.Refused n) b)
+
+-- document 02, request 1: the run, or 18 "when every run between the pens has a shut gate, or one pen is unknown"
+abbrev pub runAnswer : Listed → Answer
+runAnswer (Past n) = answer.Run n
+runAnswer Missing = answer.Refused 18
+
+-- the best run by the edge states, which stand at the start of the noted words
+unfoldable pub bestListed : GraphDivision → ℤ → ℤ → List ℕ → walks.Answer
+bestListed s from to b =
+    let p = s .plan in
+    runListed (s .edges .ends) (s .noted) (edgesOf p) (verticesOf p) (vertexGiven from) (vertexGiven to) b
+
+-- `run`: "into a buffer of the reason buffer's length, tested in 7"
+unfoldable pub runFetched : GraphDivision → Cursor → List ℕ → ℤ → ℤ → List ℕ → Fetched
+runFetched s c log from to b =
+    let n = fetchRefusal (s .plan) (s .edges .ends) (s .noted) (length b) log c in
+    let r = bestListed s from to b in
+    pick (eqb n 0) (fetched (runAnswer (r .listed)) (r .text)) (fetched (answer.Refused n) b)

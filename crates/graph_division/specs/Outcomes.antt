@@ -13,6 +13,7 @@ answerFor calls.noted n = answer.Noted
 answerFor calls.undone n = answer.Undone
 answerFor (calls.refused m) n = answer.Refused m
 answerFor (calls.reason ls) n = answer.Reason (length ls)
+answerFor (calls.foundRun gs) n = answer.Run (length gs)
 
 unfoldable pub answerOf : calls.Outcome → Answer
 answerOf o = answerFor (o .answer) (length (o .handed))

@@ -8,18 +8,20 @@ use lib.ListN.{length, take}
 use Rattle.base.specs.Range.{inRange}
 use Rattle.undo_log.specs.declared.Cursor.{Cursor}
 use Rattle.noting.specs.Buffers.{logShort, listShort, reasonShort}
+use Rattle.runs.specs.Walk.{vertexGiven}
 use Rattle.refusals.specs.Calls.{litGiven}
 use Rattle.calls.specs.Calls as calls
 use Rattle.graph_division.specs.declared.GraphDivision.{GraphDivision}
 use Rattle.graph_division.specs.declared.Outcome.{Outcome}
 use Rattle.graph_division.specs.declared.Answer.{Answer}
-use Rattle.graph_division.specs.Calls.{Called, propagated, undone, Fetched, reasonFetched, lastFetched}
+use Rattle.graph_division.specs.Calls.{Called, propagated, undone, Fetched, reasonFetched, lastFetched, runFetched}
 use Rattle.graph_division.specs.Initialize.{initialized}
 
 -- what a call that changes nothing asks for, with numbers from outside
 pub data Query : Type 0 where
   reasonFor : (lit : ℤ) → Query
   lastLeft : Query
+  runBetween : (from to : ℤ) → Query
 
 -- a call with what it is lent; of the log, the entries from the cursor on
 pub data Request : Type 0 where
@@ -80,10 +82,11 @@ repliedCalled x = replied (x .outcome) (x .table) (x .list) (x .log)
 unfoldable pub repliedFetched : Kept → List ℕ → Fetched → Reply
 repliedFetched k log x = record { answer = x .answer; state = k .state; cursor = k .cursor; table = []; list = x .buffer; log = log }
 
--- a query's answer and its buffer: `calc_reason` of a literal, and without one
+-- a query's answer and its buffer: `calc_reason` of a literal, and without one, and `run`
 unfoldable pub asked : GraphDivision → Cursor → List ℕ → Query → List ℕ → Fetched
 asked s c log (reasonFor lit) b = reasonFetched s c log lit b
 asked s c log lastLeft b = lastFetched s c log b
+asked s c log (runBetween from to) b = runFetched s c log from to b
 
 unfoldable pub reply : Kept → Request → Reply
 reply k (initialize t list tail) = repliedCalled (initialized (k .state) (k .cursor) t (logFor k tail) list)
@@ -102,10 +105,12 @@ after k (q ∷ qs) = after (keeping (reply k q)) qs
 unfoldable pub queryOf : Query → ℕ → calls.Query
 queryOf (reasonFor lit) n = calls.reasonFor (litGiven lit)
 queryOf lastLeft n = calls.lastLeft
+queryOf (runBetween from to) n = calls.runBetween (vertexGiven from) (vertexGiven to)
 
 unfoldable pub bufferShort : Query → List ℕ → ℕ → Bool
 bufferShort (reasonFor lit) ws n = reasonShort ws n
 bufferShort lastLeft ws n = reasonShort ws n
+bufferShort (runBetween from to) ws n = reasonShort ws n
 
 -- the definition's call for a request: what refusal 7 asks of the lengths of what is lent, but for the table, is the room
 unfoldable pub roomFor : List ℕ → ℕ → Bool → Bool

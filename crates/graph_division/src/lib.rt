@@ -40,6 +40,8 @@ pub enum Answer {
     Undone,
     // The first `len` entries of the lent buffer are the reason.
     Reason { len: usize },
+    // The first `len` entries of the lent buffer are the numbers of the run's edges, in order from the first vertex.
+    Run { len: usize },
     Refused { number: u32 },
 }
 
@@ -52,6 +54,7 @@ pub fn is_refused(answer: Answer) -> bool
         Answer::Noted => false,
         Answer::Undone => false,
         Answer::Reason { len: _ } => false,
+        Answer::Run { len: _ } => false,
         Answer::Refused { number: _ } => true,
     }
 }
@@ -65,6 +68,7 @@ pub fn is_consistent(answer: Answer) -> bool
         Answer::Noted => false,
         Answer::Undone => false,
         Answer::Reason { len: _ } => false,
+        Answer::Run { len: _ } => false,
         Answer::Refused { number: _ } => false,
     }
 }

@@ -54,6 +54,7 @@ fn put_answer(a: Answer, list: &[u32]) {
         Answer::Noted => put_first(b'L', list, 0),
         Answer::Undone => put_first(b'C', list, 0),
         Answer::Reason { len } => put_first(b'R', list, len),
+        Answer::Run { len } => put_first(b'R', list, len),
         Answer::Refused { number } => put_refusal(number),
     }
 }

@@ -1,7 +1,7 @@
 // The C host: the calls of crate byte_calls, exported under C's names. A slice is a pointer and a length in C; include/zuntjev.h has the
 // layout of the bytes. Every call takes any bytes. `rt staticlib` proves this crate once more: it stays thin.
 ghost use mathlib.Core.Path.{_≡_};
-ghost use Rattle.byte_calls.specs.Host.{leftWith, back, tooShort, hostInitialized, initializedIn, hostPropagated, propagatedIn, hostUndone, undoneIn, hostReason, hostLast, buildCode};
+ghost use Rattle.byte_calls.specs.Host.{leftWith, back, tooShort, hostInitialized, initializedIn, hostPropagated, propagatedIn, hostUndone, undoneIn, hostReason, hostLast, hostRun, buildCode};
 ghost use Rattle.byte_calls.specs.After.{Leaves};
 ghost use Rattle.byte_calls.specs.Build.{BuiltIn};
 ghost use Rattle.byte_calls.specs.Numbers.{numbersIn};
@@ -99,4 +99,21 @@ pub extern "C" fn zuntjev_calc_last(
     ensures { λ r. ⌜ back r (now (buffer .exit)) ≡ hostLast (now (state .entry)) (now (log .entry)) (now (cursor .entry)) (now (buffer .entry)) ⌝ }
 {
     byte_calls::calls::calc_last(state, log, cursor, buffer)
+}
+
+// The run of edges, connected or undecided, from one vertex to the other goes to the buffer, two bytes for each
+// edge's number.
+#[no_mangle]
+pub extern "C" fn zuntjev_run(
+    state: &[u8],
+    log: &[u8],
+    cursor: &[u8],
+    from: i32,
+    to: i32,
+    buffer: &mut [u8],
+) -> i32
+    ensures { λ r. ⌜ back r (now (buffer .exit)) ≡
+        hostRun (now (state .entry)) (now (log .entry)) (now (cursor .entry)) from to (now (buffer .entry)) ⌝ }
+{
+    byte_calls::calls::run(state, log, cursor, from, to, buffer)
 }

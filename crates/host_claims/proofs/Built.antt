@@ -26,6 +26,7 @@ use Rattle.graph_division.specs.Runs.{Request, Kept, kept, reply, after}
 use Rattle.simulation.specs.Start.{justBuilt}
 use Rattle.claims.specs.Whole.{literalsOf, writtenOf}
 use Rattle.claims.specs.Conditions.{replyTo, outcomeTo, Condition1, Condition2, Condition3}
+use Rattle.claims.specs.Runs.{RunsBetween}
 use Rattle.claims.proofs.Built as claims
 use Rattle.byte_calls.specs.Bytes.{wordAt}
 use Rattle.byte_calls.specs.Codes.{fitted}
@@ -113,8 +114,8 @@ module _ (vs : List ℤ) (n : ℕ) (es : List ℤ) (m : ℕ) (a b : ℤ) (before
   small = of-start (λ k d. (qs : List Request) (q : Request) (l : ℕ) → In (writtenOf (outcomeTo d k qs q)) l → l ≤ 8191)
       (claims.written-small vs n es m (isOn a) (isOn b) accepted)
 
-  ranged : (qs : List Request) (q : Request) (i : ℕ) → replyTo start qs q .answer ≡ Refused i → (0 < i) × (i ≤ 16)
-  ranged = of-start (λ k d. (qs : List Request) (q : Request) (i : ℕ) → replyTo k qs q .answer ≡ Refused i → (0 < i) × (i ≤ 16))
+  ranged : (qs : List Request) (q : Request) (i : ℕ) → replyTo start qs q .answer ≡ Refused i → (0 < i) × (i ≤ 18)
+  ranged = of-start (λ k d. (qs : List Request) (q : Request) (i : ℕ) → replyTo k qs q .answer ≡ Refused i → (0 < i) × (i ≤ 18))
       (claims.refusal-range vs n es m (isOn a) (isOn b) accepted)
 
   telling : {qs : List Request} {k k′ : Kept} {q : Request} {list : List ℕ} {x : Said} →
@@ -134,6 +135,7 @@ module _ (vs : List ℤ) (n : ℕ) (es : List ℤ) (m : ℕ) (a b : ℤ) (before
     tells = telling;
     fits = λ {qs} {k} {k′} {q} all made. host-fits _ (first-condition .answers qs q) (answered all made) made;
     reads = reading;
+    runs-between = of-start RunsBetween (claims.runs-between vs n es m (isOn a) (isOn b) accepted);
     condition-1 = first-condition;
     condition-2 = second-condition;
     condition-3 = third-condition;

@@ -166,6 +166,7 @@ module _ {h k k′ : Kept} {q : Request} {list : List ℕ} {x : Said} (o : calls
   unfolding valuesOf answerFor writtenBy answerCode up
   read-by calls.consistent e = whole-read calls.consistent e (o .handed) refl (λ l. refl) refl refl
   read-by (calls.reason ls) e = whole-read (calls.reason ls) e ls refl (λ l. refl) refl refl
+  read-by (calls.foundRun gs) e = whole-read (calls.foundRun gs) e gs refl (λ l. refl) refl refl
   read-by calls.conflicting e = none-read calls.conflicting e (λ l. refl) refl
   read-by calls.noted e = none-read calls.noted e (λ l. refl) refl
   read-by calls.undone e = none-read calls.undone e (λ l. refl) refl

@@ -19,10 +19,10 @@ use Rattle.noting.specs.Words.{capped}
 use Rattle.graph_division.specs.declared.GraphDivision.{GraphDivision}
 use Rattle.graph_division.specs.declared.Outcome.{Outcome}
 use Rattle.graph_division.specs.declared.Answer.{Answer}
-use Rattle.graph_division.specs.declared.Answer.the-variants.{Consistent, Conflict, Noted, Undone, Reason, Refused}
+use Rattle.graph_division.specs.declared.Answer.the-variants.{Consistent, Conflict, Noted, Undone, Reason, Run, Refused}
 use Rattle.graph_division.specs.Calls.{Called, propagated, undone, Fetched, reasonFetched, lastFetched, refuse}
 use Rattle.graph_division.specs.Initialize.{initialized}
-use Rattle.graph_division.specs.Runs.{Query, reasonFor, lastLeft, Request, initialize, propagate, undo, ask, tailOf, Kept, kept, logFor, Reply, replied, repliedCalled, repliedFetched, asked, reply, keeping}
+use Rattle.graph_division.specs.Runs.{Query, reasonFor, lastLeft, runBetween, Request, initialize, propagate, undo, ask, tailOf, Kept, kept, logFor, Reply, replied, repliedCalled, repliedFetched, asked, reply, keeping}
 use Rattle.claims.specs.Conditions.{turnedAwayWith}
 use Rattle.claims.proofs.Refusing.{refused-unchanged}
 use Rattle.claims.proofs.Past.{reply-log}
@@ -31,7 +31,7 @@ use Rattle.byte_calls.specs.Codes.{answerCode, givenBy}
 use Rattle.byte_calls.specs.Layout.{stateIn, cursorIn, usedEntries, recordsIn, logIn, listIn, bufferIn}
 use Rattle.byte_calls.specs.Stores.{putList, putLog}
 use Rattle.byte_calls.specs.Bytes.{putHalves}
-use Rattle.byte_calls.specs.Host.{Left, tooShort, leftBy, leftOf, propagatedIn, hostPropagated, initializedIn, hostInitialized, Back, back, undoneIn, backOf, backBy, hostUndone, givenIn, hostReason, hostLast}
+use Rattle.byte_calls.specs.Host.{Left, tooShort, leftBy, leftOf, propagatedIn, hostPropagated, initializedIn, hostInitialized, Back, back, undoneIn, backOf, backBy, hostUndone, givenIn, hostReason, hostLast, hostRun}
 use Rattle.byte_calls.specs.After.{Leaves}
 use Rattle.byte_calls.proofs.Filling.{putLongs-length}
 use Rattle.byte_calls.proofs.Leaving.{room-length}
@@ -55,6 +55,7 @@ refused-number Conflict e = absurd (false≢true e)
 refused-number Noted e = absurd (false≢true e)
 refused-number Undone e = absurd (false≢true e)
 refused-number (Reason n) e = absurd (false≢true e)
+refused-number (Run n) e = absurd (false≢true e)
 refused-number (Refused n) e = (n, refl)
 
 cap-none : (m : ℕ) → capped 0 m ≡ 0
@@ -76,6 +77,7 @@ list-by Conflict c d t lits records list log cursor = refl
 list-by Noted c d t lits records list log cursor = refl
 list-by Undone c d t lits records list log cursor = refl
 list-by (Reason n) c d t lits records list log cursor = refl
+list-by (Run n) c d t lits records list log cursor = refl
 list-by (Refused n) c d t lits records list log cursor = sym (put-none lits list)
 
 code-by : (a : Answer) (c d : Cursor) (t lits records list log cursor : List ℕ) → leftBy a c d t lits records list log cursor .code ≡ answerCode a
@@ -208,9 +210,10 @@ module _ (state t list log cursor after : List ℕ) (hs : Bytes state) (hl : Byt
 -- the fetches, of bytes that are long enough
 pub asked-given : (state log cursor : List ℕ) → tooShort state cursor ≡ false → (q : Query) (buffer : List ℕ) →
     hostAsked state log cursor q buffer ≡ givenIn (asked (stateIn state) (cursorIn cursor) (logIn (cursorIn cursor) log) q (bufferIn buffer)) buffer
-unfolding hostAsked hostReason hostLast asked
+unfolding hostAsked hostReason hostLast hostRun asked
 asked-given state log cursor e (reasonFor lit) buffer = pick-no _ _ e
 asked-given state log cursor e lastLeft buffer = pick-no _ _ e
+asked-given state log cursor e (runBetween from to) buffer = pick-no _ _ e
 
 module _ (state log cursor : List ℕ) (hc : Bytes cursor) (ls : 133440 ≤ length state) (lc : 8 ≤ length cursor) where
   abbrev k₁ : Kept

@@ -10,8 +10,8 @@ use mathlib.Core.List.{List, [], _∷_}
 use Prim.Native.Nat.{ℕ, _+_, _*_, _/_, _≤_, zero-le}
 use native.Mathlib.Omega.{arith}
 use lib.IntN.{ℤ, pos, negsuc}
-use borrow.Author.Tests.{eqb-true, ltb-false}
-use lib.ListN.{length, take, length-take, replicate, length-replicate}
+use borrow.Author.Tests.{eqb-true, ltb-true, ltb-false}
+use lib.ListN.{length, take, length-take, length-set, replicate, length-replicate}
 use lib.Seq.{length-sets, length-take-le, take-length}
 use Rattle.base.specs.Iter.{iter}
 use Rattle.base.proofs.Loop.{pick-yes, pick-ind, tested}
@@ -19,6 +19,11 @@ use Rattle.base.proofs.Tests.{or-none}
 use Rattle.undo_log.specs.declared.Cursor.{Cursor}
 use Rattle.plan.specs.Words.{verticesOf, edgesOf}
 use Rattle.noting.specs.Buffers.{reasonShort}
+use Rattle.walks.specs.Written.{Out, outOf, pushed, written}
+use Rattle.walks.specs.Answers as walks
+use Rattle.walks.specs.Answers.{given, missing}
+use Rattle.walks.proofs.Written.{written-length}
+use Rattle.runs.specs.Walk.{listed, runListed}
 use Rattle.walks.specs.declared.Listed.{Listed}
 use Rattle.walks.specs.declared.Listed.the-variants.{Past, Missing}
 use Rattle.refusals.specs.Refusals.{stateBad, fetchRefusal}
@@ -28,17 +33,17 @@ use Rattle.calls.specs.Calls as calls
 use Rattle.graph_division.specs.declared.Outcome.{Outcome}
 use Rattle.graph_division.specs.declared.GraphDivision.{GraphDivision}
 use Rattle.graph_division.specs.declared.Answer.{Answer}
-use Rattle.graph_division.specs.declared.Answer.the-variants.{Consistent, Conflict, Noted, Undone, Reason, Refused}
-use Rattle.graph_division.specs.Calls.{Fetched, reasonOver, copied, reasonGiven, giving, reasonFetched, lastFetched}
+use Rattle.graph_division.specs.declared.Answer.the-variants.{Consistent, Conflict, Noted, Undone, Reason, Run, Refused}
+use Rattle.graph_division.specs.Calls.{Fetched, reasonOver, copied, reasonGiven, giving, reasonFetched, lastFetched, runAnswer, bestListed, runFetched}
 use Rattle.graph_division.specs.Answers.{valuesOf, isRefused}
 use Rattle.graph_division.specs.Outcomes.{answerFor, answerOf}
-use Rattle.graph_division.specs.Runs.{Query, reasonFor, lastLeft, Request, initialize, propagate, undo, ask, lentList, Kept, Reply, replied, asked, reply, keeping, after}
+use Rattle.graph_division.specs.Runs.{Query, reasonFor, lastLeft, runBetween, Request, initialize, propagate, undo, ask, lentList, Kept, Reply, replied, asked, reply, keeping, after}
 use Rattle.claims.specs.Whole.{writtenBy, writtenOf, Whole}
 use Rattle.byte_calls.specs.Bytes.{putHalves}
 use Rattle.byte_calls.specs.Codes.{fitted, answerCode, givenBy}
 use Rattle.byte_calls.specs.Layout.{stateIn, cursorIn, logIn, listIn, bufferIn}
 use Rattle.byte_calls.specs.Stores.{putList}
-use Rattle.byte_calls.specs.Host.{Left, leftWith, tooShort, hostInitialized, hostPropagated, Back, back, hostUndone, givenIn, hostReason, hostLast}
+use Rattle.byte_calls.specs.Host.{Left, leftWith, tooShort, hostInitialized, hostPropagated, Back, back, hostUndone, givenIn, hostReason, hostLast, hostRun}
 use Rattle.byte_calls.proofs.Filling.{capped-most, capped-less}
 use Rattle.byte_calls.proofs.Leaving.{list-room}
 use Rattle.host_claims.specs.HostRuns.{keptIn, tailIn, LentFor, Said, saying, hostAsked, HostMade, initializes, propagates, undoes, asks, AllHostMade, none, next, HostAnswers, ShortRefused}
@@ -129,6 +134,7 @@ fits-for calls.noted h l e = zero-le
 fits-for calls.undone h l e = zero-le
 fits-for (calls.refused n) h l e = let z = up-negated (fitted n) in omega (arith, z)
 fits-for (calls.reason ls) h l e = omega (arith, taken-fits ls l e, fitted-less (length ls))
+fits-for (calls.foundRun gs) h l e = omega (arith, taken-fits gs l e, fitted-less (length gs))
 
 answer-fits : (k : Kept) (q : Request) (o : calls.Outcome) → Whole k q o → up (answerCode (reply k q .answer)) ≤ length (lentList q)
 unfolding answerOf
@@ -160,9 +166,10 @@ host-fits {h} {q = q} o w a m n e =
 
 -- ---- bytes that are too short
 short-asked : (state log cursor : List ℕ) → tooShort state cursor ≡ true → (q : Query) (b : List ℕ) → hostAsked state log cursor q b ≡ back (negsuc 6) b
-unfolding hostAsked hostReason hostLast
+unfolding hostAsked hostReason hostLast hostRun
 short-asked state log cursor e (reasonFor lit) b = pick-yes _ _ e
 short-asked state log cursor e lastLeft b = pick-yes _ _ e
+short-asked state log cursor e (runBetween from to) b = pick-yes _ _ e
 
 pub short-refused : (state log cursor : List ℕ) → tooShort state cursor ≡ true → ShortRefused state log cursor
 unfolding hostInitialized hostPropagated hostUndone
@@ -182,6 +189,7 @@ up-code Conflict = zero-le
 up-code Noted = zero-le
 up-code Undone = zero-le
 up-code (Reason n) = fitted-less n
+up-code (Run n) = fitted-less n
 up-code (Refused n) = let z = up-negated (fitted n) in omega (arith, z)
 
 abbrev Within : List ℕ → Fetched → Type 0
@@ -204,9 +212,29 @@ unfolding fetchRefusal
 room-for ws ends noted log n c e =
     or-none (stateBad ws ends noted log c) (reasonShort ws n) (pick-zero (stateBad ws ends noted log c || reasonShort ws n) 7 0 (omega arith) e .0) .1
 
+-- a run goes no further than its buffer
+pushed-place : (x : ℕ) (o : Out) → o .place ≤ length (o .text) → pushed x o .place ≤ length (pushed x o .text)
+unfolding pushed
+pushed-place x o h = pick-ind (λ (z : Out). z .place ≤ length (z .text)) _ _ _
+    (λ t. let k = ltb-true (o .place) (length (o .text)) t in omega (arith, length-set (o .text) (o .place) x)) (λ _. h)
+
+written-place : (l : List ℕ) (o : Out) → o .place ≤ length (o .text) → written l o .place ≤ length (written l o .text)
+unfolding written
+written-place [] o h = h
+written-place (x ∷ l) o h = written-place l (pushed x o) (pushed-place x o h)
+
+listed-within : (x : List (List ℕ)) (b : List ℕ) → givenBy (runAnswer (listed x (outOf b 0) .listed)) ≤ length b
+unfolding listed given missing
+listed-within [] b = zero-le
+listed-within (l ∷ ls) b = let z = written-place l (outOf b 0) zero-le in omega (arith, z, written-length l (outOf b 0))
+
+run-within : (s : GraphDivision) (from to : ℤ) (b : List ℕ) → givenBy (runAnswer (bestListed s from to b .listed)) ≤ length b
+unfolding bestListed runListed missing
+run-within s from to b = pick-ind (λ (a : walks.Answer). givenBy (runAnswer (a .listed)) ≤ length b) _ _ _ (λ _. listed-within _ b) (λ _. zero-le)
+
 -- whatever the state, the log and the cursor are
 pub asked-within : (s : GraphDivision) (c : Cursor) (log : List ℕ) (q : Query) (b : List ℕ) → givenBy (asked s c log q b .answer) ≤ length b
-unfolding asked reasonFetched lastFetched giving
+unfolding asked reasonFetched lastFetched runFetched giving
 asked-within s c log (reasonFor lit) b =
     pick-ind (Within b) _ _ _
     (λ t. pick-ind (Within b) _ _ _
@@ -217,6 +245,7 @@ asked-within s c log lastLeft b =
     pick-ind (Within b) _ _ _
     (λ t. copied-within (s .plan) _ _ b (room-for (s .plan) (s .edges .ends) (s .noted) log (length b) c (eqb-true _ 0 t)))
     (λ _. zero-le)
+asked-within s c log (runBetween from to) b = pick-ind (Within b) _ _ _ (λ _. run-within s from to b) (λ _. zero-le)
 
 given-code : (x : Fetched) (buffer : List ℕ) → givenIn x buffer .code ≡ answerCode (x .answer)
 unfolding givenIn

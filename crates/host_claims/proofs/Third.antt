@@ -20,7 +20,7 @@ use Rattle.judge.specs.Judge.{Judged}
 use Rattle.graph_division.specs.declared.GraphDivision.{GraphDivision}
 use Rattle.graph_division.specs.Calls.{Called, refuse, adding, accepting, handingOn, settledBy, settled, propagated}
 use Rattle.graph_division.specs.declared.Answer.{Answer}
-use Rattle.graph_division.specs.declared.Answer.the-variants.{Consistent, Conflict, Noted, Undone, Reason, Refused}
+use Rattle.graph_division.specs.declared.Answer.the-variants.{Consistent, Conflict, Noted, Undone, Reason, Run, Refused}
 use Rattle.graph_division.specs.Answers.{numberOf, isConsistent}
 use Rattle.graph_division.specs.Runs.{reasonFor, lastLeft, Request, propagate, ask, Kept, Reply, replied, repliedCalled, reply, keeping, after}
 use Rattle.claims.specs.Whole.{literalsOf}
@@ -56,6 +56,7 @@ positive Conflict = false
 positive Noted = false
 positive Undone = true
 positive (Reason n) = true
+positive (Run n) = true
 positive (Refused n) = false
 
 abbrev Once : Called → Type 0
@@ -75,7 +76,7 @@ propagated-once k lit pending t list tail =
     (λ _ e. absurd (false≢true e))
 
 abbrev Ranged : Answer → Type 0
-Ranged a = (i : ℕ) → a ≡ Refused i → (0 < i) × (i ≤ 16)
+Ranged a = (i : ℕ) → a ≡ Refused i → (0 < i) × (i ≤ 18)
 
 code-positive : (a : Answer) → Ranged a → down (answerCode a) ≡ 0 → positive a ≡ true
 unfolding answerCode down positive
@@ -84,6 +85,7 @@ code-positive Conflict h e = absurd (omega arith)
 code-positive Noted h e = absurd (omega arith)
 code-positive Undone h e = refl
 code-positive (Reason n) h e = refl
+code-positive (Run n) h e = refl
 code-positive (Refused m) h e =
     let (a, b) = h m refl in
     let z = sym (down-negated (fitted m) ∙ fitted-is m (omega arith)) ∙ e in
@@ -96,6 +98,7 @@ consistent-code Conflict e = absurd (false≢true e)
 consistent-code Noted e = absurd (false≢true e)
 consistent-code Undone e = absurd (false≢true e)
 consistent-code (Reason n) e = absurd (false≢true e)
+consistent-code (Run n) e = absurd (false≢true e)
 consistent-code (Refused m) e = absurd (false≢true e)
 
 is-accepted : (a : Answer) → Ranged a → IsAccepted (answerCode a) → accepted a ≡ true
@@ -105,6 +108,7 @@ is-accepted Conflict h f = refl
 is-accepted Noted h f = refl
 is-accepted Undone h f = refl
 is-accepted (Reason n) h f = refl
+is-accepted (Run n) h f = refl
 is-accepted (Refused m) h f =
     let (a, b) = h m refl in
     absurd (f m a (omega arith) (ap (λ (i : ℕ). negℤ (pos i)) (fitted-is m (omega arith))))

@@ -20,13 +20,14 @@ use Rattle.graph_division.specs.declared.Outcome.{Outcome}
 use Rattle.graph_division.specs.declared.Answer.{Answer}
 use Rattle.graph_division.specs.declared.Answer.the-variants.{Conflict, Noted, Refused}
 use Rattle.graph_division.specs.Answers.{numberOf}
-use Rattle.graph_division.specs.Runs.{Query, reasonFor, lastLeft, Request, initialize, propagate, undo, ask, tableOf, Kept, kept, reply, after}
+use Rattle.graph_division.specs.Runs.{Query, reasonFor, lastLeft, runBetween, Request, initialize, propagate, undo, ask, tableOf, Kept, kept, reply, after}
 use Rattle.claims.specs.Whole.{literalsOf}
 use Rattle.claims.specs.Conditions.{AllQuiet, standingThen, Condition1, Condition2, Condition3}
+use Rattle.claims.specs.Runs.{RunsBetween}
 use Rattle.byte_calls.specs.Codes.{answerCode, givenBy}
 use Rattle.byte_calls.specs.Layout.{stateIn, cursorIn, logIn, listIn, bufferIn}
 use Rattle.byte_calls.specs.Stores.{putList}
-use Rattle.byte_calls.specs.Host.{leftWith, tooShort, initializedIn, hostInitialized, propagatedIn, hostPropagated, Back, back, undoneIn, hostUndone, hostReason, hostLast}
+use Rattle.byte_calls.specs.Host.{leftWith, tooShort, initializedIn, hostInitialized, propagatedIn, hostPropagated, Back, back, undoneIn, hostUndone, hostReason, hostLast, hostRun}
 use Rattle.byte_calls.specs.After.{Leaves}
 
 -- what the bytes of a state, of a cursor and of a log keep from call to call, and the log's entries from the cursor on
@@ -59,10 +60,11 @@ pub record Said : Type 0 where
 abbrev pub saying : ℤ → List ℕ → List ℕ → Said
 saying r table list = record { code = r; table = table; list = list }
 
--- the two fetches
+-- the two fetches, and the run
 unfoldable pub hostAsked : List ℕ → List ℕ → List ℕ → Query → List ℕ → Back
 hostAsked state log cursor (reasonFor lit) buffer = hostReason state log cursor lit buffer
 hostAsked state log cursor lastLeft buffer = hostLast state log cursor buffer
+hostAsked state log cursor (runBetween from to) buffer = hostRun state log cursor from to buffer
 
 -- a call of the host with its contract, where k is kept: the request that it is, the bytes of its list or its reason buffer before it, what it
 -- says, and what its bytes keep then. The primed ones are the bytes after it.
@@ -89,8 +91,9 @@ pub data AllHostMade : Kept → List Request → Kept → Type 0 where
   next : {k mid end : Kept} {q : Request} {qs : List Request} {list : List ℕ} {x : Said} →
       HostMade k q list x mid → AllHostMade mid qs end → AllHostMade k (q ∷ qs) end
 
--- number and bytes are those of the reply to request q where k is kept: the answer's number, the table, and the literals, two bytes each, from
--- the start of the list or the reason buffer on; all else of it stays
+-- number and bytes are those of the reply to request q where k is kept: the answer's number, the table, and the
+-- literals, or the edges of the run, two bytes each, from the start of the list or the reason buffer on; all else of it
+-- stays
 pub record HostAnswers (k : Kept) (q : Request) (list : List ℕ) (x : Said) : Type 0 where
   pub code : x .code ≡ answerCode (reply k q .answer)
   pub table : x .table ≡ reply k q .table
@@ -104,7 +107,7 @@ pub record Tells (r : ℤ) (a : Answer) : Type 0 where
   pub refused : (n : ℕ) → 0 < n → n < 100 → r ≡ negℤ (pos n) → a ≡ Refused n
   pub accepted : (n : ℕ) → r ≡ pos n → numberOf a ≡ 0
 
--- the first n literals that stand in the bytes, two each, the lower byte first
+-- the first n literals, or edges of a run, that stand in the bytes, two each, the lower byte first
 unfoldable pub literalsAt : List ℕ → ℕ → List ℕ
 literalsAt b n = tab (λ i. getD b (2 * i) 0 + 256 * getD b (2 * i + 1) 0) n
 
@@ -154,13 +157,15 @@ pub record HostConditions (sameSize extraWalls : ℤ) (start : Kept) (d : Plan) 
       AllHostMade start qs k → HostMade k q list x k′ → HostAnswers (after start qs) q list x
   pub tells : {qs : List Request} {k k′ : Kept} {q : Request} {list : List ℕ} {x : Said} →
       AllHostMade start qs k → HostMade k q list x k′ → Tells (x .code) (reply (after start qs) q .answer)
-  -- and a number of literals is no more than the list or the reason buffer has entries
+  -- and a number of literals, or of edges, is no more than the list or the reason buffer has entries
   pub fits : {qs : List Request} {k k′ : Kept} {q : Request} {list : List ℕ} {x : Said} →
       AllHostMade start qs k → HostMade k q list x k′ → (n : ℕ) → x .code ≡ pos n → 2 * n ≤ length list
-  -- the literals that it gives, handed on or fetched, are read from those bytes, as many as the number says
+  -- the literals that it gives, handed on or fetched, or the edges of its run, are read from those bytes, as many as
+  -- the number says
   pub reads : {qs : List Request} {k k′ : Kept} {q : Request} {list : List ℕ} {x : Said} →
       AllHostMade start qs k → HostMade k q list x k′ → (n : ℕ) → x .code ≡ pos n → literalsAt (x .list) n ≡ literalsOf (reply (after start qs) q)
-  -- of these replies the conditions speak
+  -- of these replies the conditions speak, and document 02, request 1
+  pub runs-between : RunsBetween start d
   pub condition-1 : Condition1 start d
   pub condition-2 : Condition2 start d
   -- "Both options off"

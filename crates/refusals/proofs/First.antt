@@ -1,6 +1,6 @@
 -- The number that a test answers is the first of the table of refusals that applies to the abstract call.
 use mathlib.Core.Path.{_≡_, refl, sym, ap, _∙_}
-use mathlib.Core.Bool.{Bool, true, false, not, _||_, true≢false}
+use mathlib.Core.Bool.{Bool, true, false, not, _||_, true≢false, false≢true}
 use mathlib.Core.List.{List, [], _∷_}
 use Prim.Native.Nat.{ℕ, zero, suc, _≤_, _<_}
 use native.Mathlib.Omega.{arith}
@@ -10,10 +10,10 @@ use lib.ListN.{length, getD}
 use borrow.Author.Tests.{ne-eqb, eq-eqb, ltb-false}
 use Rattle.base.specs.Iter.{pick}
 use Rattle.base.proofs.Loop.{pick-yes, pick-no}
-use Rattle.base.proofs.Tests.{or-none, not-false}
+use Rattle.base.proofs.Tests.{or-none, and-left, and-right, not-false}
 use Rattle.undo_log.specs.declared.Cursor.{Cursor}
 use Rattle.plan.specs.Plan.{planOf}
-use Rattle.division.specs.Plan.{Plan}
+use Rattle.division.specs.Plan.{Plan, Proper}
 use Rattle.noting.specs.Note.{noting}
 use Rattle.noting.specs.Buffers.{reasonShort}
 use Rattle.noting.specs.Standing.{standingOf}
@@ -21,7 +21,8 @@ use Rattle.calls.specs.Table.{knows, variables, tooHigh, badTable}
 use Rattle.calls.specs.Calls.{World, Query, reasonFor, lastLeft, Call, initialize, propagate, undo, ask, accepted, Outcome, refuse, answerTo, tell, call}
 use Rattle.calls.specs.Refusals.{roomOf, BadTable, Stops, at12, at13, at14, AppliesTo, Applies, First}
 use Rattle.calls.proofs.Known.{known}
-use Rattle.calls.proofs.Refusals.{refusals, acceptances}
+use Rattle.calls.proofs.Queries.{isRun}
+use Rattle.calls.proofs.Refusals.{asksRun, refusals, acceptances}
 use Rattle.refusals.specs.Refusals.{stateBad, literalRefusal, initializeRefusal, propagateRefusal, undoRefusal, fetchRefusal}
 use Rattle.refusals.specs.Calls.{litGiven, tableRoom, stateRoom, fetchRoom, refusedOr, takenBack}
 use Rattle.refusals.proofs.State.{state-proper}
@@ -29,15 +30,15 @@ use Rattle.refusals.proofs.Numbers.{literal-is, initialize-is, fetch-is
 use Rattle.refusals.proofs.Accepted.{pick-zero}
 use Rattle.refusals.proofs.Calls.{initialize-call, propagate-call, undo-call, ask-call, reason-call}
 
-module _ (d : Plan) (w : World) (c : Call) where
+module _ (d : Plan) (w : World) (c : Call) (pr : asksRun c ≡ true → Proper d) where
   numbered : (n : ℕ) (t : List ℕ) (o : Outcome) → call d c w ≡ refusedOr n w t o → 0 < n → First d w c n
   unfolding refusedOr refuse
-  numbered n t o e h = refusals d w c n .0 (ap (λ (x : Outcome). x .answer) (e ∙ pick-no _ _ (ne-eqb n 0 (λ (z : n ≡ 0). omega arith))))
+  numbered n t o e h = refusals d w c pr n .0 (ap (λ (x : Outcome). x .answer) (e ∙ pick-no _ _ (ne-eqb n 0 (λ (z : n ≡ 0). omega arith))))
 
   -- 0 where what is then done is accepted: none applies
   cleared : (n : ℕ) (t : List ℕ) (o : Outcome) → call d c w ≡ refusedOr n w t o → n ≡ 0 → accepted (o .answer) ≡ true → (m : ℕ) → Applies d w c m → ⊥
   unfolding refusedOr
-  cleared n t o e z a = acceptances d w c .0 (ap (λ (x : Outcome). accepted (x .answer)) (e ∙ pick-yes _ _ (eq-eqb n 0 z)) ∙ a)
+  cleared n t o e z a = acceptances d w c pr .0 (ap (λ (x : Outcome). accepted (x .answer)) (e ∙ pick-yes _ _ (eq-eqb n 0 z)) ∙ a)
 
 -- 7 to 11 do not depend on the pending number
 stops-late : {d : Plan} {ls t : List ℕ} {n : ℕ} → Stops d ls t n → 11 < n
@@ -87,8 +88,8 @@ module _ (ws : List ℕ) (ends : List (List ℕ)) (words log : List ℕ) (c : Cu
 
   pub initialize-first : (t : List ℕ) (n : ℕ) → 0 < initializeRefusal ws ends words t n log c (w .done) →
       First d w (initialize (tableRoom ws ends words n log c) t) (initializeRefusal ws ends words t n log c (w .done))
-  unfolding call
-  initialize-first t n h = numbered d w (initialize (tableRoom ws ends words n log c) t) _ t _ (initialize-call ws ends words log c w t n) h
+  unfolding call asksRun
+  initialize-first t n h = numbered d w (initialize (tableRoom ws ends words n log c) t) (λ e. absurd (false≢true e)) _ t _ (initialize-call ws ends words log c w t n) h
 
   -- where it is 0, neither 7 nor 8 applies; 10 and on are left to the work
   pub initialize-none : (t : List ℕ) (n : ℕ) → initializeRefusal ws ends words t n log c (w .done) ≡ 0 → (m : ℕ) → m ≤ 8 → Applies d w (initialize (tableRoom ws ends words n log c) t) m → ⊥
@@ -99,17 +100,20 @@ module _ (ws : List ℕ) (ends : List (List ℕ)) (words log : List ℕ) (c : Cu
 
   -- a query that is lent a reason buffer
   pub ask-first : (n : ℕ) (q : Query) → 0 < fetchRefusal ws ends words n log c → First d w (ask (fetchRoom ws ends words n log c) q) (fetchRefusal ws ends words n log c)
-  unfolding call
-  ask-first n q h = numbered d w (ask (fetchRoom ws ends words n log c) q) _ [] _ (ask-call ws ends words log c w n q) h
+  unfolding call asksRun
+  ask-first n q h =
+      numbered d w (ask (fetchRoom ws ends words n log c) q)
+      (λ e. let z = fetch-is ws ends words log c w n ∙ pick-no 7 0 (ap not (and-left (fetchRoom ws ends words n log c) (isRun q) e)) in absurd (omega arith)) _ [] _ (ask-call ws ends words log c w n q) h
 
   pub last-none : (n : ℕ) → fetchRefusal ws ends words n log c ≡ 0 → (m : ℕ) → Applies d w (ask (fetchRoom ws ends words n log c) lastLeft) m → ⊥
-  unfolding call answerTo tell accepted
-  last-none n z = cleared d w (ask (fetchRoom ws ends words n log c) lastLeft) _ [] _ (ask-call ws ends words log c w n lastLeft) z refl
+  unfolding call answerTo tell accepted asksRun isRun
+  last-none n z = cleared d w (ask (fetchRoom ws ends words n log c) lastLeft) (λ e. absurd (false≢true (and-right (fetchRoom ws ends words n log c) false e))) _ [] _ (ask-call ws ends words log c w n lastLeft) z refl
 
   -- a fetch by literal whose buffers pass
   pub reason-unknown : (n : ℕ) (l : ℤ) → fetchRefusal ws ends words n log c ≡ 0 → 0 < literalRefusal ws l → First d w (ask (fetchRoom ws ends words n log c) (reasonFor (litGiven l))) (literalRefusal ws l)
-  unfolding call refusedOr
-  reason-unknown n l z h = numbered d w (ask (fetchRoom ws ends words n log c) (reasonFor (litGiven l))) _ [] _ (reason-call ws ends words log c w n l ∙ pick-yes _ _ (eq-eqb (fetchRefusal ws ends words n log c) 0 z)) h
+  unfolding call refusedOr asksRun isRun
+  reason-unknown n l z h =
+      numbered d w (ask (fetchRoom ws ends words n log c) (reasonFor (litGiven l))) (λ e. absurd (false≢true (and-right (fetchRoom ws ends words n log c) false e))) _ [] _ (reason-call ws ends words log c w n l ∙ pick-yes _ _ (eq-eqb (fetchRefusal ws ends words n log c) 0 z)) h
 
   -- where both are 0, none up to 9 applies; 15 and 16 are left to the work
   pub reason-none : (n : ℕ) (l : ℤ) → fetchRefusal ws ends words n log c ≡ 0 → literalRefusal ws l ≡ 0 →
@@ -124,21 +128,21 @@ module _ (ws : List ℕ) (ends : List (List ℕ)) (words log : List ℕ) (c : Cu
   module _ (s : w .standing ≡ standingOf (noting words log c)) (l : ℤ) where
     pub propagate-first : (t : List ℕ) (n : ℕ) (pending : Bool) → 0 < propagateRefusal ws ends words t n log c l →
         First d w (propagate (tableRoom ws ends words n log c) t (litGiven l) pending) (propagateRefusal ws ends words t n log c l)
-    unfolding call
-    propagate-first t n pending h = numbered d w (propagate (tableRoom ws ends words n log c) t (litGiven l) pending) _ t _ (propagate-call ws ends words log c w s l t n pending) h
+    unfolding call asksRun
+    propagate-first t n pending h = numbered d w (propagate (tableRoom ws ends words n log c) t (litGiven l) pending) (λ e. absurd (false≢true e)) _ t _ (propagate-call ws ends words log c w s l t n pending) h
 
     -- where it is 0, none up to 11 applies
     pub propagate-none : (t : List ℕ) (n : ℕ) (pending : Bool) → propagateRefusal ws ends words t n log c l ≡ 0 →
         (m : ℕ) → m ≤ 11 → Applies d w (propagate (tableRoom ws ends words n log c) t (litGiven l) pending) m → ⊥
-    unfolding call accepted
+    unfolding call accepted asksRun
     propagate-none t n pending z m h a =
-        cleared d w (propagate (tableRoom ws ends words n log c) t (litGiven l) true) _ t _ (propagate-call ws ends words log c w s l t n true ∙ ap (refusedOr (propagateRefusal ws ends words t n log c l) w t) (pick-yes _ _ refl)) z refl m
+        cleared d w (propagate (tableRoom ws ends words n log c) t (litGiven l) true) (λ e. absurd (false≢true e)) _ t _ (propagate-call ws ends words log c w s l t n true ∙ ap (refusedOr (propagateRefusal ws ends words t n log c l) w t) (pick-yes _ _ refl)) z refl m
         (pended h a)
 
     pub undo-first : 0 < undoRefusal ws ends words log c l → First d w (undo (stateRoom ws ends words log c) (litGiven l)) (undoRefusal ws ends words log c l)
-    unfolding call
-    undo-first h = numbered d w (undo (stateRoom ws ends words log c) (litGiven l)) _ [] _ (undo-call ws ends words log c w s l) h
+    unfolding call asksRun
+    undo-first h = numbered d w (undo (stateRoom ws ends words log c) (litGiven l)) (λ e. absurd (false≢true e)) _ [] _ (undo-call ws ends words log c w s l) h
 
     pub undo-none : undoRefusal ws ends words log c l ≡ 0 → (m : ℕ) → Applies d w (undo (stateRoom ws ends words log c) (litGiven l)) m → ⊥
-    unfolding call takenBack accepted
-    undo-none z = cleared d w (undo (stateRoom ws ends words log c) (litGiven l)) _ [] _ (undo-call ws ends words log c w s l) z refl
+    unfolding call takenBack accepted asksRun
+    undo-none z = cleared d w (undo (stateRoom ws ends words log c) (litGiven l)) (λ e. absurd (false≢true e)) _ [] _ (undo-call ws ends words log c w s l) z refl

@@ -14,11 +14,17 @@ use Rattle.base.specs.Lists.{tab}
 use Rattle.base.proofs.Loop.{pick-yes, pick-no, tested}
 use Rattle.undo_log.specs.declared.Cursor.{Cursor}
 use Rattle.division.specs.Reasons as abstract
+use Rattle.division.specs.State.{potential}
 use Rattle.division.specs.Noting.{noteAll}
 use Rattle.division.specs.Runs as runs
 use Rattle.division.specs.Agree.{SameState}
 use Rattle.division.proofs.Alike.{list-same}
 use Rattle.division.proofs.Whole.{each-found}
+use Rattle.graph.specs.Bounds.{Fine}
+use Rattle.graph.proofs.Walkable.{fine-walkable}
+use Rattle.runs.specs.Walk.{bestRun, listed, runListed, vertexGiven}
+use Rattle.runs.proofs.Given.{given-best}
+use Rattle.runs.proofs.Same.{same-given}
 use Rattle.plan.specs.Words.{word, verticesOf, edgesOf}
 use Rattle.plan.proofs.Abstract.{proper-plan}
 use Rattle.noting.specs.Words.{stateOf}
@@ -49,8 +55,8 @@ use Rattle.refusals.proofs.Accepted.{KnownLit, literal-accepted, fetch-accepted
 use Rattle.refusals.proofs.Calls.{ask-call, reason-call}
 use Rattle.graph_division.specs.declared.GraphDivision.{GraphDivision}
 use Rattle.graph_division.specs.declared.Answer.the-variants as answer
-use Rattle.graph_division.specs.Calls.{Fetched, fetched, copied, reasonGiven, isNone, reasonOver, lastFetched, recordedFor, listFor, giving, reasonFetched}
-use Rattle.graph_division.specs.Runs.{Query, reasonFor, lastLeft, asked, queryOf, bufferShort}
+use Rattle.graph_division.specs.Calls.{Fetched, fetched, copied, reasonGiven, isNone, reasonOver, lastFetched, recordedFor, listFor, giving, reasonFetched, runAnswer, bestListed, runFetched}
+use Rattle.graph_division.specs.Runs.{Query, reasonFor, lastLeft, runBetween, asked, queryOf, bufferShort}
 use Rattle.graph_division.specs.Outcomes.{answerFor, answerOf}
 use Rattle.simulation.specs.Start.{statePlan}
 use Rattle.simulation.specs.Represents.{Represents, SimulatesFetched}
@@ -105,6 +111,10 @@ module _ (s : GraphDivision) (log : List ℕ) (c : Cursor) (w : World) (r : Repr
   unfolding calls.tell answerOf answerFor answerList
   gives m h = record { answer = refl; buffer = refl; whole = list-taken m b h; represents = r }
 
+  gives-run : (m : List ℕ) → length m ≤ length b → SimulatesFetched s log c b (fetched (answer.Run (length m)) (sets b 0 m)) (calls.tell w (calls.foundRun m))
+  unfolding calls.tell answerOf answerFor answerList
+  gives-run m h = record { answer = refl; buffer = refl; whole = list-taken m b h; represents = r }
+
   buffer-long : number ≡ 0 → edgesOf ws + 2 * verticesOf ws + 4 ≤ length b
   unfolding reasonShort
   buffer-long e = ltb-false (length b) (edgesOf ws + 2 * verticesOf ws + 4) (fetch-accepted ws ends (s .noted) log c (r .valid .words) (length b) e .1)
@@ -132,6 +142,31 @@ module _ (s : GraphDivision) (log : List ℕ) (c : Cursor) (w : World) (r : Repr
     -- the noted words are the state of what stands
     same : SameState (statePlan s) (stateOf (s .noted)) (noteAll (statePlan s) (w .standing))
     same = subst (λ (ls : List ℕ). SameState (statePlan s) (stateOf (s .noted)) (noteAll (statePlan s) ls)) (sym (r .standing)) (valid-state ws ends (r .proper) (noting (s .noted) log c) (r .valid))
+
+    -- a run: the edges are the plan's, and the states those of what stands
+    module _ (from to : ℤ) where
+      abbrev best : List (List ℕ)
+      best = bestRun (potential (statePlan s) (noteAll (statePlan s) (w .standing))) (edgesOf ws) (verticesOf ws) (vertexGiven from) (vertexGiven to)
+
+      fine : Fine (verticesOf ws) (edgesOf ws) ends
+      fine = proper-plan ws ends (r .proper) .fine
+
+      run-is : bestListed s from to b ≡ listed best (outOf b 0)
+      unfolding bestListed runListed
+      run-is =
+          pick-yes _ _ (fine-walkable ends (s .noted) (edgesOf ws) (verticesOf ws) fine (omega (arith, r .valid .words, fine .fits)))
+          ∙ ap (λ (x : List (List ℕ)). listed x (outOf b 0)) (same-given ends (edgesOf ws) (verticesOf ws) fine (s .noted) _ (same .edge) (vertexGiven from) (vertexGiven to))
+
+      run-by : (x : List (List ℕ)) → best ≡ x → SimulatesFetched s log c b (fetched (runAnswer (listed x (outOf b 0) .listed)) (listed x (outOf b 0) .text)) (calls.tell w (calls.giveRun x))
+      unfolding listed walks.missing calls.giveRun calls.tell calls.refuse
+      run-by [] x = refused 18
+      run-by (gs ∷ rest) x =
+          let i = given-best (potential (statePlan s) (noteAll (statePlan s) (w .standing))) (edgesOf ws) (verticesOf ws) fine (vertexGiven from) (vertexGiven to) gs rest x .0 in
+          let h : length gs ≤ length b = omega (arith, i .few, buffer-long e) in
+          fetched-by (ap (λ (a : walks.Answer). fetched (runAnswer (a .listed)) (a .text)) (given-whole gs b h)) refl (gives-run gs h)
+
+      given-run : SimulatesFetched s log c b (fetched (runAnswer (bestListed s from to b .listed)) (bestListed s from to b .text)) (calls.tell w (calls.giveRun best))
+      given-run = fetched-by (ap (λ (a : walks.Answer). fetched (runAnswer (a .listed)) (a .text)) run-is) refl (run-by best refl)
 
     -- a reason that is recorded: its list, or 16
     module _ (why : Reason) (q : abstract.Reason) (m : meaning why ≡ q ∷ []) (i : Within (statePlan s) q) where
@@ -194,6 +229,15 @@ module _ (s : GraphDivision) (log : List ℕ) (c : Cursor) (w : World) (r : Repr
       (λ u. fetched-by (pick-yes _ _ t ∙ pick-no _ _ u) (f ∙ pick-yes _ _ t ∙ pick-no _ _ u) (refused (literalRefusal ws lit))))
       (λ t. fetched-by (pick-no _ _ t) (f ∙ pick-no _ _ t) (refused number))
 
+  pub run-simulated : (from to : ℤ) →
+      SimulatesFetched s log c b (runFetched s c log from to b) (calls.onAsk (statePlan s) w (fetchRoom ws ends (s .noted) (length b) log c) (calls.runBetween (vertexGiven from) (vertexGiven to)))
+  unfolding runFetched refusedOr calls.answerTo
+  run-simulated from to =
+      let f = ask-call ws ends (s .noted) log c w (length b) (calls.runBetween (vertexGiven from) (vertexGiven to)) in
+      tested (eqb number 0)
+      (λ t. fetched-by (pick-yes _ _ t) (f ∙ pick-yes _ _ t) (given-run (eqb-true number 0 t) from to))
+      (λ t. fetched-by (pick-no _ _ t) (f ∙ pick-no _ _ t) (refused number))
+
   -- a query that is lent a reason buffer: of what refusal 7 asks, only its length is left
   by-length : (x : Fetched) (q : calls.Query) → SimulatesFetched s log c b x (calls.onAsk (statePlan s) w (fetchRoom ws ends (s .noted) (length b) log c) q) →
       SimulatesFetched s log c b x (calls.onAsk (statePlan s) w (not (reasonShort ws (length b))) q)
@@ -203,3 +247,4 @@ module _ (s : GraphDivision) (log : List ℕ) (c : Cursor) (w : World) (r : Repr
   unfolding asked bufferShort queryOf
   asked-simulated (reasonFor lit) = by-length _ _ (reason-simulated lit)
   asked-simulated lastLeft = by-length _ _ last-simulated
+  asked-simulated (runBetween from to) = by-length _ _ (run-simulated from to)

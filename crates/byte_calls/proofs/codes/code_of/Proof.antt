@@ -29,6 +29,12 @@ count-code-requires-2 c κs = search needs
 enum-known-answer-3 : tie.Need-enum-known-answer-3
 enum-known-answer-3 c = search needs
 
+count-code-requires-3 : tie.Need-count-code-requires-3
+count-code-requires-3 c κs = search needs
+
+enum-known-answer-4 : tie.Need-enum-known-answer-4
+enum-known-answer-4 c = search needs
+
 refusal-code-requires : tie.Need-refusal-code-requires
 refusal-code-requires c κs = search needs
 
@@ -54,7 +60,11 @@ returns-5 c = code-back (c .before .before .before .before .args .answer) _ ((c 
 
 returns-6 : tie.Need-returns-6
 unfolding answerCode
-returns-6 c = code-back (c .before .before .before .before .args .answer) _ ((c .refusal-code .ensures) ∙ sym (ap answerCode ((c .before .before .answer3 .given .1))))
+returns-6 c = code-back (c .before .before .before .before .args .answer) _ ((c .count-code3 .ensures) ∙ sym (ap answerCode ((c .before .before .answer3 .given .1))))
+
+returns-7 : tie.Need-returns-7
+unfolding answerCode
+returns-7 c = code-back (c .before .before .before .before .args .answer) _ ((c .refusal-code .ensures) ∙ sym (ap answerCode ((c .before .before .answer4 .given .1))))
 
 pub code-of-spec : {M : Type 1} → statement M
 code-of-spec =
@@ -68,10 +78,13 @@ code-of-spec =
     enum-known-answer-2
     count-code-requires-2
     enum-known-answer-3
+    count-code-requires-3
+    enum-known-answer-4
     refusal-code-requires
     returns
     returns-2
     returns-3
     returns-4
     returns-5
-    returns-6)
+    returns-6
+    returns-7)

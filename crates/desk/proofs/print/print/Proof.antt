@@ -39,6 +39,12 @@ print-first-requires-5 c κs = search needs
 enum-known-a-3 : tie.Need-enum-known-a-3
 enum-known-a-3 c = search needs
 
+print-first-requires-6 : tie.Need-print-first-requires-6
+print-first-requires-6 c κs = search needs
+
+enum-known-a-4 : tie.Need-enum-known-a-4
+enum-known-a-4 c = search needs
+
 print-refusal-requires : tie.Need-print-refusal-requires
 print-refusal-requires c κs = search needs
 
@@ -82,7 +88,14 @@ same-length-6 c = search needs
 
 returns-6 : tie.Need-returns-6
 unfolding lineOf letterOf numbersIn valuesOf
-returns-6 c = shown-as ((c .before .before .before .before .before .before .before .before .before .args .values) .now) _ _ ((c .before .before .before .before .before .before .before .before .before .args .out) .now) _ _ (c .before .before .before .before .before .a3 .given .1) (c .before .before .print-refusal .ensures)
+returns-6 c = shown-as ((c .before .before .before .before .before .before .before .before .before .args .values) .now) _ _ ((c .before .before .before .before .before .before .before .before .before .args .out) .now) _ _ (c .before .before .before .before .before .a3 .given .1) (c .before .before .print-first6 .ensures)
+
+same-length-7 : tie.Need-same-length-7
+same-length-7 c = search needs
+
+returns-7 : tie.Need-returns-7
+unfolding lineOf letterOf numbersIn valuesOf
+returns-7 c = shown-as ((c .before .before .before .before .before .before .before .before .before .args .values) .now) _ _ ((c .before .before .before .before .before .before .before .before .before .args .out) .now) _ _ (c .before .before .before .before .before .a4 .given .1) (c .before .before .print-refusal .ensures)
 
 pub print-spec : {M : Type 1} → statement M
 print-spec =
@@ -99,6 +112,8 @@ print-spec =
     enum-known-a-2
     print-first-requires-5
     enum-known-a-3
+    print-first-requires-6
+    enum-known-a-4
     print-refusal-requires
     same-length
     returns
@@ -111,4 +126,6 @@ print-spec =
     same-length-5
     returns-5
     same-length-6
-    returns-6)
+    returns-6
+    same-length-7
+    returns-7)

@@ -1,0 +1,23 @@
+use mir.Facts.{toZ-ofZ}
+use Rattle.by_value.proofs.Shell.{run-shell}
+use borrow.Author.Needs.{needs}
+use Rattle.by_value.proofs.run.run.Statement.{statement}
+use Rattle.by_value.proofs.run.run.Tie as tie
+
+table-of-requires : tie.Need-table-of-requires
+table-of-requires c κs = search needs
+
+run-requires : tie.Need-run-requires
+run-requires c κs = search needs
+
+same-length : tie.Need-same-length
+same-length c = search needs
+
+returns : tie.Need-returns
+returns c =
+    let t = c .before .before .before .before .before .before .before in
+    let a = t .before .before .before .before in
+    run-shell (a .args .t1) _ _ (t .table-of .ensures) _ _ _ _ _ _ _ (toZ-ofZ (a .fits .from)) (toZ-ofZ (a .fits .to)) (c .before .before .run .ensures)
+
+pub run-spec : {M : Type 1} → statement M
+run-spec = tie.close (tie.spec table-of-requires run-requires same-length returns)

@@ -1,0 +1,10 @@
+pub mod Best
+pub mod Rounds
+pub mod Eased
+pub mod Small
+pub mod Next
+pub mod Settled
+pub mod Answers
+pub mod Given
+pub mod Same
+pub mod Cases

@@ -1,0 +1,4 @@
+pub mod Run
+pub mod Rounds
+pub mod Walk
+pub mod Small
