@@ -53,7 +53,8 @@ propagatedIn state t list log cursor lit pending = propagated (stateIn state) (c
 
 unfoldable pub hostPropagated : List ℕ → List ℕ → List ℕ → List ℕ → List ℕ → ℤ → ℤ → Left
 hostPropagated state t list log cursor lit pending =
-    pick (tooShort state cursor) (leftWith short t list log cursor) (leftOf (cursorIn cursor) (propagatedIn state t list log cursor lit pending) list log cursor)
+    pick (tooShort state cursor) (leftWith short t list log cursor)
+    (leftOf (cursorIn cursor) (propagatedIn state t list log cursor lit pending) list log cursor)
 
 -- `calls::initialize`
 unfoldable pub initializedIn : List ℕ → List ℕ → List ℕ → List ℕ → List ℕ → Called

@@ -76,7 +76,9 @@ pub(crate) fn finish(
 ) -> i32
     requires { ⌜ (133440 ≤ length (now state)) × (length (now noted) ≡ 384) × (length (now proposals) ≡ 8704) × (length (now words) ≡ 260)
         × (2 * length (now lits) ≤ length (now list)) × (8 * length (now records) ≤ length (now log)) × (8 ≤ length (now cursor)) ⌝ }
-    ensures { λ r. ⌜ leftWith r [] (now (list .exit)) (now (log .exit)) (now (cursor .exit)) ≡ leftBy (done .answer) «before» (done .cursor) [] (now (lits .entry)) (now (records .entry)) (now (list .entry)) (now (log .entry)) (now (cursor .entry)) ⌝ }
+    ensures { λ r. ⌜ leftWith r [] (now (list .exit)) (now (log .exit)) (now (cursor .exit)) ≡
+        leftBy (done .answer) «before» (done .cursor) [] (now (lits .entry)) (now (records .entry))
+        (now (list .entry)) (now (log .entry)) (now (cursor .entry)) ⌝ }
     ensures { λ _. ⌜ (isRefused (done .answer) ≡ true → now (state .exit) ≡ now (state .entry)) ⌝ }
     ensures { λ _. ⌜ (isRefused (done .answer) ≡ false → now (plan .entry) ≡ planIn (now (state .entry)) → stateAfter (stateIn (now (state .entry))) (now (noted .entry)) (now (proposals .entry)) (now (words .entry)) done .«last_len» < 4294967296 →
         stateIn (now (state .exit)) ≡ stateAfter (stateIn (now (state .entry))) (now (noted .entry)) (now (proposals .entry)) (now (words .entry)) done) ⌝ }

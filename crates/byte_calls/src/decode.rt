@@ -112,7 +112,9 @@ fn read_cursor(cursor: &[u8]) -> Cursor
 // The log's records up to the cursor.
 fn read_log(log: &[u8], cursor: Cursor, records: &mut [u64])
     requires { ⌜ length (now records) ≡ 4352 ⌝ }
-    ensures { λ _. ⌜ now (records .exit) ≡ filled 0 (capped (cursor .used) (usedEntries (length (now (log .entry)) / 8))) (λ i. longAt (now (log .entry)) (8 * i)) (now (records .entry)) ⌝ }
+    ensures { λ _. ⌜ now (records .exit) ≡
+        filled 0 (capped (cursor .used) (usedEntries (length (now (log .entry)) / 8)))
+        (λ i. longAt (now (log .entry)) (8 * i)) (now (records .entry)) ⌝ }
 {
     let used = cursor.used;
     let n = capped(used, room_of(log.len() / 8));

@@ -7,7 +7,9 @@ use Rattle.base.specs.Iter.{pick}
 use Rattle.base.specs.Lists.{tab}
 use Rattle.division.specs.Plan.{Plan}
 use Rattle.calls.specs.Table.{unsetIn, enter, variables}
-use Rattle.calls.specs.Calls.{World, built, initialize, propagate, undo, reasonFor, lastLeft, ask, Answer, consistent, conflicting, noted, undone, refused, reason, foundRun, accepted, Outcome, call}
+use Rattle.calls.specs.Calls.{World, built, initialize, propagate, undo, reasonFor, lastLeft, ask, Answer}
+use Rattle.calls.specs.Calls.{consistent, conflicting, noted, undone, refused, reason, foundRun, accepted}
+use Rattle.calls.specs.Calls.{Outcome, call}
 
 pub data Line : Type 0 where
   value : (v code : ℕ) → Line

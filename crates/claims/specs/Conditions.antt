@@ -28,7 +28,9 @@ use Rattle.graph_division.specs.declared.Answer.the-variants.{Consistent, Confl
 use Rattle.graph_division.specs.New.{built}
 use Rattle.graph_division.specs.Answers.{numberOf, isConsistent}
 use Rattle.graph_division.specs.Calls.{refuse}
-use Rattle.graph_division.specs.Runs.{Query, reasonFor, lastLeft, Request, initialize, propagate, undo, ask, tableOf, lentList, tailOf, Kept, logFor, Reply, replied, reply, keeping, after, callOf, callsOf}
+use Rattle.graph_division.specs.Runs.{Query, reasonFor, lastLeft, Request, initialize, propagate, undo, ask, tableOf}
+use Rattle.graph_division.specs.Runs.{lentList, tailOf, Kept, logFor, Reply, replied, reply, keeping, after, callOf}
+use Rattle.graph_division.specs.Runs.{callsOf}
 use Rattle.simulation.specs.Start.{statePlan, justBuilt}
 use Rattle.claims.specs.Whole.{literalsOf, Whole}
 

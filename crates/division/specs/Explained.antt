@@ -12,7 +12,10 @@ use Rattle.graph.specs.Search.{Graph}
 use Rattle.division.specs.Plan.{Plan, left, right}
 use Rattle.division.specs.Regions.{within}
 use Rattle.division.specs.State.{State, decided, Same, decidedWeight, potentialWeight}
-use Rattle.division.specs.Reasons.{connectedLit, Reason, edgeInSameGroup, edgeBetweenDifferentGroups, tooLargeIfRegionsAreMerged, regionAlreadyLarge, regionAlreadySmall, inconsistentBoundsIfRegionsAreMerged, boundPropagationWithinRegion, adjacentSameSizeRegions}
+use Rattle.division.specs.Reasons.{connectedLit, Reason, edgeInSameGroup, edgeBetweenDifferentGroups}
+use Rattle.division.specs.Reasons.{tooLargeIfRegionsAreMerged, regionAlreadyLarge, regionAlreadySmall}
+use Rattle.division.specs.Reasons.{inconsistentBoundsIfRegionsAreMerged, boundPropagationWithinRegion}
+use Rattle.division.specs.Reasons.{adjacentSameSizeRegions}
 use Rattle.division.specs.Noted.{Lower, Upper}
 
 -- the weight of two regions together
@@ -28,7 +31,8 @@ pub data Explains (d : Plan) (s : State) (l : ℕ) : Reason → Type 0 where
   byTooLarge : (g : ℕ) (ls : List ℕ) (w b : ℕ) → g < d .edges → l ≡ d .edgeLit g → w < d .vertices →
       Same d s (left d g) w ⊎ Same d s (right d g) w → Upper d w b ls → b < mergedWeight d (decided d s) (left d g) (right d g) →
       Explains d s l (tooLargeIfRegionsAreMerged g ls)
-  byLarge : (v j : ℕ) → v < d .vertices → suc j < d .domainLen v → l ≡ d .domLit v j → d .domain v j < decidedWeight d s v → Explains d s l (regionAlreadyLarge v)
+  byLarge : (v j : ℕ) → v < d .vertices → suc j < d .domainLen v → l ≡ d .domLit v j →
+      d .domain v j < decidedWeight d s v → Explains d s l (regionAlreadyLarge v)
   bySmall : (v j : ℕ) → v < d .vertices → suc j < d .domainLen v → l ≡ negate (d .domLit v j) → potentialWeight d s v < d .domain v (suc j) →
       Explains d s l (regionAlreadySmall v)
   byMismatch : (g a b : ℕ) (flip : Bool) → g < d .edges → l ≡ d .edgeLit g → a < d .vertices → b < d .vertices →
@@ -38,5 +42,7 @@ pub data Explains (d : Plan) (s : State) (l : ℕ) : Reason → Type 0 where
       Same d s k u → Lower d k b ls → d .domain u j < b → Explains d s l (boundPropagationWithinRegion k u ls)
   bySpreadHigh : (k u : ℕ) (ls : List ℕ) (b j : ℕ) → k < d .vertices → u < d .vertices → suc j < d .domainLen u → l ≡ negate (d .domLit u j) →
       Same d s k u → Upper d k b ls → b < d .domain u (suc j) → Explains d s l (boundPropagationWithinRegion k u ls)
-  bySameSize : (a : ℕ) (la ua : List ℕ) (b : ℕ) (lb ub : List ℕ) (u g : ℕ) → d .disallowAdjacentSameSizeRegions ≡ true → g < d .edges → l ≡ d .edgeLit g → a < d .vertices → b < d .vertices → u < d .vertices →
+  bySameSize : (a : ℕ) (la ua : List ℕ) (b : ℕ) (lb ub : List ℕ) (u g : ℕ) →
+      d .disallowAdjacentSameSizeRegions ≡ true → g < d .edges → l ≡ d .edgeLit g →
+      a < d .vertices → b < d .vertices → u < d .vertices →
       length la ≤ 1 → length ua ≤ 1 → length lb ≤ 1 → length ub ≤ 1 → Explains d s l (adjacentSameSizeRegions a la ua b lb ub u)

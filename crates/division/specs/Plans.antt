@@ -6,7 +6,8 @@ use lib.ListN.{getD, length}
 use Rattle.division.specs.Plan.{Plan}
 
 -- a plan by its numbers, lists in the order of vertices and edges
-unfoldable pub planWith : (sameSize extraWalls : Bool) (vertices edges : ℕ) (ends : List (List ℕ)) (lits weights : List ℕ) (domains domLits : List (List ℕ)) → Plan
+unfoldable pub planWith : (sameSize extraWalls : Bool) (vertices edges : ℕ) (ends : List (List ℕ)) (lits weights : List ℕ)
+    (domains domLits : List (List ℕ)) → Plan
 planWith sameSize extraWalls vertices edges ends lits weights domains domLits = record {
   vertices = vertices;
   edges = edges;

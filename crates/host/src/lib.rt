@@ -1,7 +1,8 @@
 // The C host: the calls of crate byte_calls, exported under C's names. A slice is a pointer and a length in C; include/zuntjev.h has the
 // layout of the bytes. Every call takes any bytes. `rt staticlib` proves this crate once more: it stays thin.
 ghost use mathlib.Core.Path.{_≡_};
-ghost use Rattle.byte_calls.specs.Host.{leftWith, back, tooShort, hostInitialized, initializedIn, hostPropagated, propagatedIn, hostUndone, undoneIn, hostReason, hostLast, hostRun, buildCode};
+ghost use Rattle.byte_calls.specs.Host.{leftWith, back, tooShort, hostInitialized, initializedIn, hostPropagated};
+ghost use Rattle.byte_calls.specs.Host.{propagatedIn, hostUndone, undoneIn, hostReason, hostLast, hostRun, buildCode};
 ghost use Rattle.byte_calls.specs.After.{Leaves};
 ghost use Rattle.byte_calls.specs.Build.{BuiltIn};
 ghost use Rattle.byte_calls.specs.Numbers.{numbersIn};

@@ -20,14 +20,16 @@ use Rattle.graph_division.specs.declared.Outcome.{Outcome}
 use Rattle.graph_division.specs.declared.Answer.{Answer}
 use Rattle.graph_division.specs.declared.Answer.the-variants.{Conflict, Noted, Refused}
 use Rattle.graph_division.specs.Answers.{numberOf}
-use Rattle.graph_division.specs.Runs.{Query, reasonFor, lastLeft, runBetween, Request, initialize, propagate, undo, ask, tableOf, Kept, kept, reply, after}
+use Rattle.graph_division.specs.Runs.{Query, reasonFor, lastLeft, runBetween, Request, initialize, propagate, undo}
+use Rattle.graph_division.specs.Runs.{ask, tableOf, Kept, kept, reply, after}
 use Rattle.claims.specs.Whole.{literalsOf}
 use Rattle.claims.specs.Conditions.{AllQuiet, standingThen, Condition1, Condition2, Condition3}
 use Rattle.claims.specs.Runs.{RunsBetween}
 use Rattle.byte_calls.specs.Codes.{answerCode, givenBy}
 use Rattle.byte_calls.specs.Layout.{stateIn, cursorIn, logIn, listIn, bufferIn}
 use Rattle.byte_calls.specs.Stores.{putList}
-use Rattle.byte_calls.specs.Host.{leftWith, tooShort, initializedIn, hostInitialized, propagatedIn, hostPropagated, Back, back, undoneIn, hostUndone, hostReason, hostLast, hostRun}
+use Rattle.byte_calls.specs.Host.{leftWith, tooShort, initializedIn, hostInitialized, propagatedIn, hostPropagated}
+use Rattle.byte_calls.specs.Host.{Back, back, undoneIn, hostUndone, hostReason, hostLast, hostRun}
 use Rattle.byte_calls.specs.After.{Leaves}
 
 -- what the bytes of a state, of a cursor and of a log keep from call to call, and the log's entries from the cursor on

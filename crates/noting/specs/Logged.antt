@@ -14,5 +14,7 @@ use Rattle.noting.specs.Replay.{followed, place, followAt}
 -- the noted words.
 pub data Logged (ws log : List ℕ) : List ℕ → ℕ → List ℕ → Type 0 where
   none : Logged ws log [] 0 (fresh ws (replicate 384 0))
-  one : {ls : List ℕ} {at : ℕ} {noted : List ℕ} {l to : ℕ} {after : List ℕ} → Logged ws log ls at noted → known ws (l / 2) ≡ true → hasVariable (l / 2) ls ≡ false → getD log at 0 ≡ wordOf (boundary l) →
-      followAt ws log to l (placeIn ws (l / 2)) (followed noted (place true (at + 1))) ≡ followed after (place true to) → Logged ws log (l ∷ ls) to after
+  one : {ls : List ℕ} {at : ℕ} {noted : List ℕ} {l to : ℕ} {after : List ℕ} → Logged ws log ls at noted →
+      known ws (l / 2) ≡ true → hasVariable (l / 2) ls ≡ false → getD log at 0 ≡ wordOf (boundary l) →
+      followAt ws log to l (placeIn ws (l / 2)) (followed noted (place true (at + 1))) ≡ followed after (place true to) →
+      Logged ws log (l ∷ ls) to after
