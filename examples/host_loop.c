@@ -1,7 +1,8 @@
 /*
  * host_loop.c: a search over the C host, as a controller would run it. It lays the twelve pens of
- * examples/dozen_pens.txt into groups of permitted sizes, prints them, and checks them by itself. docs/HOST.md
- * explains it. To build it, after `./build-c target/c`:
+ * examples/dozen_pens.txt into groups of permitted sizes, prints them, and checks them by itself. It learns a clause
+ * from each conflict, and has no clauses of its own: that "13 or more" goes with "11 or more", of a pen with three
+ * sizes, it learns too. docs/HOST.md explains it. To build it, after `./build-c target/c`:
  *
  *     cc -Itarget/c examples/host_loop.c target/c/libzuntjev.a -o target/c/host_loop
  */
@@ -9,13 +10,14 @@
 #include <stdio.h>
 #include <stdlib.h>
 
-enum { PENS = 12, GATES = 17, SIZE_LITS = 4, VARIABLES = 21 };
+enum { PENS = 12, GATES = 17, SIZE_LITS = 5, VARIABLES = 22, CLAUSES = 64, LONGEST = GATES + 2 * PENS + 4 };
 
-/* A pen's heads, and the two sizes that its group may have with the literal that says "the second"; 0 and 0: any
- * size, no literal. */
-static const struct { int32_t heads, sizes[2], lit; } pens[PENS] = {
-    {6, {10, 18}, 34}, {4, {0, 0}, 0}, {5, {0, 0}, 0}, {3, {8, 16}, 36}, {7, {0, 0}, 0}, {2, {15, 22}, 38},
-    {6, {0, 0}, 0}, {4, {0, 0}, 0}, {5, {0, 0}, 0}, {5, {0, 0}, 0}, {3, {0, 0}, 0}, {6, {9, 13}, 40}};
+/* A pen's heads, how many sizes its group may have, the sizes, and for each but the first the literal that says "this
+ * size or more". No sizes: any. */
+static const struct { int32_t heads, count, sizes[3], lits[2]; } pens[PENS] = {
+    {6, 2, {10, 18}, {34}}, {4, 0, {0}, {0}}, {5, 0, {0}, {0}}, {3, 2, {8, 16}, {36}},
+    {7, 0, {0}, {0}}, {2, 2, {15, 22}, {38}}, {6, 0, {0}, {0}}, {4, 0, {0}, {0}},
+    {5, 0, {0}, {0}}, {5, 0, {0}, {0}}, {3, 0, {0}, {0}}, {6, 3, {9, 11, 13}, {40, 42}}};
 
 /* Gate g joins these two pens; literal 2g says that it is shut, 2g + 1 that it is open. */
 static const int32_t gates[GATES][2] = {{0, 1}, {1, 2}, {2, 3}, {4, 5}, {5, 6}, {6, 7}, {8, 9}, {9, 10}, {10, 11},
@@ -33,6 +35,10 @@ static int32_t notified[VARIABLES], waiting[VARIABLES];
 static int count, queued, begins[VARIABLES + 1];
 static int32_t decision[VARIABLES + 1];
 
+/* The newest clauses learned, as the lists that they come from: the literals of a list cannot hold together. */
+static struct { int32_t n, lits[LONGEST]; } learned[CLAUSES];
+static int conflicts;
+
 static void stop(const char *call, int32_t answer)
 {
     fprintf(stderr, "%s is refused with %d\n", call, (int)-answer);
@@ -43,8 +49,8 @@ static void build(void)
 {
     static uint8_t vertices[ZUNTJEV_VERTEX_LEN * PENS], edges[ZUNTJEV_EDGE_LEN * GATES];
     for (int v = 0; v < PENS; v++) {
-        size_t k = pens[v].sizes[1] ? 2 : 0;
-        zuntjev_put_vertex(vertices, (size_t)v, pens[v].heads, pens[v].sizes, k, &pens[v].lit, k / 2);
+        size_t k = (size_t)pens[v].count;
+        zuntjev_put_vertex(vertices, (size_t)v, pens[v].heads, pens[v].sizes, k, pens[v].lits, k > 0 ? k - 1 : 0);
     }
     for (int g = 0; g < GATES; g++)
         zuntjev_put_edge(edges, (size_t)g, gates[g][0], gates[g][1], 2 * g);
@@ -118,14 +124,60 @@ static void decide(int32_t lit)
     set(lit);
 }
 
-/* A conflict: the newest decision that was "open" (an odd literal) is tried shut. Answers 0 where there is none. */
+/* Learns from a conflict, straight after it. Once there is no room the oldest clause is given up. */
+static void learn(void)
+{
+    int32_t n = zuntjev_calc_last(state, sizeof state, undo_log, sizeof undo_log, cursor, sizeof cursor, buffer,
+                                  sizeof buffer);
+    if (n < 0)
+        stop("fetching", n);
+    int c = conflicts++ % CLAUSES;
+    learned[c].n = n;
+    for (int32_t i = 0; i < n; i++)
+        learned[c].lits[i] = zuntjev_lit_at(buffer, (size_t)i);
+}
+
+/* The one literal of a clause's list that is not true; -1 where all are true or several are not. */
+static int32_t left_over(int c)
+{
+    int32_t left = -1;
+    for (int32_t i = 0; i < learned[c].n; i++) {
+        int32_t lit = learned[c].lits[i];
+        if (value[lit / 2] == (lit % 2 == 0))
+            continue;
+        if (left >= 0 && left != lit)
+            return -1;
+        left = lit;
+    }
+    return left;
+}
+
+/* Sets what follows from the clauses: where all of a list is true but one literal, that one is false. Answers whether
+ * something was set. */
+static int follow_clauses(void)
+{
+    int before = queued;
+    for (int c = 0; c < CLAUSES && c < conflicts; c++) {
+        int32_t lit = left_over(c);
+        if (lit >= 0 && value[lit / 2] < 0)
+            set(lit ^ 1);
+    }
+    return queued > before;
+}
+
+/* After a conflict the newest decision that was the first of its two, an odd literal, is taken back for the other. Where
+ * that one follows from the clause just learned it is no decision, and belongs to the level before. Answers 0 where no
+ * such decision is left. */
 static int turn_back(void)
 {
     while (level > 0) {
         int32_t lit = decision[level];
         undo_level();
         if (lit % 2 == 1) {
-            decide(lit - 1);
+            if (left_over((conflicts - 1) % CLAUSES) == lit)
+                set(lit - 1);
+            else
+                decide(lit - 1);
             return 1;
         }
     }
@@ -155,14 +207,13 @@ static int search(void)
     take_handed_on(answer);
     for (;;) {
         if (!notify_all()) {
-            int32_t n = zuntjev_calc_last(state, sizeof state, undo_log, sizeof undo_log, cursor, sizeof cursor,
-                                          buffer, sizeof buffer);
-            if (n < 0)
-                stop("fetching", n);
+            learn();
             if (!turn_back())
                 return 0;
             continue;
         }
+        if (follow_clauses())
+            continue;
         int v = first_unset();
         if (v < 0)
             return 1;
@@ -187,9 +238,14 @@ static int print_and_check(void)
         heads[group[v]] += pens[v].heads;
     for (int g = 0; g < GATES; g++)
         good &= !value[g] || group[gates[g][0]] != group[gates[g][1]];
-    for (int v = 0; v < PENS; v++)
-        if (pens[v].sizes[1])
-            good &= heads[group[v]] == pens[v].sizes[value[pens[v].lit / 2]];
+    for (int v = 0; v < PENS; v++) {
+        int permitted = pens[v].count == 0;
+        for (int j = 0; j < pens[v].count; j++)
+            permitted |= heads[group[v]] == pens[v].sizes[j];
+        for (int j = 0; j + 1 < pens[v].count; j++)
+            good &= value[pens[v].lits[j] / 2] == (heads[group[v]] >= pens[v].sizes[j + 1]);
+        good &= permitted;
+    }
     for (int a = 0; a < PENS; a++)
         if (group[a] == a) {
             printf("%d heads: pens", heads[a]);
@@ -202,6 +258,16 @@ static int print_and_check(void)
     return good;
 }
 
+/* The clause itself: one of these holds. */
+static void print_last_clause(void)
+{
+    int c = (conflicts - 1) % CLAUSES;
+    printf("learned last:");
+    for (int32_t i = 0; i < learned[c].n; i++)
+        printf("%s %d", i > 0 ? " or" : "", (int)(learned[c].lits[i] ^ 1));
+    printf("\n");
+}
+
 int main(void)
 {
     build();
@@ -209,5 +275,7 @@ int main(void)
         puts("no valid division");
         return 1;
     }
+    if (conflicts > 0)
+        print_last_clause();
     return print_and_check() ? 0 : 1;
 }

@@ -122,7 +122,6 @@ int main(void)
     two_gates(); show(propagate(4, 0)); /* -9 */
     two_gates(); propagate(0, 1); show(propagate(1, 0)); /* -10 */
     two_gates(); propagate(0, 1); propagate(2, 1); show(undo(0)); /* -11 */
-    vertex(0, 4, SOME(2, 4, 6), SOME(0, 2)); build(1, 0); propagate(2, 1); show(propagate(1, 0)); /* -12 */
     two_empty_pens(); show(initialize()); /* -13 */
     two_gates(); table[0] = 2; table[1] = 1; show(initialize()); /* -14 */
     two_gates(); table[1] = 1; show(propagate(1, 0)); /* -14 */

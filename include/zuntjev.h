@@ -25,8 +25,8 @@
  * ANY BYTES may be lent: every function ends, with an answer. A call that is refused leaves all bytes as they were.
  * What is tested, in this order, the first that applies being the answer:
  *   zuntjev_build        1, 2, 3, 4, 5, 6, then 7 (a state that is too short): where -1 and -7 both apply, it is -1
- *   zuntjev_initialize   7, 8; then for each literal in turn 10 and, as it works, 12, 13, 14
- *   zuntjev_propagate    7, 9, 10; then, where nothing is pending, 12, 13, 14 as it works
+ *   zuntjev_initialize   7, 8; then for each literal in turn 10 and, as it works, 13, 14
+ *   zuntjev_propagate    7, 9, 10; then, where nothing is pending, 13, 14 as it works
  *   zuntjev_undo         7, 9, 11
  *   zuntjev_calc_reason  7, 9, 15, 16
  *   zuntjev_calc_last    7
@@ -104,7 +104,8 @@ extern "C" {
 #define ZUNTJEV_LOG_LEN_FOR(edges, size_lits) ((size_t)16 * ((size_t)(edges) + (size_t)(size_lits)))
 
 /* Answers below 0. The first two are no refusals: a conflict, and a literal that was only noted. The others are minus
- * the refusal's number; 17, a malformed line of text, comes only from the program yard. */
+ * the refusal's number; 17, a malformed line of text, comes only from the program yard. 12 is not given any more: size
+ * literals of a vertex that contradict each other are a conflict. */
 #define ZUNTJEV_CONFLICT (-100)
 #define ZUNTJEV_NOTED (-101)
 #define ZUNTJEV_REFUSED_COUNT (-1)         /* too many vertices, edges or sizes, or a count of sizes below 0 */
@@ -118,7 +119,6 @@ extern "C" {
 #define ZUNTJEV_REFUSED_UNKNOWN (-9)       /* a literal whose variable the plan does not have */
 #define ZUNTJEV_REFUSED_STANDS (-10)       /* the literal to be notified, or its negation, stands */
 #define ZUNTJEV_REFUSED_NOT_NEWEST (-11)   /* the literal to be undone is not the newest that stands */
-#define ZUNTJEV_REFUSED_CROSSED (-12)      /* size literals of a vertex contradict each other */
 #define ZUNTJEV_REFUSED_SIZE_ZERO (-13)    /* the same-size option would propose from a fixed size of 0 */
 #define ZUNTJEV_REFUSED_LEVEL (-14)        /* a proposal is false, and no literal of its list has code 3 or 4 */
 #define ZUNTJEV_REFUSED_NO_REASON (-15)    /* no reason was recorded for the literal */
@@ -214,7 +214,9 @@ int32_t zuntjev_initialize(uint8_t *state, size_t state_len, uint8_t *table, siz
 /*
  * Notifies a literal; with a pending number other than 0 it is only noted. Answers how many literals were handed on:
  * they are at the start of the list, rising, and marked in the table. Or ZUNTJEV_CONFLICT, ZUNTJEV_NOTED, or minus
- * the number of a refusal.
+ * the number of a refusal. A conflict leaves the literal standing, and a list that zuntjev_calc_last fetches. Where
+ * size literals of a vertex contradict each other (size 2 or more, size 1 or less), that list has two entries: the
+ * literal of the lower bound, then that of the upper bound, of the lowest such vertex. One literal may be both.
  */
 int32_t zuntjev_propagate(uint8_t *state, size_t state_len, uint8_t *table, size_t table_len, uint8_t *list,
                           size_t list_len, uint8_t *log, size_t log_len, uint8_t *cursor, size_t cursor_len,

@@ -10,6 +10,9 @@ use std::panic::{catch_unwind, AssertUnwindSafe};
 #[path = "../rust/sat.rs"]
 mod sat;
 
+#[path = "../rust/crossed.rs"]
+mod crossed;
+
 mod graph_division {
     include!(env!("GRAPH_DIVISION_COPY"));
 
@@ -65,7 +68,8 @@ fn blocks(text: &str) -> Vec<Vec<&str>> {
     all
 }
 
-fn build(block: &[&str]) -> (GraphDivision, Vec<Lit>) {
+// The plan as the Rust builds it, the literals to note, and the list of crossed bounds if these cross some.
+fn build(block: &[&str]) -> (GraphDivision, Vec<Lit>, Option<Vec<Lit>>) {
     let mut opts = GraphDivisionOptions { disallow_adjacent_same_size_regions: false, allow_extra_walls: false };
     let (mut domains, mut dom_lits, mut weights) = (vec![], vec![], vec![]);
     let (mut edges, mut edge_lits, mut noted) = (vec![], vec![], vec![]);
@@ -92,7 +96,8 @@ fn build(block: &[&str]) -> (GraphDivision, Vec<Lit>) {
             _ => panic!("a line of a block: {line}"),
         }
     }
-    (GraphDivision::new(&domains, &dom_lits, &weights, &edges, &edge_lits, &opts), noted)
+    let crossed = crossed::crossed(&domains, &dom_lits, &noted);
+    (GraphDivision::new(&domains, &dom_lits, &weights, &edges, &edge_lits, &opts), noted, crossed)
 }
 
 fn line(out: &mut String, letter: &str, first: Option<Lit>, list: &[Lit]) {
@@ -103,16 +108,19 @@ fn line(out: &mut String, letter: &str, first: Option<Lit>, list: &[Lit]) {
     out.push('\n');
 }
 
-// The verdict's line and a line for each proposal. Refusals 12 and 13 are where the Rust panics: at its test of crossed bounds, and
-// where the vertex of a lower bound of 0 is looked up, which has no number.
+// The verdict's line and a line for each proposal. The Rust panics at its test of crossed bounds, where document 02 has a conflict,
+// and where the vertex of a lower bound of 0 is looked up, which has no number: refusal 13.
 fn answer(block: &[&str]) -> String {
-    let (mut d, noted) = build(block);
+    let (mut d, noted, crossed) = build(block);
     for l in noted {
         d.note(l);
     }
     let mut out = String::new();
     match catch_unwind(AssertUnwindSafe(|| d.run_analyze())) {
-        Ok(true) => line(&mut out, "C", None, &[]),
+        Ok(true) => {
+            assert!(crossed.is_none(), "the Rust goes on with crossed bounds\n{}", block.join("\n"));
+            line(&mut out, "C", None, &[])
+        }
         Ok(false) => line(&mut out, "X", None, d.conflict()),
         Err(e) => {
             let text = match (e.downcast_ref::<String>(), e.downcast_ref::<&str>()) {
@@ -120,8 +128,8 @@ fn answer(block: &[&str]) -> String {
                 (_, Some(s)) => s,
                 _ => "",
             };
-            if text == "assertion failed: self.lower_bound[i] <= self.upper_bound[i]" {
-                out.push_str("E\t12\n");
+            if crossed::is_panic(text) {
+                line(&mut out, "X", None, &crossed.expect("a vertex whose bounds cross"));
             } else if text.ends_with(&format!("the index is {}", usize::MAX)) {
                 out.push_str("E\t13\n");
             } else {

@@ -5,8 +5,11 @@
 //   differential run YARD SEED CALLS   sessions until CALLS calls were made; the first that differ are made shorter and printed
 //   differential answers               the answers to the sessions of standard input, each ended by a line `---`
 //   differential sessions SEED COUNT   prints COUNT sessions
-// What the Rust does not test (refusals 8 to 11, 15) is tested here, by document 01's text; refusals 12, 13, 14 and 16 are where the Rust
+// What the Rust does not test (refusals 8 to 11, 15) is tested here, by document 01's text; refusals 13, 14 and 16 are where the Rust
 // panics. After a refusal the Rust's state is built again from the calls that were accepted.
+// At crossed bounds the Rust panics too, and document 02 has a conflict that stands. A session is compared up to the
+// first of these: its list is asked for, and its newest literal undone. What is expected there is worked out from the
+// literals that stand (tests/rust/crossed.rs).
 #![allow(dead_code)]
 use std::io::{Read, Write};
 use std::panic::{catch_unwind, AssertUnwindSafe};
@@ -14,6 +17,9 @@ use std::process::{Command, Stdio};
 
 #[path = "../rust/sat.rs"]
 mod sat;
+
+#[path = "../rust/crossed.rs"]
+mod crossed;
 
 #[path = "../rust/solver.rs"]
 mod solver;
@@ -102,6 +108,8 @@ struct Session {
     done: bool,
     // What was accepted, with the table that it was lent.
     accepted: Vec<(Op, Vec<u8>)>,
+    // The list of crossed bounds, once these were met: then the Rust is asked no more.
+    crossed: Option<Vec<Lit>>,
 }
 
 enum Outcome {
@@ -128,9 +136,7 @@ fn attempt(d: &mut GraphDivision, op: &Op, solver: &mut Solver) -> Result<bool, 
 
 // The refusal at which the Rust panics so.
 fn refusal(text: &str) -> i32 {
-    if text == "assertion failed: self.lower_bound[i] <= self.upper_bound[i]" {
-        12
-    } else if text.ends_with(&format!("the index is {}", usize::MAX)) {
+    if text.ends_with(&format!("the index is {}", usize::MAX)) {
         13
     } else if text == "assertion failed: cur_level" {
         14
@@ -152,7 +158,23 @@ fn say(letter: &str, lits: &[Lit]) -> String {
 impl Session {
     fn new(plan: Plan) -> Session {
         let d = plan.build();
-        Session { plan, d, table: vec![0; 4096], standing: vec![], done: false, accepted: vec![] }
+        Session { plan, d, table: vec![0; 4096], standing: vec![], done: false, accepted: vec![], crossed: None }
+    }
+
+    fn crossing(&self) -> Option<Vec<Lit>> {
+        crossed::crossed(&self.plan.domains, &self.plan.dom_lits, &self.standing)
+    }
+
+    // The conflict at which the Rust panics; the literals stand already.
+    fn cross(&mut self) -> String {
+        self.crossed = self.crossing();
+        assert!(self.crossed.is_some(), "the Rust panics at bounds that do not cross");
+        "X\n".into()
+    }
+
+    // What is asked after that conflict: its list, and to undo the newest, which stands.
+    fn ending(&self) -> String {
+        format!("R\t-\nU\t{}\n", self.standing.last().expect("a literal that stands").0)
     }
 
     fn known(&self, lit: i32) -> bool {
@@ -173,6 +195,7 @@ impl Session {
 
     // The call on the Rust. A refusal leaves the table as it was.
     fn call(&mut self, op: Op) -> Outcome {
+        assert!(self.crossed.is_none(), "the Rust is not asked after crossed bounds");
         let before = self.table.clone();
         let mut solver = Solver { table: before.clone(), handed: vec![] };
         match attempt(&mut self.d, &op, &mut solver) {
@@ -202,6 +225,7 @@ impl Session {
         match self.call(Op::Initialize) {
             Outcome::Consistent(handed) => {
                 self.standing.extend(&entered);
+                assert!(self.crossing().is_none(), "the Rust goes on with crossed bounds");
                 self.done = true;
                 say("C", &handed)
             }
@@ -223,6 +247,13 @@ impl Session {
                 self.accepted.push((op, table));
                 "X\n".into()
             }
+            // Crossed bounds in the last pass: where something was notified, that state was analyzed before.
+            Outcome::Panicked(text) if crossed::is_panic(&text) && entered.is_empty() => self.cross(),
+            Outcome::Panicked(text) if crossed::is_panic(&text) => {
+                let answer = self.initialize_up_to(&entered);
+                assert!(self.crossed.is_some(), "a literal whose own analysis meets crossed bounds");
+                answer
+            }
             Outcome::Panicked(text) => format!("E\t{}\n", refusal(&text)),
         }
     }
@@ -243,6 +274,11 @@ impl Session {
                         self.table = solver.table;
                         return "X\n".into();
                     }
+                }
+                Err(text) if crossed::is_panic(&text) => {
+                    self.standing.extend(&lits[..=i]);
+                    self.table = solver.table;
+                    return self.cross();
                 }
                 Err(text) => {
                     answer = format!("E\t{}\n", refusal(&text));
@@ -267,12 +303,19 @@ impl Session {
             10
         } else {
             match self.call(Op::Propagate(Lit(lit), pending)) {
+                Outcome::Panicked(text) if crossed::is_panic(&text) => {
+                    self.standing.push(Lit(lit));
+                    return self.cross();
+                }
                 Outcome::Panicked(text) => refusal(&text),
                 out => {
                     self.standing.push(Lit(lit));
                     return match out {
                         Outcome::Consistent(_) if pending != 0 => "L\n".into(),
-                        Outcome::Consistent(handed) => say("C", &handed),
+                        Outcome::Consistent(handed) => {
+                            assert!(self.crossing().is_none(), "the Rust goes on with crossed bounds");
+                            say("C", &handed)
+                        }
                         _ => "X\n".into(),
                     };
                 }
@@ -289,13 +332,16 @@ impl Session {
         if self.standing.last() != Some(&Lit(lit)) {
             return "E\t11\n".into();
         }
-        self.call(Op::Undo(Lit(lit)));
+        if self.crossed.is_none() {
+            self.call(Op::Undo(Lit(lit)));
+        }
         self.standing.pop();
         self.table[lit as usize / 2] = 0;
         "C\n".into()
     }
 
     fn reason(&mut self, lit: i32) -> String {
+        assert!(self.crossed.is_none(), "the Rust is not asked after crossed bounds");
         if !self.known(lit) {
             return "E\t9\n".into();
         }
@@ -325,7 +371,7 @@ impl Side for Session {
         Session::reason(self, lit)
     }
     fn last(&mut self) -> String {
-        say("R", self.d.last())
+        say("R", self.crossed.as_deref().unwrap_or(self.d.last()))
     }
     fn table(&mut self) -> &mut [u8] {
         &mut self.table
@@ -469,12 +515,12 @@ impl Side for Hosted {
     }
 }
 
-// The answers to a session, each followed by a line T with the table's entries that are set.
-fn replay<S: Side>(text: &str, begin: impl Fn(Plan) -> S) -> String {
+// Asks the calls of a session one by one. `each` is told the line's number, the side after it and its answer, and says
+// whether to go on.
+fn walk<S: Side>(text: &str, begin: impl Fn(Plan) -> S, mut each: impl FnMut(usize, &mut S, String) -> bool) {
     let mut plan = Some(Plan::default());
     let mut side = None;
-    let mut out = String::new();
-    for line in text.lines() {
+    for (i, line) in text.lines().enumerate() {
         let mut fields = line.split('\t');
         let letter = fields.next().unwrap();
         let f: Vec<&str> = fields.collect();
@@ -486,14 +532,37 @@ fn replay<S: Side>(text: &str, begin: impl Fn(Plan) -> S) -> String {
             side = Some(begin(plan.take().unwrap()));
         }
         let side = side.as_mut().unwrap();
-        out += &side.line(letter, &f);
+        let answer = side.line(letter, &f);
+        if !each(i, side, answer) {
+            break;
+        }
+    }
+}
+
+// The answers to a session, each followed by a line T with the table's entries that are set.
+fn replay<S: Side>(text: &str, begin: impl Fn(Plan) -> S) -> String {
+    let mut out = String::new();
+    walk(text, begin, |_, side, answer| {
+        out += &answer;
         out.push('T');
         for (v, c) in side.table().iter().enumerate().filter(|x| *x.1 != 0) {
             out += &format!(" {v}:{c}");
         }
         out.push('\n');
-    }
+        true
+    });
     out
+}
+
+// A session up to the first conflict of crossed bounds, with what is asked after it.
+fn cut(text: &str) -> String {
+    let mut ends = None;
+    walk(text, Session::new, |i, s, _| {
+        ends = s.crossed.is_some().then(|| (i, s.ending()));
+        ends.is_none()
+    });
+    let Some((i, ending)) = ends else { return text.to_string() };
+    text.split_inclusive('\n').take(i + 1).collect::<String>() + &ending
 }
 
 fn without_tables(answers: &str) -> String {
@@ -504,8 +573,29 @@ fn answers(text: &str) -> String {
     without_tables(&replay(text, Session::new))
 }
 
-// The plan of a random block, and calls on it. The literals are mostly the plan's, undone mostly the newest.
-fn session(r: &mut Rng) -> String {
+// An initialise where two size literals of a vertex contradict each other: by their values, which it notifies, or since
+// both were noted and unset again, so that it may be the last pass that meets them.
+fn contradiction(r: &mut Rng, plan: &Plan) -> Vec<String> {
+    let wide: Vec<&Vec<Lit>> = plan.dom_lits.iter().filter(|lits| lits.len() > 1).collect();
+    if wide.is_empty() {
+        return vec![];
+    }
+    let lits = wide[r.below(wide.len())];
+    let pair = [!lits[r.below(lits.len() - 1)], lits[lits.len() - 1]];
+    let mut lines: Vec<String> = if r.chance(50) {
+        pair.iter().map(|&l| format!("V\t{}\t{}", l.0 / 2, code(l) - 2 * r.below(2) as u8)).collect()
+    } else {
+        let noted = pair.iter().map(|l| format!("N\t{}\t1", l.0));
+        noted.chain(pair.iter().map(|l| format!("V\t{}\t0", l.0 / 2))).collect()
+    };
+    lines.push("I".into());
+    lines
+}
+
+// The plan of a random block, and calls on it; and the letter of the call that met crossed bounds, if one did. The
+// literals are mostly the plan's, undone mostly the newest. A call that meets crossed bounds ends the session; most
+// such notifications are left out, so that sessions get long all the same.
+fn session(r: &mut Rng) -> (String, Option<char>) {
     let mut block = vec![];
     generate::block(r, &mut block);
     // A plan without literals has little to ask; most of these are left out.
@@ -532,9 +622,14 @@ fn session(r: &mut Rng) -> String {
     let lits: Vec<i32> = s.d.lits().iter().map(|l| l.0).collect();
     let steps = 10 + r.below(if lits.len() > 400 { 60 } else { 300 });
     let begins = r.below(3);
+    let (contradicts, mut queued) = (r.below(100), std::collections::VecDeque::new());
     for k in 0..steps {
+        if k == contradicts && !s.done {
+            queued.extend(contradiction(r, &s.plan));
+        }
         let any = |r: &mut Rng| if lits.is_empty() || r.chance(2) { r.below(8300) as i32 - 50 } else { lits[r.below(lits.len())] };
         let line = match r.below(100) {
+            _ if !queued.is_empty() => queued.pop_front().unwrap(),
             _ if k == 0 && begins == 0 => "I".to_string(),
             0..=5 => {
                 let v = if lits.is_empty() || r.chance(3) { r.below(4096) as i32 } else { any(r).clamp(0, 8191) / 2 };
@@ -565,11 +660,23 @@ fn session(r: &mut Rng) -> String {
         let mut fields = line.split('\t');
         let letter = fields.next().unwrap();
         let f: Vec<&str> = fields.collect();
+        let (table, standing, accepted) = (s.table.clone(), s.standing.len(), s.accepted.len());
         s.line(letter, &f);
+        if s.crossed.is_some() && letter == "N" && !r.chance(10) {
+            s.crossed = None;
+            s.table = table;
+            s.standing.truncate(standing);
+            s.accepted.truncate(accepted);
+            s.again();
+            continue;
+        }
         text += &line;
         text.push('\n');
+        if s.crossed.is_some() {
+            return (text + &s.ending(), letter.chars().next());
+        }
     }
-    text
+    (text, None)
 }
 
 fn ask(yard: &str, text: &str) -> String {
@@ -610,8 +717,9 @@ fn shorter(yard: &str, text: &str) -> String {
             let mut fewer = lines.clone();
             fewer.remove(i);
             let t = fewer.join("\n") + "\n";
-            let right = catch_unwind(AssertUnwindSafe(|| replay(&t, Session::new)));
-            if matches!(right, Ok(a) if differs(yard, &t, &a).is_some()) {
+            // Without the line another call may be the one that meets crossed bounds.
+            let right = catch_unwind(AssertUnwindSafe(|| (cut(&t) == t).then(|| replay(&t, Session::new))));
+            if matches!(right, Ok(Some(a)) if differs(yard, &t, &a).is_some()) {
                 lines = fewer;
             }
         }
@@ -626,8 +734,12 @@ fn run(yard: &str, seed: u64, calls: usize) -> bool {
     let (mut sessions, mut made, mut failed) = (0, 0, 0);
     let mut answered = [0usize; 256];
     let mut refused = [0usize; 20];
+    // Sessions that end with crossed bounds, met by a notification or by an initialise.
+    let (mut by_notification, mut by_initialize) = (0, 0);
     while made < calls {
-        let text = session(&mut r);
+        let (text, crossed) = session(&mut r);
+        by_notification += usize::from(crossed == Some('N'));
+        by_initialize += usize::from(crossed == Some('I'));
         let right = replay(&text, Session::new);
         sessions += 1;
         made += calls_in(&text);
@@ -658,7 +770,15 @@ fn run(yard: &str, seed: u64, calls: usize) -> bool {
     for (n, k) in refused.iter().enumerate().filter(|x| *x.1 > 0) {
         print!(" {n}: {k}");
     }
-    println!("\n{} passed, {failed} failed", sessions - failed);
+    let crossed = by_notification + by_initialize;
+    println!("\n{crossed} sessions compared up to crossed bounds: N {by_notification}, I {by_initialize}");
+    let passed = sessions - failed;
+    // So many sessions without both kinds would test nothing of crossed bounds.
+    if sessions >= 1000 && (by_notification == 0 || by_initialize == 0) {
+        println!("no session meets crossed bounds by a notification, or none by an initialise");
+        failed += 1;
+    }
+    println!("{passed} passed, {failed} failed");
     failed == 0
 }
 
@@ -686,7 +806,7 @@ fn main() {
         ["sessions", seed, count] => {
             let mut r = Rng::new(seed.parse().expect("a seed"));
             for _ in 0..count.parse().expect("how many sessions") {
-                print!("{}---\n", session(&mut r));
+                print!("{}---\n", session(&mut r).0);
             }
         }
         _ => {

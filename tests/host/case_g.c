@@ -1,4 +1,5 @@
-/* Document 01's case G over the host's functions, each answer checked, other cases of initialising, and states that are refused. */
+/* Document 01's case G over the host's functions, each answer checked, other cases of initialising, crossed bounds, and states that are
+ * refused. */
 #include "zuntjev.h"
 #include <stdio.h>
 #include <stdlib.h>
@@ -29,17 +30,22 @@ static void check(const char *what, long got, long want)
     }
 }
 
-static int32_t propagate(int32_t lit)
+static int32_t notify(int32_t lit, int32_t pending)
 {
     uint8_t *entry = &table.at[lit / 2];
     uint8_t old = *entry;
     if (old == 0)
         *entry = (uint8_t)(3 + lit % 2);
     int32_t r = zuntjev_propagate(state, sizeof state, table.at, table.len, list.at, list.len, records.at, records.len, cursor,
-                                  sizeof cursor, lit, 0);
+                                  sizeof cursor, lit, pending);
     if (r < 0 && r > ZUNTJEV_CONFLICT)
         *entry = old;
     return r;
+}
+
+static int32_t propagate(int32_t lit)
+{
+    return notify(lit, 0);
 }
 
 static int32_t undo(int32_t lit)
@@ -198,6 +204,40 @@ static void initializes(void)
     check("U 0", undo(0), 0);
 }
 
+/* Size literals that contradict each other, "6 or more" and "2 or less" of one pen, in a plan where another pen and a gate come after it:
+ * by a notification, in an initialise (literals 1 and 2, and not 4), and in its last pass. */
+static void crossed(void)
+{
+    pen(0, 1, 3, 2, 4, 0);
+    put(vertices + 20, 6);
+    put(vertices + 144, 2);
+    pen(1, 9, 0, 0, 0, 0);
+    gate(0, 0, 1, 4);
+    check("build", build(sizeof state, 2, 1, 2, 3), 0);
+    check("6 or more, noted", notify(2, 1), ZUNTJEV_NOTED);
+    check("2 or less", propagate(1), ZUNTJEV_CONFLICT);
+    check("its list", last(), 2);
+    check("the lower literal", lit_at(buffer.at, 0), 2);
+    check("the upper literal", lit_at(buffer.at, 1), 1);
+    check("both stand", cursor[4], 2);
+    check("the gate is unset", table.at[2], 0);
+    check("no reason for it", reason(4), -15);
+    table.at[0] = table.at[1] = 0;
+    check("the last pass", initialize(), ZUNTJEV_CONFLICT);
+    check("its list, too", last(), 2);
+    check("both still stand", cursor[4], 2);
+    check("undo", undo(1), 0);
+    check("undo, too", undo(2), 0);
+    table.at[0] = 2;
+    table.at[1] = table.at[2] = 1;
+    check("an initialise, all set earlier", initialize(), ZUNTJEV_CONFLICT);
+    check("the list", last(), 2);
+    check("its lower literal", lit_at(buffer.at, 0), 2);
+    check("its upper literal", lit_at(buffer.at, 1), 1);
+    check("1 and 2 stand", cursor[4], 2);
+    check("the newest is 2", undo(2), 0);
+}
+
 static void refusals(void)
 {
     memcpy(before, state, sizeof state);
@@ -309,6 +349,7 @@ int main(void)
     check("R 0, first", lit_at(buffer.at, 0), 5);
     refused_initialize();
     initializes();
+    crossed();
     printf("%d passed, %d failed\n", passed, failed);
     return failed != 0;
 }

@@ -13,11 +13,12 @@ use Rattle.plan.specs.Words.{verticesOf, edgesOf}
 use Rattle.views.specs.Compute.{Computed, regionsFrom, boundsFrom, computeView}
 use Rattle.plan.specs.Plan.{planOf}
 use Rattle.plan.specs.Proper.{ProperWords}
-use Rattle.division.specs.State.{State}
+use Rattle.division.specs.State.{State, crossedAt}
 use Rattle.division.specs.Regions.{within, regionLabel}
 use Rattle.division.specs.Views.{weightOf, membersOf, cellsOf, viewOf}
 use Rattle.division.specs.Analysis.{analyzed}
-use Rattle.noting.specs.Words.{stateOf}
+use Rattle.noting.specs.Words.{stateOf, crossedIn}
+use Rattle.noting.proofs.Crossed.{crossed-is}
 use Rattle.views.specs.Words.{shown}
 use Rattle.views.proofs.Viewed.{viewed, viewed-done}
 use Rattle.views.proofs.Meets.{computed-bounds-first}
@@ -61,15 +62,22 @@ module _ (ws : List ℕ) (ends : List (List ℕ)) (p : ProperWords ws ends) (not
   abbrev view : List ℕ
   view = computeView ws ends noted zeros .words
 
-  by-places : analyzedFirst (placed ws ends) s (shown (placed ws ends) s view) ≡ analyzed (placed ws ends) s (viewOf (placed ws ends) s)
+  by-places : analyzedFirst (placed ws ends) s (shown (placed ws ends) s view) (crossedAt (placed ws ends) s)
+      ≡ analyzed (placed ws ends) s (viewOf (placed ws ends) s)
   by-places =
       analyzed-first (placed ws ends) s (shown (placed ws ends) s view) (computed-bounds-first ws ends p noted len (edgePlaceOf ws) (domPlaceOf ws) zeros room)
       ∙ viewed ws ends p noted len (edgePlaceOf ws) (domPlaceOf ws) zeros room .1
 
+  told : crossedIn ws noted ≡ crossedAt (placed ws ends) s
+  unfolding crossedAt
+  told = crossed-is ws ends noted (p .fine .vertices)
+
   -- the words that `analyze` leaves are those of the definition's proposals, each at its literal's place
   pub analyzed-words : (proposals : List ℕ) →
-      analyzeWords ws ends noted proposals ≡ ranOf (relabelled (placeOfLit ws) (analyzed (planOf ws ends) s (viewOf (planOf ws ends) s))) proposals
+      analyzeWords ws ends noted (crossedIn ws noted) proposals
+      ≡ ranOf (relabelled (placeOfLit ws) (analyzed (planOf ws ends) s (viewOf (planOf ws ends) s))) proposals
   unfolding analyzeWords analyzeBy
   analyzed-words proposals =
       pick-yes _ _ (viewed-done ws ends p noted len (edgePlaceOf ws) (domPlaceOf ws) zeros room)
+      ∙ ap (λ v. ranOf (analyzedFirst (placed ws ends) s (shown (placed ws ends) s view) v) proposals) told
       ∙ ap (λ o. ranOf o proposals) (by-places ∙ (analyzed-placed ws ends p s (viewOf (placed ws ends) s) ∙ ap (λ w. relabelled (placeOfLit ws) (analyzed (planOf ws ends) s w)) (view-placed ws ends s)))

@@ -14,7 +14,7 @@ use Rattle.division.specs.Plan.{Plan}
 use Rattle.division.specs.State.{State}
 use Rattle.division.specs.Analysis.{View, place, loose, uncrossed, overfull, raises, merges, cuts, propose, ends, lid, rid}
 use Rattle.noting.specs.Words.{litsOf}
-use Rattle.reasons.specs.declared.Verdict.the-variants.{Going, Over, Under, Crossed}
+use Rattle.reasons.specs.declared.Verdict.the-variants.{Going, Over, Under, Crossing}
 use Rattle.reasons.specs.Words.{packed, litWord, put, firstWord, secondWord, stored}
 use Rattle.reasons.specs.Verdicts.{verdictOf, begun, ran, ranOf}
 use Rattle.analysis.proofs.Pass.{Follows}
@@ -26,11 +26,11 @@ unfolding litsOf litWord
 lit-word x = pick-ind (λ l. litWord l ≡ x) (eqb x 65535) [] (x ∷ []) (λ e. sym (eqb-true x 65535 e)) (λ _. refl)
 
 module _ (d : Plan) (s : State) (w : View) (v : ℕ) (a : List ℕ) where
-  pub uncrossed-not : s .lower v ≤ s .upper v → ran Going a ≡ ranOf (uncrossed d s w v begun) a
+  pub uncrossed-not : d .vertices ≤ v → ran Going a ≡ ranOf (uncrossed d s w v begun) a
   unfolding ranOf stored verdictOf uncrossed pick
   uncrossed-not h = simp (le-ltb _ _ h)
 
-  pub uncrossed-is : s .upper v < s .lower v → ran Crossed a ≡ ranOf (uncrossed d s w v begun) a
+  pub uncrossed-is : v < d .vertices → ran (Crossing v) a ≡ ranOf (uncrossed d s w v begun) a
   unfolding ranOf stored verdictOf uncrossed ends pick
   uncrossed-is h = simp (lt-ltb _ _ h)
 

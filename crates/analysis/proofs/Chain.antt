@@ -13,7 +13,7 @@ use Rattle.reasons.specs.declared.Verdict.{Verdict}
 use Rattle.reasons.specs.declared.Verdict.the-variants.{Going}
 use Rattle.reasons.specs.Verdicts.{goesOn, begun, ran, ranOf}
 use Rattle.analysis.specs.First.{meetsFirst, step4First, analyzedFirst}
-use Rattle.analysis.proofs.Pass.{Regular, follows, same-regular, then-regular, pass-regular, ran-none, ran-after, ran-ended, goes-going}
+use Rattle.analysis.proofs.Pass.{Regular, follows, same-regular, then-regular, guarded-goes, guarded-regular, pass-regular, ran-none, ran-after, ran-ended, goes-going}
 use Rattle.analysis.proofs.Matching.{inside-follows, matched-follows}
 use Rattle.analysis.proofs.Bounds.{uncrossed-follows, overfull-follows, raises-follows, merges-follows, cuts-follows}
 use Rattle.analysis.proofs.Spreading.{parts-follows, spreads-follows}
@@ -51,12 +51,16 @@ module _ (d : Plan) (s : State) (w : View) where
   abbrev spreads-pass : Regular (iter (guarded (spreads d s w)) (d .vertices))
   spreads-pass = pass-regular _ (spreads-follows d s w) (d .vertices)
 
-  pub step2-regular : Regular (step2 d s w)
+  pub step2-regular : (v : ℕ) → Regular (step2 d s w v)
   unfolding step2
-  step2-regular =
-      then-regular (λ o. iter (guarded (raises d s w)) (d .vertices) (iter (guarded (overfull d s w)) (d .vertices) (iter (guarded (uncrossed d s w)) (d .vertices) o))) (iter (guarded (merges d s w)) (d .edges))
-      (then-regular (λ o. iter (guarded (overfull d s w)) (d .vertices) (iter (guarded (uncrossed d s w)) (d .vertices) o)) (iter (guarded (raises d s w)) (d .vertices))
-      (then-regular (iter (guarded (uncrossed d s w)) (d .vertices)) (iter (guarded (overfull d s w)) (d .vertices)) (pass-regular _ (uncrossed-follows d s w) (d .vertices)) overfull-pass) raises-pass) merges-pass
+  step2-regular v =
+      then-regular
+      (λ o. iter (guarded (raises d s w)) (d .vertices) (iter (guarded (overfull d s w)) (d .vertices) (guarded (uncrossed d s w) v o)))
+      (iter (guarded (merges d s w)) (d .edges))
+      (then-regular (λ o. iter (guarded (overfull d s w)) (d .vertices) (guarded (uncrossed d s w) v o))
+      (iter (guarded (raises d s w)) (d .vertices))
+      (then-regular (guarded (uncrossed d s w) v) (iter (guarded (overfull d s w)) (d .vertices))
+      (guarded-regular _ v (uncrossed-follows d s w v)) overfull-pass) raises-pass) merges-pass
 
   pub step3-regular : Regular (step3 d s w)
   unfolding step3
@@ -86,21 +90,32 @@ module _ (d : Plan) (s : State) (w : View) where
     unfolding step1 abstract.begun
     step1-done e g h k = ran-next _ matched-pass _ a b c r Going g h k ∙ ap (λ o. ranOf o a) (sym (pick-no _ _ e))
 
-    pub step2-crossed : goesOn r ≡ false → ran r a ≡ ranOf (iter (guarded (uncrossed d s w)) (d .vertices) begun) a → ran r a ≡ ranOf (step2 d s w begun) a
-    unfolding step2
-    step2-crossed g h = ran-ended _ merges-pass _ a a r g (ran-ended _ raises-pass _ a a r g (ran-ended _ overfull-pass _ a a r g h))
+    crossed-first : (v : ℕ) → ran r a ≡ ranOf (uncrossed d s w v begun) a → ran r a ≡ ranOf (guarded (uncrossed d s w) v begun) a
+    crossed-first v h = h ∙ ap (λ o. ranOf o a) (sym (guarded-goes (uncrossed d s w) v begun refl))
 
-    pub step2-over : (q : Verdict) → goesOn r ≡ true → goesOn q ≡ false → ran r a ≡ ranOf (iter (guarded (uncrossed d s w)) (d .vertices) begun) a →
-        ran q a ≡ ranOf (iter (guarded (overfull d s w)) (d .vertices) begun) a → ran q a ≡ ranOf (step2 d s w begun) a
+    pub step2-crossed : (v : ℕ) → goesOn r ≡ false → ran r a ≡ ranOf (uncrossed d s w v begun) a →
+        ran r a ≡ ranOf (step2 d s w v begun) a
     unfolding step2
-    step2-over q g n h k = ran-ended _ merges-pass _ a a q n (ran-ended _ raises-pass _ a a q n (ran-next _ overfull-pass _ a a a r q g h k))
+    step2-crossed v g h =
+        ran-ended _ merges-pass _ a a r g (ran-ended _ raises-pass _ a a r g (ran-ended _ overfull-pass _ a a r g (crossed-first v h)))
 
-    pub step2-done : (q : Verdict) → goesOn r ≡ true → goesOn q ≡ true → ran r a ≡ ranOf (iter (guarded (uncrossed d s w)) (d .vertices) begun) a →
-        ran q a ≡ ranOf (iter (guarded (overfull d s w)) (d .vertices) begun) a → ran Going b ≡ ranOf (iter (guarded (raises d s w)) (d .vertices) begun) a →
-        ran Going c ≡ ranOf (iter (guarded (merges d s w)) (d .edges) begun) b → ran Going c ≡ ranOf (step2 d s w begun) a
+    pub step2-over : (v : ℕ) (q : Verdict) → goesOn r ≡ true → goesOn q ≡ false →
+        ran r a ≡ ranOf (uncrossed d s w v begun) a →
+        ran q a ≡ ranOf (iter (guarded (overfull d s w)) (d .vertices) begun) a → ran q a ≡ ranOf (step2 d s w v begun) a
     unfolding step2
-    step2-done q g n h k i j =
-        ran-after _ (follows _ merges-pass) _ a b c Going (ran-next _ raises-pass _ a a b q Going n (ran-next _ overfull-pass _ a a a r q g h k) i) j
+    step2-over v q g n h k =
+        ran-ended _ merges-pass _ a a q n
+        (ran-ended _ raises-pass _ a a q n (ran-next _ overfull-pass _ a a a r q g (crossed-first v h) k))
+
+    pub step2-done : (v : ℕ) (q : Verdict) → goesOn r ≡ true → goesOn q ≡ true →
+        ran r a ≡ ranOf (uncrossed d s w v begun) a →
+        ran q a ≡ ranOf (iter (guarded (overfull d s w)) (d .vertices) begun) a →
+        ran Going b ≡ ranOf (iter (guarded (raises d s w)) (d .vertices) begun) a →
+        ran Going c ≡ ranOf (iter (guarded (merges d s w)) (d .edges) begun) b → ran Going c ≡ ranOf (step2 d s w v begun) a
+    unfolding step2
+    step2-done v q g n h k i j =
+        ran-after _ (follows _ merges-pass) _ a b c Going
+        (ran-next _ raises-pass _ a a b q Going n (ran-next _ overfull-pass _ a a a r q g (crossed-first v h) k) i) j
 
     pub step3-under : goesOn r ≡ false → ran r b ≡ ranOf (iter (guarded (cuts d s w)) (d .vertices) begun) a → ran r b ≡ ranOf (step3 d s w begun) a
     unfolding step3
@@ -129,22 +144,30 @@ module _ (d : Plan) (s : State) (w : View) where
     step5-on e h = h ∙ ap (λ o. ranOf o a) (sym (pick-yes _ _ e))
 
     -- the analysis that ends with step 1, 2, 3 or 4, or with step 5
-    pub ends-1 : goesOn r ≡ false → ran r b ≡ ranOf (step1 d s w) a → ran r b ≡ ranOf (analyzedFirst d s w) a
+    pub ends-1 : (v : ℕ) → goesOn r ≡ false → ran r b ≡ ranOf (step1 d s w) a →
+        ran r b ≡ ranOf (analyzedFirst d s w v) a
     unfolding analyzedFirst
-    ends-1 g h = ran-ended _ step5-regular _ a b r g (ran-ended _ step4-regular _ a b r g (ran-ended _ step3-regular _ a b r g (ran-ended _ step2-regular _ a b r g h)))
+    ends-1 v g h =
+        ran-ended _ step5-regular _ a b r g
+        (ran-ended _ step4-regular _ a b r g (ran-ended _ step3-regular _ a b r g (ran-ended _ (step2-regular v) _ a b r g h)))
 
-    pub ends-2 : goesOn r ≡ false → ran r b ≡ ranOf (step2 d s w (step1 d s w)) a → ran r b ≡ ranOf (analyzedFirst d s w) a
+    pub ends-2 : (v : ℕ) → goesOn r ≡ false → ran r b ≡ ranOf (step2 d s w v (step1 d s w)) a →
+        ran r b ≡ ranOf (analyzedFirst d s w v) a
     unfolding analyzedFirst
-    ends-2 g h = ran-ended _ step5-regular _ a b r g (ran-ended _ step4-regular _ a b r g (ran-ended _ step3-regular _ a b r g h))
+    ends-2 v g h = ran-ended _ step5-regular _ a b r g (ran-ended _ step4-regular _ a b r g (ran-ended _ step3-regular _ a b r g h))
 
-    pub ends-3 : goesOn r ≡ false → ran r b ≡ ranOf (step3 d s w (step2 d s w (step1 d s w))) a → ran r b ≡ ranOf (analyzedFirst d s w) a
+    pub ends-3 : (v : ℕ) → goesOn r ≡ false → ran r b ≡ ranOf (step3 d s w (step2 d s w v (step1 d s w))) a →
+        ran r b ≡ ranOf (analyzedFirst d s w v) a
     unfolding analyzedFirst
-    ends-3 g h = ran-ended _ step5-regular _ a b r g (ran-ended _ step4-regular _ a b r g h)
+    ends-3 v g h = ran-ended _ step5-regular _ a b r g (ran-ended _ step4-regular _ a b r g h)
 
-    pub ends-4 : goesOn r ≡ false → ran r b ≡ ranOf (step4First d s w (step3 d s w (step2 d s w (step1 d s w)))) a → ran r b ≡ ranOf (analyzedFirst d s w) a
+    pub ends-4 : (v : ℕ) → goesOn r ≡ false → ran r b ≡ ranOf (step4First d s w (step3 d s w (step2 d s w v (step1 d s w)))) a →
+        ran r b ≡ ranOf (analyzedFirst d s w v) a
     unfolding analyzedFirst
-    ends-4 g h = ran-ended _ step5-regular _ a b r g h
+    ends-4 v g h = ran-ended _ step5-regular _ a b r g h
 
-    pub ends-5 : (q : Verdict) → goesOn r ≡ true → ran r b ≡ ranOf (step4First d s w (step3 d s w (step2 d s w (step1 d s w)))) a → ran q c ≡ ranOf (step5 d s w begun) b → ran q c ≡ ranOf (analyzedFirst d s w) a
+    pub ends-5 : (v : ℕ) (q : Verdict) → goesOn r ≡ true →
+        ran r b ≡ ranOf (step4First d s w (step3 d s w (step2 d s w v (step1 d s w)))) a →
+        ran q c ≡ ranOf (step5 d s w begun) b → ran q c ≡ ranOf (analyzedFirst d s w v) a
     unfolding analyzedFirst
-    ends-5 q g h k = ran-next _ step5-regular _ a b c r q g h k
+    ends-5 v q g h k = ran-next _ step5-regular _ a b c r q g h k

@@ -1,8 +1,7 @@
 -- Step 1, an edge's turn by cases.
-use Prim.Native.Nat.{ℕ, zero, suc, _+_, _-_, _<_, _≤_}
+use Prim.Native.Nat.{ℕ, zero, suc, _-_, _<_, _≤_}
 use native.Mathlib.Omega.{arith}
-use native.Mathlib.Numerals.{add-one, unary-clauses}
-use native.Mathlib.Nat.{le-antisymm}
+use native.Mathlib.Numerals.{unary-clauses}
 use mathlib.Core.Path.{_≡_, refl, sym, ap, ap₂, _∙_, subst}
 use mathlib.Core.Logic.{inl, inr}
 use mathlib.Core.Bool.{Bool, true, false, not, _&&_, _||_}
@@ -17,6 +16,7 @@ use Rattle.sat.specs.Literal.{negate}
 use Rattle.division.specs.Plan.{Plan}
 use Rattle.division.specs.State.{State, stateOf}
 use Rattle.division.specs.Regions.{lowest}
+use Rattle.division.proofs.Views.{lowest-zero}
 use Rattle.division.specs.Reasons.{Reason, edgeInSameGroup, edgeBetweenDifferentGroups}
 use Rattle.division.specs.Analysis.{View, Out, still, guarded, inside, matches, loose, matched, propose, ends, lid, rid}
 use Rattle.reasons.specs.declared.Verdict.the-variants.{Going, DisconnectedInside}
@@ -90,34 +90,6 @@ pub matched-follows : (d : Plan) (s : State) (w : View) (g : ℕ) → Follows (m
 unfolding matched
 matched-follows d s w g = proposes _ _ _
 
--- the lowest number that passes a test, as the loop finds it
-pub lowest-zero : (t : ℕ → Bool) → lowest t 0 ≡ 0
-unfolding lowest
-lowest-zero t = refl
-
-pub lowest-more : (t : ℕ → Bool) (h : ℕ) → lowest t h ≡ h → t h ≡ false → lowest t (h + 1) ≡ h + 1
-unfolding lowest pick
-lowest-more t h e f = rw add-one (simp (f, e, le-ltb h h (omega arith)))
-
-lowest-stays : (t : ℕ → Bool) (h n : ℕ) → h ≡ lowest t n → h < n → h ≡ lowest t (suc n)
-unfolding lowest
-lowest-stays t h n e l = e ∙ sym (pick-yes _ _ (ap (λ i. ltb i n) (sym e) ∙ lt-ltb h n l))
-
-lowest-last : (t : ℕ → Bool) (h : ℕ) → lowest t h ≡ h → t h ≡ true → h ≡ lowest t (suc h)
-unfolding lowest
-lowest-last t h e f = sym (pick-no _ _ (ap (λ i. ltb i h) e ∙ le-ltb h h (omega arith)) ∙ pick-yes _ _ f)
-
-pub lowest-here : (t : ℕ → Bool) (h n : ℕ) → lowest t h ≡ h → t h ≡ true → h < n → h ≡ lowest t n
-lowest-here t h zero e f l = absurd (omega (arith, l))
-lowest-here t h (suc n) e f l =
-    elim (eq-or-not h n) [
-      | inl k ↦ subst (λ i. h ≡ lowest t (suc i)) k (lowest-last t h e f)
-      | inr k ↦ lowest-stays t h n (lowest-here t h n e f (omega (arith, l, k))) (omega (arith, l, k))
-    ]
-
-pub lowest-left : (t : ℕ → Bool) (h n : ℕ) → lowest t h ≡ h → h ≤ n → n ≤ h → n ≡ lowest t n
-lowest-left t h n e l k = let q = le-antisymm l k in sym (ap (lowest t) (sym q) ∙ (e ∙ q))
-
 -- the last disconnected edge, as the loop finds it
 pub end-none : (noted : List ℕ) (n k : ℕ) → k ≤ 0 → disconnectedEnd noted k ≡ disconnectedEnd noted n → 0 ≡ disconnectedEnd noted n
 unfolding disconnectedEnd
@@ -156,6 +128,10 @@ end-past noted (suc n) i h l e = tested (eqb (getD noted n 0) 1)
     ])
 
 -- so a search may end there: what it finds is the lowest of all, and where it finds none there is none
+lowest-stays : (t : ℕ → Bool) (h n : ℕ) → h ≡ lowest t n → h < n → h ≡ lowest t (suc n)
+unfolding lowest
+lowest-stays t h n e l = e ∙ sym (pick-yes _ _ (ap (λ i. ltb i n) (sym e) ∙ lt-ltb h n l))
+
 lowest-up : (t : ℕ → Bool) (m n : ℕ) → m ≤ n → lowest t m < m → lowest t m ≡ lowest t n
 lowest-up t m zero h l = ap (lowest t) (omega (arith, h))
 lowest-up t m (suc n) h l =

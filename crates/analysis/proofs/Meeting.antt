@@ -10,7 +10,7 @@ use Rattle.base.specs.Iter.{iter, pick}
 use Rattle.base.proofs.Loop.{pick-yes, pick-no, tested}
 use Rattle.base.proofs.Tests.{and-left, and-right}
 use Rattle.division.specs.Plan.{Plan}
-use Rattle.division.specs.State.{State}
+use Rattle.division.specs.State.{State, crossedAt}
 use Rattle.division.specs.Conflicts.{sumLower, greedy}
 use Rattle.division.specs.Analysis.{View, Out, best, crowds, meets, ends, still, guarded, step4, step5, analyzed, spreads, parts}
 use Rattle.graph.specs.Bounds.{walkable}
@@ -112,6 +112,6 @@ module _ (d : Plan) (s : State) (w : View)
   unfolding step4First step4
   step4-same o = ap (λ q. iter (guarded (spreads d s w)) (d .vertices) (iter (guarded (parts d s w)) (d .edges) q)) (pass-same (d .vertices) o (omega arith))
 
-  pub analyzed-first : analyzedFirst d s w ≡ analyzed d s w
+  pub analyzed-first : analyzedFirst d s w (crossedAt d s) ≡ analyzed d s w
   unfolding analyzedFirst analyzed
   analyzed-first = ap (step5 d s w) (step4-same _)

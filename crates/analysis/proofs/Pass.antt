@@ -11,9 +11,9 @@ use lib.Dec.{ltb}
 use lib.ListN.{length, set, length-set}
 use Rattle.base.specs.Iter.{iter, pick}
 use Rattle.base.proofs.Loop.{pick-ind}
-use Rattle.division.specs.Conflicts.{disconnectedInside, over, under, crowded, apart}
+use Rattle.division.specs.Conflicts.{disconnectedInside, crossing, over, under, crowded, apart}
 use Rattle.division.specs.Analysis as abstract
-use Rattle.division.specs.Analysis.{Proposal, Out, going, conflict, crossed, zeroSize, still, guarded}
+use Rattle.division.specs.Analysis.{Proposal, Out, going, conflict, zeroSize, still, guarded}
 use Rattle.reasons.specs.declared.Verdict.{Verdict}
 use Rattle.reasons.specs.declared.Verdict.the-variants.{Going}
 use Rattle.reasons.specs.Words.{put, firstWord, secondWord, stored}
@@ -43,25 +43,23 @@ says-going : (x : abstract.Verdict) → goesOn (verdictOf x) ≡ true → x ≡ 
 unfolding verdictOf
 says-going going e = refl
 says-going (conflict (disconnectedInside g)) e = absurd (false≢true e)
+says-going (conflict (crossing v)) e = absurd (false≢true e)
 says-going (conflict (over v)) e = absurd (false≢true e)
 says-going (conflict (under v)) e = absurd (false≢true e)
 says-going (conflict (crowded r ps)) e = absurd (false≢true e)
 says-going (conflict (apart a b)) e = absurd (false≢true e)
-says-going crossed e = absurd (false≢true e)
 says-going zeroSize e = absurd (false≢true e)
 
 says-ended : (x : abstract.Verdict) → goesOn (verdictOf x) ≡ false → still x ≡ false
 unfolding verdictOf still
 says-ended going e = absurd (false≢true (sym e))
 says-ended (conflict c) e = refl
-says-ended crossed e = refl
 says-ended zeroSize e = refl
 
 pub still-or : {X : Type 0} (x : abstract.Verdict) → (x ≡ going → X) → (still x ≡ false → X) → X
 unfolding still
 still-or going f g = f refl
 still-or (conflict c) f g = g refl
-still-or crossed f g = g refl
 still-or zeroSize f g = g refl
 
 pub ran-eq : (r s : Verdict) (a b : List ℕ) → r ≡ s → a ≡ b → ran r a ≡ ran s b
@@ -85,7 +83,7 @@ pub record Follows (f : Out → Out) : Type 0 where
 pub follows : (f : Out → Out) → Regular f → Follows f
 follows f u = record { says = u .says; onto = u .onto }
 
-guarded-goes : (f : ℕ → Out → Out) (i : ℕ) (o : Out) → o .verdict ≡ going → guarded f i o ≡ f i o
+pub guarded-goes : (f : ℕ → Out → Out) (i : ℕ) (o : Out) → o .verdict ≡ going → guarded f i o ≡ f i o
 unfolding guarded pick still
 guarded-goes f i o e = simp e
 

@@ -6,7 +6,7 @@ use mathlib.Core.List.{List, []}
 use Rattle.base.specs.Iter.{iter, pick}
 use Rattle.sat.specs.Literal.{negate}
 use Rattle.division.specs.Plan.{Plan, touches, across}
-use Rattle.division.specs.State.{State}
+use Rattle.division.specs.State.{State, crossedAt}
 use Rattle.division.specs.Reasons.{Reason}
 use Rattle.division.specs.Analysis.{View, Verdict, Out, still, propose, ends, guarded, inside, matches, loose, matched, uncrossed, overfull, raises, merges, cuts, crowds, meets, parts, spreadsLow, spreadsHigh, spreads, forks, sameSize, sameSizeReason, parted, partsAt, begun, step1, step2, step3, step4, step5, analyzed}
 use Rattle.analysis.specs.Relabel.{relabel, relabelled, relabelledPlan}
@@ -139,12 +139,12 @@ module _ (φ : ℕ → ℕ) where
         picks-re (d .allowExtraWalls) _ (begun d s w) _ _ begun-re
         (ap (iter (guarded (matched d' s w)) (d .edges)) (ap (iter (guarded (inside d' s w)) (d .edges)) begun-re ∙ pass-re _ _ inside-re (d .edges) (begun d s w)) ∙ pass-re _ _ matched-re (d .edges) _)
 
-    step2-re : (o : Out) → step2 d' s w (re o) ≡ re (step2 d s w o)
+    step2-re : (v : ℕ) (o : Out) → step2 d' s w v (re o) ≡ re (step2 d s w v o)
     unfolding step2
-    step2-re o =
+    step2-re v o =
         ap (iter (guarded (merges d' s w)) (d .edges))
         (ap (iter (guarded (raises d' s w)) (d .vertices))
-        (ap (iter (guarded (overfull d' s w)) (d .vertices)) (pass-re _ _ uncrossed-re (d .vertices) o) ∙ pass-re _ _ overfull-re (d .vertices) _) ∙ pass-re _ _ raises-re (d .vertices) _) ∙
+        (ap (iter (guarded (overfull d' s w)) (d .vertices)) (guarded-re (uncrossed d s w) (uncrossed d' s w) v o (uncrossed-re v o)) ∙ pass-re _ _ overfull-re (d .vertices) _) ∙ pass-re _ _ raises-re (d .vertices) _) ∙
         pass-re _ _ merges-re (d .edges) _
 
     step3-re : (o : Out) → step3 d' s w (re o) ≡ re (step3 d s w o)
@@ -162,6 +162,6 @@ module _ (φ : ℕ → ℕ) where
     step5-re o = picks-re (d .disallowAdjacentSameSizeRegions) _ _ _ o (pass-re _ _ partsAt-re (d .vertices) o) refl
 
     pub analyzed-re : analyzed d' s w ≡ re (analyzed d s w)
-    unfolding analyzed
+    unfolding analyzed crossedAt
     analyzed-re =
-        ap (step5 d' s w) (ap (step4 d' s w) (ap (step3 d' s w) (ap (step2 d' s w) step1-re ∙ step2-re _) ∙ step3-re _) ∙ step4-re _) ∙ step5-re _
+        ap (step5 d' s w) (ap (step4 d' s w) (ap (step3 d' s w) (ap (step2 d' s w (crossedAt d s)) step1-re ∙ step2-re _ _) ∙ step3-re _) ∙ step4-re _) ∙ step5-re _

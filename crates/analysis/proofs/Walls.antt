@@ -16,7 +16,7 @@ use Rattle.division.specs.Regions.{lowest}
 use Rattle.division.specs.Analysis.{matches, lid, rid}
 use Rattle.analysis.specs.Placed.{Words, on}
 use Rattle.analysis.specs.First.{pairPlace, Walled}
-use Rattle.analysis.proofs.Matching.{lowest-zero, lowest-more}
+use Rattle.division.proofs.Views.{lowest-zero, lowest-more}
 
 place-low : (a b : ℕ) → pairPlace a b < 4096
 unfolding pairPlace

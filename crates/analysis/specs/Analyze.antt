@@ -1,4 +1,5 @@
--- `analyze` on any words: what it computes first, then the five steps.
+-- `analyze` on any words: what it computes first, then the five steps. The vertex v is the lowest whose bounds cross, as applying a literal
+-- told it.
 use mathlib.Core.Path.{_≡_}
 use mathlib.Core.Bool.{true}
 use mathlib.Core.List.{List}
@@ -19,8 +20,9 @@ pub record Fit (ws : List ℕ) (es : List (List ℕ)) (noted : List ℕ) : Type 
   pub edges : edgesOf ws ≤ 128
   pub walks : walkable es noted (edgesOf ws) (verticesOf ws) ≡ true
 
-unfoldable pub analyzeBy : List ℕ → List (List ℕ) → List ℕ → List ℕ → Computed → Ran
-analyzeBy ws es noted proposals c = pick (c .done) (ranOf (on analyzedFirst (words ws es noted (c .words))) proposals) (ran Unfit proposals)
+unfoldable pub analyzeBy : List ℕ → List (List ℕ) → List ℕ → ℕ → List ℕ → Computed → Ran
+analyzeBy ws es noted v proposals c =
+    pick (c .done) (ranOf (on analyzedFirst (words ws es noted (c .words)) v) proposals) (ran Unfit proposals)
 
-unfoldable pub analyzeWords : List ℕ → List (List ℕ) → List ℕ → List ℕ → Ran
-analyzeWords ws es noted proposals = analyzeBy ws es noted proposals (computeView ws es noted (replicate 512 0))
+unfoldable pub analyzeWords : List ℕ → List (List ℕ) → List ℕ → ℕ → List ℕ → Ran
+analyzeWords ws es noted v proposals = analyzeBy ws es noted v proposals (computeView ws es noted (replicate 512 0))

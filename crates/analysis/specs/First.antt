@@ -33,5 +33,6 @@ module _ (d : Plan) (s : State) (w : View) where
   unfoldable pub step4First : Out → Out
   step4First o = iter (guarded (spreads d s w)) (d .vertices) (iter (guarded (parts d s w)) (d .edges) (iter (guarded meetsFirst) (d .vertices) o))
 
-  unfoldable pub analyzedFirst : Out
-  analyzedFirst = step5 d s w (step4First (step3 d s w (step2 d s w (step1 d s w))))
+  -- where v is what applying a literal told of crossed bounds
+  unfoldable pub analyzedFirst : ℕ → Out
+  analyzedFirst v = step5 d s w (step4First (step3 d s w (step2 d s w v (step1 d s w))))

@@ -42,13 +42,22 @@ fn step1(plan: &Plan, edges: Edges, noted: &Noted, view: &View, proposals: &mut 
     found
 }
 
-fn step2(plan: &Plan, edges: Edges, noted: &Noted, view: &View, proposals: &mut [u64]) -> Verdict
+fn step2(
+    plan: &Plan,
+    edges: Edges,
+    noted: &Noted,
+    crossed: usize,
+    view: &View,
+    proposals: &mut [u64],
+) -> Verdict
     requires { ⌜ Fit (now plan) edges (now noted) ⌝ }
-    ensures { λ r. ⌜ ran r (now (proposals .exit)) ≡ ranOf (on step2 (words (now (plan .entry)) edges (now (noted .entry)) (now (view .entry))) begun) (now (proposals .entry)) ⌝ }
+    ensures { λ r. ⌜ ran r (now (proposals .exit))
+        ≡ ranOf (on step2 (words (now (plan .entry)) edges (now (noted .entry)) (now (view .entry))) crossed begun)
+        (now (proposals .entry)) ⌝ }
 {
-    let n = plan::num_vertices(plan) as usize;
-    let crossed = check_crossed(noted, n);
-    if goes_on(crossed) {
+    let found = check_crossed(plan, crossed);
+    if goes_on(found) {
+        let n = plan::num_vertices(plan) as usize;
         let over = check_overfull(noted, view, n);
         if goes_on(over) {
             raise_lower_bounds(plan, noted, view, proposals);
@@ -57,7 +66,7 @@ fn step2(plan: &Plan, edges: Edges, noted: &Noted, view: &View, proposals: &mut 
         }
         return over;
     }
-    crossed
+    found
 }
 
 fn step3(plan: &Plan, noted: &Noted, view: &View, proposals: &mut [u64]) -> Verdict
@@ -94,13 +103,22 @@ fn step5(plan: &Plan, edges: Edges, noted: &Noted, view: &View, proposals: &mut 
     Verdict::Going
 }
 
-fn steps(plan: &Plan, edges: Edges, noted: &Noted, view: &View, proposals: &mut [u64]) -> Verdict
+fn steps(
+    plan: &Plan,
+    edges: Edges,
+    noted: &Noted,
+    crossed: usize,
+    view: &View,
+    proposals: &mut [u64],
+) -> Verdict
     requires { ⌜ Fit (now plan) edges (now noted) ⌝ }
-    ensures { λ r. ⌜ ran r (now (proposals .exit)) ≡ ranOf (on analyzedFirst (words (now (plan .entry)) edges (now (noted .entry)) (now (view .entry)))) (now (proposals .entry)) ⌝ }
+    ensures { λ r. ⌜ ran r (now (proposals .exit))
+        ≡ ranOf (on analyzedFirst (words (now (plan .entry)) edges (now (noted .entry)) (now (view .entry))) crossed)
+        (now (proposals .entry)) ⌝ }
 {
     let first = step1(plan, edges, noted, view, proposals);
     if goes_on(first) {
-        let second = step2(plan, edges, noted, view, proposals);
+        let second = step2(plan, edges, noted, crossed, view, proposals);
         if goes_on(second) {
             let third = step3(plan, noted, view, proposals);
             if goes_on(third) {
@@ -118,13 +136,20 @@ fn steps(plan: &Plan, edges: Edges, noted: &Noted, view: &View, proposals: &mut 
 }
 
 // Analyzes what is noted: the verdict, and the proposals' words, newest reasons over what was there. Where the words are no
-// plan's, Unfit, and nothing is stored.
-pub fn analyze(plan: &Plan, edges: Edges, noted: &Noted, proposals: &mut [u64]) -> Verdict
-    ensures { λ r. ⌜ ran r (now (proposals .exit)) ≡ analyzeWords (now (plan .entry)) edges (now (noted .entry)) (now (proposals .entry)) ⌝ }
+// plan's, Unfit, and nothing is stored. Which vertex's bounds cross, if any, is what applying a literal told.
+pub fn analyze(
+    plan: &Plan,
+    edges: Edges,
+    noted: &Noted,
+    crossed: usize,
+    proposals: &mut [u64],
+) -> Verdict
+    ensures { λ r. ⌜ ran r (now (proposals .exit))
+        ≡ analyzeWords (now (plan .entry)) edges (now (noted .entry)) crossed (now (proposals .entry)) ⌝ }
 {
     let mut view = [0u32; 512];
     if views::compute::compute_view(plan, edges, noted, &mut view) {
-        return steps(plan, edges, noted, &view, proposals);
+        return steps(plan, edges, noted, crossed, &view, proposals);
     }
     Verdict::Unfit
 }

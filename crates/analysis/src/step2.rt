@@ -1,5 +1,5 @@
 // Step 2. Document 01: "Crossed bounds (refusal 12). Upper bound below the region's weight: conflict. Lower bounds raised; gates
-// shut where the merged weight is over an upper bound."
+// shut where the merged weight is over an upper bound." Crossed bounds are a conflict since document 02, request 2.
 use crate::decided_weight;
 use crate::edge_place;
 use crate::left_region;
@@ -31,26 +31,14 @@ ghost use Rattle.reasons.specs.declared.Verdict.the-variants.{Going};
 ghost use Rattle.reasons.specs.Verdicts.{begun, ran, ranOf};
 ghost use Rattle.analysis.specs.Placed.{words, on, Finds};
 
-// Vertex v: its lower bound is over its upper bound. The one place of refusal 12.
-fn uncrossed(noted: &Noted, v: usize) -> Verdict
-    ensures { λ r. ⌜ Finds r (on uncrossed (words [] [] (now (noted .entry)) []) v begun) ⌝ }
+// Crossed bounds, where applying a literal told a vertex of them.
+pub(crate) fn check_crossed(plan: &Plan, crossed: usize) -> Verdict
+    ensures { λ r. ⌜ Finds r (on uncrossed (words (now (plan .entry)) [] [] []) crossed begun) ⌝ }
 {
-    if upper_bound(noted, v) < lower_bound(noted, v) {
-        return Verdict::Crossed;
-    }
-    Verdict::Going
-}
-
-// Every vertex in order, up to a crossed one.
-pub(crate) fn check_crossed(noted: &Noted, n: usize) -> Verdict
-    ensures { λ r. ⌜ Finds r (iter (guarded (on uncrossed (words [] [] (now (noted .entry)) []))) n begun) ⌝ }
-{
-    for v in 0..n {
-        let found = uncrossed(noted, v);
-        if goes_on(found) {
-            continue;
-        }
-        return found;
+    if crossed < plan::num_vertices(plan) as usize {
+        return Verdict::Crossing {
+            vertex_idx: crossed,
+        };
     }
     Verdict::Going
 }

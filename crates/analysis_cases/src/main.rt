@@ -1,6 +1,6 @@
 // Runs one analysis on each block of standard input: O, P and G lines, then a line `N·literal·1` for each literal to be noted, in
 // order; a line `---` or the input's end ends a block. For each block the program writes `E` and the number if the plan is refused;
-// otherwise the verdict, `C` where the analysis goes on to its end, `X` and the list of a conflict, `E` and 12 or 13, and then, by
+// otherwise the verdict, `C` where the analysis goes on to its end, `X` and the list of a conflict, `E` and 13, and then, by
 // rising literal, a line `P·literal·list` for each proposal that the analysis recorded, also where it ended in a conflict.
 //
 // The file stdin is tests/analysis/named and after it what `tests/analysis/generate 1 280` prints. The file stdout has the Rust's
@@ -255,7 +255,8 @@ fn note_all(
     let mut i = 0;
     while i < count {
         if i < 2176 {
-            cursor = noting::note::note(plan, noted, log, cursor, lit_number(lits[i]));
+            let told = noting::note::note(plan, noted, log, cursor, lit_number(lits[i]));
+            cursor = told.cursor;
         }
         i += 1;
     }
@@ -287,7 +288,6 @@ fn put_conflict(plan: &Plan, edges: Edges, noted: &Noted, verdict: Verdict) {
 fn put_verdict(plan: &Plan, edges: Edges, noted: &Noted, verdict: Verdict) {
     match verdict {
         Verdict::Going => put(b"C\n"),
-        Verdict::Crossed => put_refusal(12),
         Verdict::ZeroSize => put_refusal(13),
         Verdict::Unfit => put(b"unfit\n"),
         _ => put_conflict(plan, edges, noted, verdict),
@@ -326,7 +326,8 @@ fn show_analysis(plan: &Plan, edges: Edges, lits: &[i32; 2176], count: usize) {
     let mut log = [0u64; 4352];
     note_all(plan, lits, count, &mut noted, &mut log);
     let mut proposals = [0u64; 8704];
-    let verdict = analysis::analyze::analyze(plan, edges, &noted, &mut proposals);
+    let crossed = noting::note::crossed(plan, &noted);
+    let verdict = analysis::analyze::analyze(plan, edges, &noted, crossed, &mut proposals);
     put_verdict(plan, edges, &noted, verdict);
     put_proposals(plan, edges, &noted, &proposals);
 }

@@ -22,13 +22,13 @@ use Rattle.walks.specs.Answers.{Answer, given, missing, connectedPath, decidedR
 use Rattle.reasons.specs.declared.reason.Reason.{Reason}
 use Rattle.reasons.specs.declared.reason.Reason.the-variants.{NotPropagated, EdgeInSameGroup, EdgeBetweenDifferentGroups, TooLargeIfRegionsAreMerged, RegionAlreadyLarge, RegionAlreadySmall, InconsistentBoundsIfRegionsAreMerged, BoundPropagationWithinRegion, AdjacentSameSizeRegions}
 use Rattle.reasons.specs.declared.Verdict.{Verdict}
-use Rattle.reasons.specs.declared.Verdict.the-variants.{Going, DisconnectedInside, Over, Under, Crowded, Apart, Crossed, ZeroSize, Unfit}
+use Rattle.reasons.specs.declared.Verdict.the-variants.{Going, DisconnectedInside, Over, Under, Crowded, Apart, Crossing, ZeroSize, Unfit}
 use Rattle.lists.specs.Parts.{shapeOf, after, then, path, decided, potential, twoPaths, inside, twoRegions, threeRegions, andWord, andLit, andOpt}
 use Rattle.lists.specs.Lists.{between, tooLarge, mismatched, spread, sameSized, reasonLits}
-use Rattle.lists.specs.Conflicts.{spanAfter, spansAfter, apartLits, conflictLits}
+use Rattle.lists.specs.Conflicts.{spanAfter, spansAfter, crossingLits, apartLits, conflictLits}
 use Rattle.judge.specs.declared.Judgement.{Judgement}
 use Rattle.judge.specs.declared.Judgement.the-variants.{Fine, Clash, Stopped}
-use Rattle.judge.specs.Judge.{Listing, Judged, listed, ofList, judgeCurrent, ofFalse, judgeChosen, judgeConflict, crowdedBy, judgeCrowded, falseLits, judgeFalse, judgeProposals, judgeFound, withWords, judgeRan, judgeWords}
+use Rattle.judge.specs.Judge.{Listing, Judged, listed, ofList, judgeCurrent, ofFalse, judgeChosen, judgeConflict, crowdedBy, judgeCrowded, falseLits, judgeFalse, judgeProposals, judgeFound, withWords, judgeRan, judgeTold, judgeWords}
 use Rattle.graph_division.specs.declared.GraphDivision.{GraphDivision}
 use Rattle.graph_division.specs.declared.Outcome.{Outcome}
 use Rattle.graph_division.specs.Calls.{Called, withNoted, withJudged, refuse, adding, accepting, handingOn, settledBy, settled, propagated, undone}
@@ -134,14 +134,14 @@ module _ (n : ℕ) where
     spans-within (p ∷ ps) a h = spans-within ps _ (lit-within _ _ (lit-within _ a h))
 
     conflict-within : (v : Verdict) (ps : List ℕ) (o : Out) → In n o → Within n (conflictLits ws es noted v ps o)
-    unfolding conflictLits path inside apartLits
+    unfolding conflictLits path inside crossingLits spanAfter apartLits
     conflict-within Going ps o h = missing-within o h
     conflict-within (DisconnectedInside g) ps o h = word-within _ _ (path-within _ _ o h)
     conflict-within (Over v) ps o h = lit-within _ _ (decided-within v o h)
     conflict-within (Under v) ps o h = lit-within _ _ (potential-within v o h)
     conflict-within (Crowded r) ps o h = spans-within ps _ (potential-within r o h)
     conflict-within (Apart a b) ps o h = lit-within _ _ (lit-within _ _ (path-within _ _ o h))
-    conflict-within Crossed ps o h = missing-within o h
+    conflict-within (Crossing v) ps o h = lit-within _ _ (lit-within _ _ (given-within [] o h))
     conflict-within ZeroSize ps o h = missing-within o h
     conflict-within Unfit ps o h = missing-within o h
 
@@ -190,12 +190,12 @@ module _ (n : ℕ) where
     found-most t (Under v) words = conflict-most (Under v)
     found-most t (Crowded r) words = crowded-most r
     found-most t (Apart a b) words = conflict-most (Apart a b)
-    found-most t Crossed words = tt
+    found-most t (Crossing v) words = conflict-most (Crossing v)
     found-most t ZeroSize words = tt
     found-most t Unfit words = tt
 
     pub judged-most : (t proposals : List ℕ) → Most n (judgeWords ws es noted t proposals l .judgement)
-    unfolding judgeWords judgeRan withWords
+    unfolding judgeWords judgeTold judgeRan withWords
     judged-most t proposals = pick-ind (λ (x : Judged). Most n (x .judgement)) _ _ _ (λ _. found-most t _ _) (λ _. tt)
 
     -- and the buffer is as long as it was
@@ -219,12 +219,12 @@ module _ (n : ℕ) where
     found-long t (Under v) words = chosen-long (Under v) []
     found-long t (Crowded r) words = crowded-long r
     found-long t (Apart a b) words = chosen-long (Apart a b) []
-    found-long t Crossed words = e
+    found-long t (Crossing v) words = chosen-long (Crossing v) []
     found-long t ZeroSize words = e
     found-long t Unfit words = e
 
     judged-long : (t proposals : List ℕ) → length (judgeWords ws es noted t proposals l .left) ≡ n
-    unfolding judgeWords judgeRan withWords
+    unfolding judgeWords judgeTold judgeRan withWords
     judged-long t proposals = pick-ind (λ (x : Judged). length (x .left) ≡ n) _ _ _ (λ _. found-long t _ _) (λ _. e)
 
 -- a length of 32 bits

@@ -14,5 +14,6 @@ pub mod Store
 pub mod Computes
 pub mod Refusals
 pub mod Truths
+pub mod Crossed
 pub mod Alike
 pub mod Slots

@@ -1,5 +1,5 @@
 -- A call is refused with the first number of document 01's table that applies, and accepted where none does.
-use native.Mathlib.Nat.{le-refl, le-antisymm}
+use native.Mathlib.Nat.{le-antisymm}
 use Prim.Native.Nat.{ℕ, zero, suc, _<_, _≤_}
 use native.Mathlib.Omega.{arith}
 use mathlib.Core.Path.{_≡_, refl, sym, _∙_, ap, subst}
@@ -14,12 +14,13 @@ use Rattle.base.proofs.Loop.{pick-ind, pick-no, tested, pick-yes}
 use Rattle.base.proofs.Tests.{or-cases, le-or-lt}
 use Rattle.division.specs.Plan.{Plan, Proper}
 use Rattle.division.specs.Runs.{analysis}
-use Rattle.division.specs.Analysis.{Verdict, going, conflict, crossed, zeroSize}
-use Rattle.division.proofs.Verdicts.{verdict-crosses, crosses-verdict, verdict-zero, zero-verdict}
+use Rattle.division.specs.Analysis.{Verdict, going, conflict, zeroSize}
+use Rattle.division.proofs.Verdicts.{verdict-zero, zero-verdict}
 use Rattle.calls.specs.Table.{codeOf, coded, currentIn, someCurrent, tooHigh, badTable, has, variables, falseIn, entered}
 use Rattle.calls.specs.Look.{fine, clash, stopped, Looked, looked, lookedBy, offered, offers, firstFalse, stop, clashes, Judgement}
 use Rattle.calls.specs.Calls.{consistent, conflicting, noted, undone, refused, reason, foundRun, World, taken, Call, onPropagate, onUndo, Query, Answer, settled, takeBack, tell, onAsk, refuse, propagate, accepted, undo, ask, Outcome, settledBy, Going, propagateAll, oneBy, entry, joinBy, finishBy, lastBy, initialize, onInitialize, call}
-use Rattle.calls.specs.Refusals.{BadTable, short, high, Known, Stands, Stops, at12, at13, at14, roomOf, AppliesTo, Applies, First, Stage, CrossedAt, ZeroAt}
+use Rattle.calls.specs.Refusals.{BadTable, short, high, Known, Stands, ZeroAt, Stops, at13, at14, Stage, roomOf}
+use Rattle.calls.specs.Refusals.{AppliesTo, Applies, Works, First}
 use Rattle.calls.proofs.Looks.{stop-not-fine, stop-not-clash}
 use Rattle.calls.proofs.Known.{known, unknown}
 use Rattle.calls.proofs.Stands.{or-left}
@@ -100,19 +101,16 @@ module _ (d : Plan) (ls t : List ℕ) where
       by : (v : Verdict) → analysis d ls .verdict ≡ v → lookedBy d ls t (analysis d ls) v .judgement ≡ stopped n → Stops d ls t n
       by going e q = offers-by _ e refl q
       by (conflict c) e q = absurd (stop-not-clash n (sym q))
-      by crossed e q = subst (Stops d ls t) (number q) (at12 (verdict-crosses d _ _ e))
       by zeroSize e q = subst (Stops d ls t) (number q) (at13 (verdict-zero d _ _ e))
 
   stops-look : (n : ℕ) → Stops d ls t n → looked d ls t .judgement ≡ stopped n
   unfolding looked lookedBy offered stop
-  stops-look n (at12 c) = ap (λ (v : Verdict). lookedBy d ls t (analysis d ls) v .judgement) (crosses-verdict d _ _ c)
   stops-look n (at13 c) = ap (λ (v : Verdict). lookedBy d ls t (analysis d ls) v .judgement) (zero-verdict d _ _ c)
   stops-look n (at14 c) =
       ap (λ (v : Verdict). lookedBy d ls t (analysis d ls) v .judgement) (c .clear) ∙ ap (λ (z : List ℕ). offered d ls t (analysis d ls) z .judgement) (c .first) ∙
       ap (λ (z : Looked). z .judgement) (pick-no _ _ (current-none t _ (c .none)))
 
   stops-number : (n : ℕ) → Stops d ls t n → 12 ≤ n
-  stops-number n (at12 c) = le-refl 12
   stops-number n (at13 c) = omega arith
   stops-number n (at14 c) = omega arith
 
@@ -177,6 +175,20 @@ module _ (d : Plan) (w : World) where
   unfolding roomOf
   lacks-propagate room t l pending (inl e) = Applies.noRoom _ e
   lacks-propagate room t l pending (inr b) = Applies.badPropagate room t l pending b
+
+  -- where none of 7 to 11 applies, a notification with nothing pending is worked on
+  pub propagate-works : (room : Bool) (t : List ℕ) (l : ℕ) (pending : Bool) → pending ≡ false →
+      Works d w (propagate room t l pending) → call d (propagate room t l pending) w ≡ settled d w t l
+  unfolding call onPropagate
+  propagate-works room t l pending p k =
+      pick-ind W _ _ _ (λ e. absurd (k 7 (omega arith) (lacks-propagate room t l pending (lacks d room t e))))
+      (λ _. pick-ind W _ _ _
+      (λ e. absurd (k 9 (omega arith) (Applies.unknownPropagate room t l pending (unknown d l (not-false _ e)))))
+      (λ _. pick-ind W _ _ _ (λ e. absurd (k 10 (omega arith) (Applies.stands room t l pending (stands w l e))))
+      (λ _. pick-ind W _ _ _ (λ e. absurd (true≢false (sym e ∙ p))) (λ _. refl))))
+    where
+      W : Outcome → Type 0
+      W o = o ≡ settled d w t l
 
   judge-propagate : (room : Bool) (t : List ℕ) (l : ℕ) (pending : Bool) → Judged d w (propagate room t l pending) (onPropagate d w room t l pending .answer)
   unfolding onPropagate settled settledBy refuse accepted
@@ -313,22 +325,20 @@ module _ (d : Plan) (w : World) (t : List ℕ) where
   data Work (n : ℕ) : Type 0 where
     atLit : (a : Going) (l : ℕ) (ls : List ℕ) → n ≡ 10 → Stage d w t a (l ∷ ls) → Stands (a .world) l → Work n
     atWork : (a : Going) (l : ℕ) (ls : List ℕ) → Stage d w t a (l ∷ ls) → (Stands (a .world) l → ⊥) → Stops d (l ∷ a .world .standing) (a .table) n → Work n
-    lastCrossed : (a : Going) → n ≡ 12 → Stage d w t a [] → CrossedAt d (a .world .standing) → Work n
     lastZero : (a : Going) → n ≡ 13 → Stage d w t a [] → ZeroAt d (a .world .standing) → Work n
 
   work-number : (n : ℕ) → Work n → 10 ≤ n
   work-number n (atLit a l ls e s x) = omega arith
   work-number n (atWork a l ls s k x) = omega (arith, stops-number d _ _ n x)
-  work-number n (lastCrossed a e s x) = omega arith
   work-number n (lastZero a e s x) = omega arith
 
-  abbrev ended : Going
+  abbrev pub ended : Going
   ended = propagateAll d (entered d t) (entry w t)
 
   -- the rest of the notifications starts from a stage that is fine
-  record Runs (a : Going) (ls : List ℕ) : Type 0 where
-    fineYet : a .judgement ≡ fine
-    rest : ended ≡ propagateAll d ls a
+  pub record Runs (a : Going) (ls : List ℕ) : Type 0 where
+    pub fineYet : a .judgement ≡ fine
+    pub rest : ended ≡ propagateAll d ls a
 
   one-fine : (a : Going) (l : ℕ) (ls : List ℕ) → a .judgement ≡ fine → propagateAll d (l ∷ ls) a ≡ propagateAll d ls (oneBy d l a fine)
   unfolding propagateAll
@@ -340,7 +350,7 @@ module _ (d : Plan) (w : World) (t : List ℕ) where
   joins a l ls j e n q =
       one-fine a l ls e ∙ ap (propagateAll d ls) (pick-no _ _ (not-taken (a .world) l n) ∙ ap (joinBy a l (looked d (l ∷ a .world .standing) (a .table))) q)
 
-  stage-runs : {a : Going} {ls : List ℕ} → Stage d w t a ls → Runs a ls
+  pub stage-runs : {a : Going} {ls : List ℕ} → Stage d w t a ls → Runs a ls
   unfolding entry joinBy
   stage-runs Stage.first = record { fineYet = refl; rest = refl }
   stage-runs (Stage.next {a = a} {l = l} {ls = ls} s n e) = let r = stage-runs s in record { fineYet = refl; rest = r .rest ∙ joins a l ls fine (r .fineYet) n e }
@@ -355,13 +365,17 @@ module _ (d : Plan) (w : World) (t : List ℕ) where
   unfolding joinBy
   stopped-at a l ls n e k q = ap (λ (b : Going). b .judgement) (joins a l ls (stopped n) e k q ∙ stop-stays d ls _ n refl)
 
-  clashed-at : (a : Going) (l : ℕ) (ls : List ℕ) → a .judgement ≡ fine → (Stands (a .world) l → ⊥) → looked d (l ∷ a .world .standing) (a .table) .judgement ≡ clash →
-      propagateAll d (l ∷ ls) a .judgement ≡ clash
+  pub clashed-at : (a : Going) (l : ℕ) (ls : List ℕ) → a .judgement ≡ fine → (Stands (a .world) l → ⊥) →
+      looked d (l ∷ a .world .standing) (a .table) .judgement ≡ clash →
+      propagateAll d (l ∷ ls) a ≡ joinBy a l (looked d (l ∷ a .world .standing) (a .table)) clash
   unfolding joinBy
-  clashed-at a l ls e k q = ap (λ (b : Going). b .judgement) (joins a l ls clash e k q ∙ clash-stays d ls _ refl)
+  clashed-at a l ls e k q = joins a l ls clash e k q ∙ clash-stays d ls _ refl
+
+  abbrev pub finished : Going → Outcome
+  finished b = finishBy d w t b (b .judgement)
 
   abbrev answerOf : Going → Answer
-  answerOf b = finishBy d w t b (b .judgement) .answer
+  answerOf b = finished b .answer
 
   stop-answer : (b : Going) (n : ℕ) → b .judgement ≡ stopped n → answerOf b ≡ refused n
   unfolding finishBy refuse
@@ -371,11 +385,16 @@ module _ (d : Plan) (w : World) (t : List ℕ) where
   unfolding finishBy
   clash-answer b e = ap (λ (j : Judgement). finishBy d w t b j .answer) e
 
-  last-answer : (b : Going) (v : Verdict) → b .judgement ≡ fine → analysis d (b .world .standing) .verdict ≡ v → answerOf b ≡ lastBy d w t b (analysis d (b .world .standing)) v .answer
+  pub last-pass : (b : Going) (v : Verdict) → b .judgement ≡ fine → analysis d (b .world .standing) .verdict ≡ v →
+      finished b ≡ lastBy d w t b (analysis d (b .world .standing)) v
   unfolding finishBy
-  last-answer b v e q = ap (λ (j : Judgement). finishBy d w t b j .answer) e ∙ ap (λ (z : Verdict). lastBy d w t b (analysis d (b .world .standing)) z .answer) q
+  last-pass b v e q = ap (finishBy d w t b) e ∙ ap (lastBy d w t b (analysis d (b .world .standing))) q
 
-  none-left : (a : Going) → propagateAll d [] a ≡ a
+  last-answer : (b : Going) (v : Verdict) → b .judgement ≡ fine → analysis d (b .world .standing) .verdict ≡ v →
+      answerOf b ≡ lastBy d w t b (analysis d (b .world .standing)) v .answer
+  last-answer b v e q = ap (λ (o : Outcome). o .answer) (last-pass b v e q)
+
+  pub none-left : (a : Going) → propagateAll d [] a ≡ a
   unfolding propagateAll
   none-left a = refl
 
@@ -384,7 +403,6 @@ module _ (d : Plan) (w : World) (t : List ℕ) where
   unfolding lastBy refuse
   work-answer n (atLit a l ls e s x) = let r = stage-runs s in ap answerOf (r .rest) ∙ stop-answer _ 10 (halted-at a l ls (r .fineYet) x) ∙ ap refused (sym e)
   work-answer n (atWork a l ls s k x) = let r = stage-runs s in ap answerOf (r .rest) ∙ stop-answer _ n (stopped-at a l ls n (r .fineYet) k (stops-look d _ _ n x))
-  work-answer n (lastCrossed a e s x) = let r = stage-runs s in ap answerOf (r .rest ∙ none-left a) ∙ last-answer a crossed (r .fineYet) (crosses-verdict d _ _ x) ∙ ap refused (sym e)
   work-answer n (lastZero a e s x) = let r = stage-runs s in ap answerOf (r .rest ∙ none-left a) ∙ last-answer a zeroSize (r .fineYet) (zero-verdict d _ _ x) ∙ ap refused (sym e)
 
   not-refused : {a : Answer} {n : ℕ} → accepted a ≡ true → a ≡ refused n → ⊥
@@ -393,7 +411,7 @@ module _ (d : Plan) (w : World) (t : List ℕ) where
 
   -- and where the work is refused something applies to it
   find : (ls : List ℕ) (a : Going) → Stage d w t a ls → (n : ℕ) → answerOf (propagateAll d ls a) ≡ refused n → Work n
-  unfolding lastBy accepted refuse
+  unfolding lastBy accepted refuse joinBy
   find [] a s n e = by (analysis d (a .world .standing) .verdict) refl
     where
       here : answerOf a ≡ refused n
@@ -405,7 +423,6 @@ module _ (d : Plan) (w : World) (t : List ℕ) where
       by : (v : Verdict) → analysis d (a .world .standing) .verdict ≡ v → Work n
       by going q = absurd (not-refused refl (sym (last-answer a going f q) ∙ here))
       by (conflict c) q = absurd (not-refused refl (sym (last-answer a (conflict c) f q) ∙ here))
-      by crossed q = lastCrossed a (sym (same-number (sym (last-answer a crossed f q) ∙ here))) s (verdict-crosses d _ _ q)
       by zeroSize q = lastZero a (sym (same-number (sym (last-answer a zeroSize f q) ∙ here))) s (verdict-zero d _ _ q)
   find (l ∷ ls) a s n e = tested (taken (a .world) l)
       (λ k. let x = stands (a .world) l k in atLit a l ls (sym (same-number (sym (stop-answer _ 10 (halted-at a l ls f x)) ∙ e))) s x)
@@ -416,7 +433,8 @@ module _ (d : Plan) (w : World) (t : List ℕ) where
 
       by : ((b : Going) → Stage d w t b ls → answerOf (propagateAll d ls b) ≡ refused n → Work n) → (Stands (a .world) l → ⊥) → (j : Judgement) → looked d (l ∷ a .world .standing) (a .table) .judgement ≡ j → Work n
       by ih k fine q = ih _ (Stage.next s k q) (ap answerOf (sym (joins a l ls fine f k q)) ∙ e)
-      by ih k clash q = absurd (not-refused refl (sym (clash-answer _ (clashed-at a l ls f k q)) ∙ e))
+      by ih k clash q =
+          absurd (not-refused refl (sym (ap answerOf (clashed-at a l ls f k q) ∙ clash-answer _ refl) ∙ e))
       by ih k (stopped m) q =
           let z : m ≡ n = same-number (sym (stop-answer _ m (stopped-at a l ls m f k q)) ∙ e) in
           atWork a l ls s k (look-stops d _ _ n (q ∙ ap stopped z))
@@ -433,19 +451,27 @@ module _ (d : Plan) (w : World) (t : List ℕ) where
   to-initialize (Applies.again room t e) = is8 refl e
   to-initialize (Applies.standsLater room t a l ls s x) = isWork (atLit a l ls refl s x)
   to-initialize (Applies.stopsLater room t a l ls n s k x) = isWork (atWork a l ls s k x)
-  to-initialize (Applies.crossedLast room t a s x) = isWork (lastCrossed a refl s x)
   to-initialize (Applies.zeroLast room t a s x) = isWork (lastZero a refl s x)
 
   work-applies : (room : Bool) (n : ℕ) → Work n → Applies d w (initialize room t) n
   work-applies room n (atLit a l ls e s x) = rw e (Applies.standsLater room t a l ls s x)
   work-applies room n (atWork a l ls s k x) = Applies.stopsLater room t a l ls n s k x
-  work-applies room n (lastCrossed a e s x) = rw e (Applies.crossedLast room t a s x)
   work-applies room n (lastZero a e s x) = rw e (Applies.zeroLast room t a s x)
 
   lacks-initialize : (room : Bool) → Lacks d room t → Applies d w (initialize room t) 7
   unfolding roomOf
   lacks-initialize room (inl e) = Applies.noRoom _ e
   lacks-initialize room (inr b) = Applies.badInitialize room t b
+
+  -- where neither 7 nor 8 applies, an initialize is worked on
+  pub initialize-works : (room : Bool) → Works d w (initialize room t) → call d (initialize room t) w ≡ finished ended
+  unfolding call onInitialize
+  initialize-works room k =
+      pick-ind W _ _ _ (λ e. absurd (k 7 (omega arith) (lacks-initialize room (lacks d room t e))))
+      (λ _. pick-ind W _ _ _ (λ e. absurd (k 8 (omega arith) (Applies.again room t e))) (λ _. refl))
+    where
+      W : Outcome → Type 0
+      W o = o ≡ finished ended
 
   judge-initialize : (room : Bool) → Judged d w (initialize room t) (onInitialize d w room t .answer)
   unfolding onInitialize refuse

@@ -107,7 +107,8 @@ module _ (d : Plan) (k : Proper d) where
   stage-consistent Stage.first c = c
   stage-consistent (Stage.next {a = a} {l = l} s n e) c = add-consistent (a .world) l (not-taken (a .world) l n) (stage-consistent s c)
 
-  analyzes-consistent : {w : World} {c : Call} {ms : List ℕ} → Analyzes d w c ms → Consistent (w .standing) → Consistent ms
+  pub analyzes-consistent : {w : World} {c : Call} {ms : List ℕ} → Analyzes d w c ms → Consistent (w .standing) →
+      Consistent ms
   analyzes-consistent {w} (ofPropagate room t l p e n) c = add-consistent w l (not-taken w l n) c
   analyzes-consistent (ofInitialize room t a l ls s n) c = add-consistent (a .world) l (not-taken (a .world) l n) (stage-consistent s c)
   analyzes-consistent (ofLast room t a s) c = stage-consistent s c

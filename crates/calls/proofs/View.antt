@@ -6,7 +6,7 @@ use mathlib.Core.List.{List, [], _∷_}
 use Rattle.base.proofs.Loop.{pick-ind}
 use Rattle.division.specs.Plan.{Plan}
 use Rattle.division.specs.Conflicts.{Conflict, conflictList}
-use Rattle.division.specs.Analysis.{zeroSize, Verdict, going, conflict, crossed}
+use Rattle.division.specs.Analysis.{zeroSize, Verdict, going, conflict}
 use Rattle.division.specs.Noting.{noteAll}
 use Rattle.division.specs.Runs.{analysis}
 use Rattle.calls.specs.Table.{entered, badTable, someCurrent, knows}
@@ -34,7 +34,6 @@ saw d ls t = by (analysis d ls .verdict) refl
     by : (v : Verdict) → analysis d ls .verdict ≡ v → Saw d ls t (lookedBy d ls t (analysis d ls) v)
     by going e = offers-by _ e refl
     by (conflict c) e = sawConflict c e
-    by crossed e = sawStop 12
     by zeroSize e = sawStop 13
 
 -- initialize's notifications, from a to b
@@ -150,10 +149,6 @@ module _ (d : Plan) (w : World) where
           D (lastBy d w t (propagateAll d (entered d t) (entry w t)) (analysis d (propagateAll d (entered d t) (entry w t) .world .standing)) v)
       ending going j e b = began room t _ all j e b
       ending (conflict c) j e b = beganLast room t _ all j c e b
-      ending crossed j e b = halt
-        where
-          halt : D (lastBy d w t (propagateAll d (entered d t) (entry w t)) (analysis d (propagateAll d (entered d t) (entry w t) .world .standing)) crossed)
-          halt = away _ 12
       ending zeroSize j e b = halt
         where
           halt : D (lastBy d w t (propagateAll d (entered d t) (entry w t)) (analysis d (propagateAll d (entered d t) (entry w t) .world .standing)) zeroSize)

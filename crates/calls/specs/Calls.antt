@@ -9,7 +9,7 @@ use Rattle.division.specs.Plan.{Plan}
 use Rattle.division.specs.State.{potential}
 use Rattle.division.specs.Reasons.{Reason}
 use Rattle.division.specs.Conflicts.{conflictList}
-use Rattle.division.specs.Analysis.{Verdict, going, conflict, crossed, zeroSize, Proposal, Out}
+use Rattle.division.specs.Analysis.{Verdict, going, conflict, zeroSize, Proposal, Out}
 use Rattle.division.specs.Noting.{noteAll}
 use Rattle.division.specs.Runs.{analysis, fetched, reasonOf}
 use Rattle.runs.specs.Walk.{bestRun}
@@ -181,7 +181,6 @@ lastBy d w t a o (conflict c) = record {
   table = a .table;
   handed = a .handed;
 }
-lastBy d w t a o crossed = refuse 12 w t
 lastBy d w t a o zeroSize = refuse 13 w t
 
 unfoldable pub finishBy : Plan → World → List ℕ → Going → Judgement → Outcome

@@ -12,7 +12,7 @@ use Rattle.division.specs.Plan.{Plan}
 use Rattle.division.specs.State.{potential}
 use Rattle.division.specs.Reasons.{Reason}
 use Rattle.division.specs.Analysis.{going}
-use Rattle.division.specs.Refusals.{Crosses, FixedZero}
+use Rattle.division.specs.Refusals.{FixedZero}
 use Rattle.division.specs.Noting.{noteAll, In}
 use Rattle.division.specs.Views.{viewOf}
 use Rattle.division.specs.Runs.{analysis, reasonOf}
@@ -41,10 +41,7 @@ pub data Known (d : Plan) (l : ℕ) : Type 0 where
 abbrev pub Stands : World → ℕ → Type 0
 Stands w l = In (w .standing) l ⊎ In (w .standing) (negate l)
 
--- 12 and 13, of the analysis where ls stands
-abbrev pub CrossedAt : Plan → List ℕ → Type 0
-CrossedAt d ls = Crosses d (noteAll d ls) (viewOf d (noteAll d ls))
-
+-- 13, of the analysis where ls stands; 12 is no longer given (document 02, request 2)
 abbrev pub ZeroAt : Plan → List ℕ → Type 0
 ZeroAt d ls = FixedZero d (noteAll d ls) (viewOf d (noteAll d ls))
 
@@ -57,7 +54,6 @@ pub record NotCurrent (d : Plan) (ls t : List ℕ) : Type 0 where
 
 -- the work of a notification after which ls stands, with table t, is refused with this number
 pub data Stops (d : Plan) (ls t : List ℕ) : ℕ → Type 0 where
-  at12 : CrossedAt d ls → Stops d ls t 12
   at13 : ZeroAt d ls → Stops d ls t 13
   at14 : NotCurrent d ls t → Stops d ls t 14
 
@@ -98,15 +94,18 @@ pub data Applies (d : Plan) (w : World) : Call → ℕ → Type 0 where
   standsLater : (room : Bool) (t : List ℕ) (a : Going) (l : ℕ) (ls : List ℕ) → Stage d w t a (l ∷ ls) → Stands (a .world) l → Applies d w (initialize room t) 10
   -- 11: "undo not of the newest standing"
   notNewest : (room : Bool) (l : ℕ) → ((ls : List ℕ) → w .standing ≡ l ∷ ls → ⊥) → Applies d w (undo room l) 11
-  -- 12, 13 and 14, in the work of a notification with nothing pending, and of initialize's
+  -- 13 and 14, in the work of a notification with nothing pending, and of initialize's
   stops : (room : Bool) (t : List ℕ) (l n : ℕ) → Stops d (l ∷ w .standing) t n → Applies d w (propagate room t l false) n
   stopsLater : (room : Bool) (t : List ℕ) (a : Going) (l : ℕ) (ls : List ℕ) (n : ℕ) → Stage d w t a (l ∷ ls) → (Stands (a .world) l → ⊥) → Stops d (l ∷ a .world .standing) (a .table) n →
       Applies d w (initialize room t) n
-  -- 12 and 13 in initialize's last pass
-  crossedLast : (room : Bool) (t : List ℕ) (a : Going) → Stage d w t a [] → CrossedAt d (a .world .standing) → Applies d w (initialize room t) 12
+  -- 13 in initialize's last pass
   zeroLast : (room : Bool) (t : List ℕ) (a : Going) → Stage d w t a [] → ZeroAt d (a .world .standing) → Applies d w (initialize room t) 13
   -- those of a query
   ofQuery : (room : Bool) (q : Query) (n : ℕ) → AppliesTo d w q n → Applies d w (ask room q) n
+
+-- "A call tests 7 to 11 in that order, then works": none of them applies
+abbrev pub Works : Plan → World → Call → Type 0
+Works d w c = (n : ℕ) → n < 12 → Applies d w c n → ⊥
 
 -- the first number that applies
 pub record First (d : Plan) (w : World) (c : Call) (n : ℕ) : Type 0 where

@@ -1,7 +1,9 @@
 -- Document 01's cases, its table of refusals and some points that it leaves to be read closely, whole: lines and answers.
 use Prim.Native.Nat.{ℕ}
 use mathlib.Core.Path.{_≡_, refl}
+use mathlib.Core.Bool.{Bool, true, false}
 use mathlib.Core.List.{List, [], _∷_}
+use Rattle.division.specs.Plan.{Plan}
 use Rattle.division.specs.Plans.{planWith, plan, planB, planD, planE, planG, planH, planS}
 use Rattle.calls.specs.Lines.{value, init, told, only, back, why, last, output}
 use Rattle.calls.proofs.Computes.{answers}
@@ -43,7 +45,7 @@ pub star : starred ≡
 unfolding starred planB planD planE planH planWith plan planG answers
 star = refl
 
--- the examples of the table of refusals, 7 to 15; the one of 16 stands with case E
+-- the examples of the table of refusals, 7 to 15 but for 12, which is not given any more; the one of 16 stands with case E
 unfoldable pub examples : List (List (List ℕ))
 examples =
     -- 7, 8, 9, 10, 11
@@ -52,8 +54,6 @@ examples =
     output planG (told 8 ∷ back 8 ∷ why 8 ∷ []) ∷
     output planG (told 4 ∷ told 5 ∷ []) ∷
     output planG (told 0 ∷ told 4 ∷ back 0 ∷ []) ∷
-    -- 12
-    output (plan 1 0 [] [] (4 ∷ []) ((2 ∷ 4 ∷ 6 ∷ []) ∷ []) ((0 ∷ 2 ∷ []) ∷ [])) (only 2 ∷ told 1 ∷ []) ∷
     -- 13
     output (planS (0 ∷ 0 ∷ 1 ∷ []) 0) (init ∷ []) ∷
     -- 14
@@ -68,7 +68,6 @@ pub examples-shown : examples ≡
     ((4 ∷ 9 ∷ []) ∷ (4 ∷ 9 ∷ []) ∷ (4 ∷ 9 ∷ []) ∷ []) ∷
     ((0 ∷ 1 ∷ 3 ∷ []) ∷ (4 ∷ 10 ∷ []) ∷ []) ∷
     ((0 ∷ []) ∷ (1 ∷ []) ∷ (4 ∷ 11 ∷ []) ∷ []) ∷
-    ((2 ∷ []) ∷ (4 ∷ 12 ∷ []) ∷ []) ∷
     ((4 ∷ 13 ∷ []) ∷ []) ∷
     ((4 ∷ 14 ∷ []) ∷ []) ∷
     ((0 ∷ []) ∷ (4 ∷ 15 ∷ []) ∷ []) ∷
@@ -76,11 +75,54 @@ pub examples-shown : examples ≡
 unfolding examples planE planS planWith plan planG answers
 examples-shown = refl
 
+-- Document 02, request 2: a vertex of this weight with the sizes 2, 4 and 6, whose size literals are these
+planC : ℕ → List ℕ → Plan
+planC w ls = plan 1 0 [] [] (w ∷ []) ((2 ∷ 4 ∷ 6 ∷ []) ∷ []) (ls ∷ [])
+
+-- with an edge from it to itself, extra walls allowed or not
+planL : Bool → Plan
+planL walls = planWith false walls 1 1 ((0 ∷ 0 ∷ []) ∷ []) (4 ∷ []) (4 ∷ []) ((2 ∷ 4 ∷ 6 ∷ []) ∷ []) ((0 ∷ 2 ∷ []) ∷ [])
+
+-- and two such vertices, and one without sizes that an edge joins to the second
+planT : Plan
+planT =
+    plan 3 1 ((1 ∷ 2 ∷ []) ∷ []) (8 ∷ []) (4 ∷ 4 ∷ 1 ∷ [])
+    ((2 ∷ 4 ∷ 6 ∷ []) ∷ (2 ∷ 4 ∷ 6 ∷ []) ∷ [] ∷ []) ((0 ∷ 2 ∷ []) ∷ (4 ∷ 6 ∷ []) ∷ [] ∷ [])
+
+unfoldable pub crossed : List (List (List ℕ))
+unfolding planC planL planT
+crossed =
+    -- the example of 12: the lower literal, then the upper one, and the notification stands
+    output (planC 4 (0 ∷ 2 ∷ [])) (only 2 ∷ told 1 ∷ last ∷ back 1 ∷ []) ∷
+    -- one literal that is both
+    output (planC 4 (0 ∷ 1 ∷ [])) (told 1 ∷ last ∷ []) ∷
+    -- a conflict of step 1 comes first; with extra walls there is no step 1
+    output (planL false) (only 2 ∷ only 1 ∷ told 4 ∷ last ∷ []) ∷
+    output (planL true) (only 2 ∷ only 1 ∷ told 4 ∷ last ∷ []) ∷
+    -- the lowest of all that cross, whichever literal is notified
+    output planT (only 6 ∷ only 5 ∷ only 2 ∷ only 1 ∷ told 8 ∷ last ∷ []) ∷
+    output planT (only 6 ∷ only 5 ∷ told 8 ∷ last ∷ []) ∷
+    -- in initialize's notifications, and in its last pass
+    output (planC 2 (0 ∷ 2 ∷ [])) (value 0 2 ∷ value 1 1 ∷ init ∷ last ∷ []) ∷
+    output (planC 4 (0 ∷ 2 ∷ [])) (only 2 ∷ only 1 ∷ value 0 0 ∷ value 1 0 ∷ init ∷ last ∷ []) ∷
+    []
+
+pub crossed-shown : crossed ≡
+    ((2 ∷ []) ∷ (1 ∷ []) ∷ (3 ∷ 2 ∷ 1 ∷ []) ∷ (0 ∷ []) ∷ []) ∷
+    ((1 ∷ []) ∷ (3 ∷ 1 ∷ 1 ∷ []) ∷ []) ∷
+    ((2 ∷ []) ∷ (2 ∷ []) ∷ (1 ∷ []) ∷ (3 ∷ 4 ∷ []) ∷ []) ∷
+    ((2 ∷ []) ∷ (2 ∷ []) ∷ (1 ∷ []) ∷ (3 ∷ 2 ∷ 1 ∷ []) ∷ []) ∷
+    ((2 ∷ []) ∷ (2 ∷ []) ∷ (2 ∷ []) ∷ (2 ∷ []) ∷ (1 ∷ []) ∷ (3 ∷ 2 ∷ 1 ∷ []) ∷ []) ∷
+    ((2 ∷ []) ∷ (2 ∷ []) ∷ (1 ∷ []) ∷ (3 ∷ 6 ∷ 5 ∷ []) ∷ []) ∷
+    ((1 ∷ []) ∷ (3 ∷ 2 ∷ 1 ∷ []) ∷ []) ∷
+    ((2 ∷ []) ∷ (2 ∷ []) ∷ (1 ∷ []) ∷ (3 ∷ 2 ∷ 1 ∷ []) ∷ []) ∷
+    []
+unfolding crossed planWith plan answers
+crossed-shown = refl
+
 -- points of the text that want a second reading
 unfoldable pub points : List (List (List ℕ))
 points =
-    -- crossed bounds in initialize's last pass
-    output (plan 1 0 [] [] (4 ∷ []) ((2 ∷ 4 ∷ 6 ∷ []) ∷ []) ((0 ∷ 2 ∷ []) ∷ [])) (only 2 ∷ only 1 ∷ value 0 0 ∷ value 1 0 ∷ init ∷ []) ∷
     -- a consistent initialize that notified nothing leaves the last list
     output (plan 1 1 ((0 ∷ 0 ∷ []) ∷ []) (0 ∷ []) (0 ∷ []) [] []) (told 0 ∷ back 0 ∷ init ∷ last ∷ []) ∷
     -- the lowest matching edge decides answers
@@ -91,7 +133,6 @@ points =
     []
 
 pub points-shown : points ≡
-    ((2 ∷ []) ∷ (2 ∷ []) ∷ (4 ∷ 12 ∷ []) ∷ []) ∷
     ((1 ∷ []) ∷ (0 ∷ []) ∷ (0 ∷ []) ∷ (3 ∷ 0 ∷ []) ∷ []) ∷
     ((2 ∷ []) ∷ (4 ∷ 14 ∷ []) ∷ []) ∷
     ((2 ∷ []) ∷ (2 ∷ []) ∷ (0 ∷ 4 ∷ []) ∷ (0 ∷ []) ∷ (4 ∷ 16 ∷ []) ∷ []) ∷

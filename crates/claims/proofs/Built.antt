@@ -21,9 +21,11 @@ use Rattle.simulation.proofs.Running.{fresh-represents}
 use Rattle.claims.specs.Whole.{writtenOf}
 use Rattle.claims.specs.Conditions.{builtStart, builtPlan, replyTo, outcomeTo, Condition1, Condition2, Condition3}
 use Rattle.claims.specs.Runs.{RunsBetween}
+use Rattle.claims.specs.Crossed.{CrossedConflicts}
 use Rattle.claims.proofs.Replying.{At}
 use Rattle.claims.proofs.Lists as lists
 use Rattle.claims.proofs.Between as between
+use Rattle.claims.proofs.Crossed as crossed
 
 module _ (vs : List ℤ) (n : ℕ) (es : List ℤ) (m : ℕ) (sameSize extraWalls : Bool) (z : built vs n es m sameSize extraWalls .refusal ≡ 0) where
   at-start : At (builtPlan vs n es m sameSize extraWalls) (builtStart vs n es m sameSize extraWalls) calls.built
@@ -50,6 +52,10 @@ module _ (vs : List ℤ) (n : ℕ) (es : List ℤ) (m : ℕ) (sameSize extraWall
   -- document 02, request 1
   pub runs-between : RunsBetween (builtStart vs n es m sameSize extraWalls) (builtPlan vs n es m sameSize extraWalls)
   runs-between = between.runs-between _ _ at-start proper-built
+
+  -- document 02, request 2
+  pub crossed-conflicts : CrossedConflicts (builtStart vs n es m sameSize extraWalls) (builtPlan vs n es m sameSize extraWalls)
+  crossed-conflicts = crossed.crossed-conflicts _ _ at-start proper-built
 
   -- "Verdicts turned away": a call's refusal has a number of that table
   pub refusal-range : (before : List Request) (q : Request) (m′ : ℕ) →

@@ -6,4 +6,5 @@ pub mod Known
 pub mod Runs
 pub mod Lists
 pub mod Between
+pub mod Crossed
 pub mod Built

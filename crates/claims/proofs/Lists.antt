@@ -200,7 +200,7 @@ module _ (D : Plan) where
   all-quiet k w a (next {q = q} x xs) = claim.next (quiet k w a x) (all-quiet (keeping (reply k q)) _ (next-at D k w a q) xs)
 
   -- ---- a fetch that is accepted gives what the definition's does
-  ask-back : (k : Kept) (w : World) → At D k w → (q : Query) (b rest : List ℕ) → isRun (queryOf q (length b)) ≡ false → accepted (reply k (ask q b rest) .answer) ≡ true →
+  pub ask-back : (k : Kept) (w : World) → At D k w → (q : Query) (b rest : List ℕ) → isRun (queryOf q (length b)) ≡ false → accepted (reply k (ask q b rest) .answer) ≡ true →
       calls.call D (callOf k (ask q b rest)) w .answer ≡ calls.reason (literalsOf (reply k (ask q b rest)))
   unfolding callOf
   ask-back k w a q b rest r e =
@@ -213,7 +213,7 @@ module _ (D : Plan) where
     abbrev world : List Request → World
     world qs = calls.run D (callsOf start qs)
 
-    at : (qs : List Request) → At D (after start qs) (world qs)
+    pub at : (qs : List Request) → At D (after start qs) (world qs)
     unfolding calls.run
     at qs = after-at D qs start calls.built a
 
@@ -221,7 +221,7 @@ module _ (D : Plan) where
     abbrev outcome : List Request → Request → calls.Outcome
     outcome before q = calls.call D (callOf (after start before) q) (world before)
 
-    answer-of : (before : List Request) (q : Request) → reply (after start before) q .answer ≡ answerOf (outcome before q)
+    pub answer-of : (before : List Request) (q : Request) → reply (after start before) q .answer ≡ answerOf (outcome before q)
     answer-of before q = reply-at D (after start before) (world before) (at before) q .answer
 
     accepted-as : (before : List Request) (q : Request) → accepted (reply (after start before) q .answer) ≡ calls.accepted (outcome before q .answer)
@@ -256,7 +256,7 @@ module _ (D : Plan) where
       pub standing-after : (before : List Request) → world before .standing ≡ counted D start before []
       standing-after before = stands-from-calls D (callsOf start before) ∙ sym (counted-same before start calls.built a [])
 
-      stands-then : (before : List Request) (q : Request) → outcome before q .world .standing ≡ standingThen D start before q
+      pub stands-then : (before : List Request) (q : Request) → outcome before q .world .standing ≡ standingThen D start before q
       stands-then before q = ap (λ (w : World). w .standing) (sym (run-more before q)) ∙ standing-after (before ++ (q ∷ []))
 
       -- what is handed on is the plan's, and the table is long enough for it

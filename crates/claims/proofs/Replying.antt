@@ -84,7 +84,6 @@ query-range (AppliesTo.unknownFrom p q n) = (omega arith, omega arith)
 query-range (AppliesTo.unknownTo p q n) = (omega arith, omega arith)
 
 stops-range : {d : Plan} {ls t : List ℕ} {n : ℕ} → Stops d ls t n → (0 < n) × (n ≤ 18)
-stops-range (Stops.at12 x) = (omega arith, omega arith)
 stops-range (Stops.at13 x) = (omega arith, omega arith)
 stops-range (Stops.at14 x) = (omega arith, omega arith)
 
@@ -100,7 +99,6 @@ applies-range (Applies.standsLater room t a l ls s x) = (omega arith, omega arit
 applies-range (Applies.notNewest room l x) = (omega arith, omega arith)
 applies-range (Applies.stops room t l n x) = stops-range x
 applies-range (Applies.stopsLater room t a l ls n s x y) = stops-range y
-applies-range (Applies.crossedLast room t a s x) = (omega arith, omega arith)
 applies-range (Applies.zeroLast room t a s x) = (omega arith, omega arith)
 applies-range (Applies.ofQuery room q n x) = query-range x
 

@@ -1,3 +1,4 @@
 pub mod Whole
 pub mod Conditions
 pub mod Runs
+pub mod Crossed

@@ -17,7 +17,7 @@ use Rattle.regions.specs.Buckets.{leastIn, mostIn, Spot}
 use Rattle.division.specs.Views.{viewOf}
 use Rattle.division.specs.Plan.{Plan, Proper, left, right, touches, across}
 use Rattle.division.specs.Regions.{lowest}
-use Rattle.division.specs.State.{State}
+use Rattle.division.specs.State.{State, crossedAt}
 use Rattle.division.specs.Conflicts.{sumLower, greedy, crowded, apart}
 use Rattle.division.specs.Analysis.{View, conflict, place, Out, propose, ends, guarded, best, inside, matches, loose, matched, uncrossed, overfull, raises, merges, cuts, crowds, meets, parts, spreadsLow, spreadsHigh, spreads, forks, sameSize, sameSizeReason, parted, partsAt, begun, step1, step2, step3, step4, step5, analyzed}
 use Rattle.division.specs.Reasons.{Reason, edgeBetweenDifferentGroups, tooLargeIfRegionsAreMerged, regionAlreadyLarge, regionAlreadySmall, inconsistentBoundsIfRegionsAreMerged, boundPropagationWithinRegion}
@@ -124,9 +124,9 @@ module _ (d : Plan) (k : Proper d) (s t : State) (w x : View) (e : SameState d s
       (ap₂ eqb (v .did _ (ha g h)) (v .did _ (hb _ (ltb-true _ _ (and-right (loose d t x g) _ y)))))) refl
 
   -- 2.
-  uncrossed-same : (i : ℕ) → i < d .vertices → (o : Out) → uncrossed d s w i o ≡ uncrossed d t x i o
-  unfolding uncrossed
-  uncrossed-same i h o = pick-same _ _ (ap₂ ltb (e .upper i h) (e .lower i h)) (λ _. refl) refl
+  crossed-same : crossedAt d s ≡ crossedAt d t
+  unfolding crossedAt
+  crossed-same = lowest-same _ _ (d .vertices) (λ i h. ap₂ ltb (e .upper i h) (e .lower i h))
 
   overfull-same : (i : ℕ) → i < d .vertices → (o : Out) → overfull d s w i o ≡ overfull d t x i o
   unfolding overfull
@@ -269,10 +269,9 @@ module _ (d : Plan) (k : Proper d) (s t : State) (w x : View) (e : SameState d s
       ap (λ (o : Out). pick (d .allowExtraWalls) (begun d t x) o)
       (ap (λ (o : Out). iter (guarded (matched d s w)) (d .edges) o) (loop-same (inside d s w) (inside d t x) (d .edges) _ inside-same) ∙ loop-same _ _ (d .edges) _ matched-same)
 
-  step2-same : (o : Out) → step2 d s w o ≡ step2 d t x o
-  unfolding step2
-  step2-same o =
-      ap (λ (a : Out). iter (guarded (merges d s w)) (d .edges) (iter (guarded (raises d s w)) (d .vertices) (iter (guarded (overfull d s w)) (d .vertices) a))) (loop-same (uncrossed d s w) (uncrossed d t x) (d .vertices) o uncrossed-same) ∙
+  step2-same : (c : ℕ) (o : Out) → step2 d s w c o ≡ step2 d t x c o
+  unfolding step2 uncrossed
+  step2-same c o =
       ap (λ (a : Out). iter (guarded (merges d s w)) (d .edges) (iter (guarded (raises d s w)) (d .vertices) a)) (loop-same (overfull d s w) (overfull d t x) (d .vertices) _ overfull-same) ∙
       ap (λ (a : Out). iter (guarded (merges d s w)) (d .edges) a) (loop-same (raises d s w) (raises d t x) (d .vertices) _ raises-same) ∙
       loop-same (merges d s w) (merges d t x) (d .edges) _ merges-same
@@ -297,7 +296,9 @@ module _ (d : Plan) (k : Proper d) (s t : State) (w x : View) (e : SameState d s
   pub analyzed-same : analyzed d s w ≡ analyzed d t x
   unfolding analyzed
   analyzed-same =
-      ap (λ (o : Out). step5 d s w (step4 d s w (step3 d s w (step2 d s w o)))) step1-same ∙ ap (λ (o : Out). step5 d s w (step4 d s w (step3 d s w o))) (step2-same _) ∙
+      ap (λ c. step5 d s w (step4 d s w (step3 d s w (step2 d s w c (step1 d s w))))) crossed-same ∙
+      ap (λ (o : Out). step5 d s w (step4 d s w (step3 d s w (step2 d s w (crossedAt d t) o)))) step1-same ∙
+      ap (λ (o : Out). step5 d s w (step4 d s w (step3 d s w o))) (step2-same _ _) ∙
       ap (λ (o : Out). step5 d s w (step4 d s w o)) (step3-same _) ∙ ap (step5 d s w) (step4-same _) ∙ step5-same _
 
 least-below : (id b : ℕ → ℕ) (r n : ℕ) → 0 < n → leastIn id b r n .vertex < n

@@ -23,7 +23,7 @@ use Rattle.division.specs.Analysis.{analyzed}
 use Rattle.division.specs.Views.{weightOf, earlier, insert, sorted, cellsOf, membersOf, viewOf}
 use Rattle.division.proofs.Walk.{joined-below}
 use Rattle.division.proofs.Views.{sorted-every}
-use Rattle.division.specs.Proposed.{IsConflict, isDisconnected, isOver, isUnder, isCrowded, isApart}
+use Rattle.division.specs.Proposed.{IsConflict, isDisconnected, isCrossing, isOver, isUnder, isCrowded, isApart}
 use Rattle.division.specs.Agree.{SameState, SameView}
 use Rattle.division.proofs.Agree.{pick-same, lowest-same, analyzed-same, view-in-range}
 
@@ -181,6 +181,7 @@ module _ (d : Plan) (k : Proper d) (s t : State) (q : SameState d s t) where
   pub conflict-same : (c : Conflict) → IsConflict d t c → conflictList d s c ≡ conflictList d t c
   unfolding conflictList
   conflict-same c (isDisconnected g h z j) = ap (λ (l : List ℕ). l ++ (d .edgeLit g ∷ [])) (path-same (left d g) (right d g))
+  conflict-same c (isCrossing v h l) = ap₂ _++_ (q .lowerLit v h) (q .upperLit v h)
   conflict-same c (isOver v h l) = ap₂ _++_ (decided-same v) (q .upperLit v h)
   conflict-same c (isUnder v h l) = ap₂ _++_ (potential-same v) (q .lowerLit v h)
   conflict-same c (isCrowded r ps h n m a l) = ap₂ _++_ (potential-same r) (spans-same ps (every-map (λ p j. joined-below (k .fine) h j) n))

@@ -7,6 +7,7 @@ use Rattle.graph.specs.Paths.{climb}
 use Rattle.regions.specs.Buckets.{leastIn, mostIn}
 use Rattle.division.specs.Plan.{touches, across}
 use Rattle.division.specs.Regions.{within, weightFrom, lowest, regionLabel}
+use Rattle.division.specs.State.{crossedAt}
 use Rattle.division.specs.Reasons.{connectedPath, decidedRegion, leaves, potentialRegion, listOf}
 use Rattle.division.specs.Conflicts.{spans, sumLower, greedy, conflictList}
 use Rattle.division.specs.Analysis.{place, still, propose, ends, guarded, best, inside, matches, loose, matched, uncrossed, overfull, raises, merges, cuts, crowds, meets, parts, spreadsLow, spreadsHigh, spreads, begun, analyzed, forks, sameSize, sameSizeReason, parted, partsAt, step1, step2, step3, step4, step5}
@@ -15,5 +16,5 @@ use Rattle.division.specs.Views.{weightOf, earlier, insert, sorted, cell
 use Rattle.division.specs.Runs.{analysis}
 
 unfoldable pub computes : Unit {0}
-unfolding searchedOn popped visited reached marked passes iter pick blank climb negate collect tab total within weightFrom connectedPath decidedRegion leaves potentialRegion listOf spans sumLower greedy conflictList place still propose ends guarded lowest best inside matches loose matched uncrossed overfull raises merges cuts crowds meets parts spreadsLow spreadsHigh spreads begun raise lessen turn noteOne unnoted noteAll weightOf leastIn mostIn earlier insert sorted cellsOf membersOf viewOf regionLabel touches across forks sameSize sameSizeReason parted partsAt step1 step2 step3 step4 step5 analyzed
+unfolding crossedAt searchedOn popped visited reached marked passes iter pick blank climb negate collect tab total within weightFrom connectedPath decidedRegion leaves potentialRegion listOf spans sumLower greedy conflictList place still propose ends guarded lowest best inside matches loose matched uncrossed overfull raises merges cuts crowds meets parts spreadsLow spreadsHigh spreads begun raise lessen turn noteOne unnoted noteAll weightOf leastIn mostIn earlier insert sorted cellsOf membersOf viewOf regionLabel touches across forks sameSize sameSizeReason parted partsAt step1 step2 step3 step4 step5 analyzed
 computes = tt

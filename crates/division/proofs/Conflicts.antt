@@ -17,7 +17,7 @@ use Rattle.division.specs.Reasons.{connectedPath, decidedRegion, potenti
 use Rattle.division.specs.Conflicts.{spans, sumLower, greedy, Conflict, conflictList}
 use Rattle.division.specs.Together.{mark, graphOf, regionWeight, Computed}
 use Rattle.division.specs.Noted.{Bounded}
-use Rattle.division.specs.Proposed.{Spaced, IsConflict, isDisconnected, isOver, isUnder, isCrowded, isApart}
+use Rattle.division.specs.Proposed.{Spaced, IsConflict, isDisconnected, isCrossing, isOver, isUnder, isCrowded, isApart}
 use Rattle.division.proofs.Sums.{total-parts}
 use Rattle.division.proofs.Walk.{joined-below, within-joined, joined-within, weight-same}
 use Rattle.division.proofs.Sound.{path-sound, decided-weight, potential-from, potential-weight, low-sound, high-sound}
@@ -31,6 +31,14 @@ module _ (d : Plan) (s : State) (σ : ℕ → Bool) (k : Proper d) (b : Bounded 
   disconnected-none g h j x =
       y .apart g h (every-head (every-right (connectedPath d s (left d g) (right d g)) _ x))
       (path-sound d σ k s (left d g) (k .fine .within g h .a) (right d g) j (every-left _ _ x))
+
+  crossing-none : (v : ℕ) → v < d .vertices → s .upper v < s .lower v →
+      Every (Holds σ) (conflictList d s (Conflict.crossing v)) → ⊥
+  unfolding conflictList
+  crossing-none v h l x =
+      let m = low-sound d σ k y v h (b .low v h) (every-left _ _ x) in
+      let n = high-sound d σ k y v h (b .high v h) (every-right (s .lowerLit v) _ x) in
+      omega arith
 
   over-none : (v : ℕ) → v < d .vertices → s .upper v < decidedWeight d s v → Every (Holds σ) (conflictList d s (Conflict.over v)) → ⊥
   unfolding conflictList
@@ -105,6 +113,7 @@ module _ (d : Plan) (s : State) (σ : ℕ → Bool) (k : Proper d) (b : Bounded 
   -- no valid division in which the list of a conflict holds
   pub conflict-sound : (c : Conflict) → IsConflict d s c → Every (Holds σ) (conflictList d s c) → ⊥
   conflict-sound c (isDisconnected g h t j) x = disconnected-none g h j x
+  conflict-sound c (isCrossing v h l) x = crossing-none v h l x
   conflict-sound c (isOver v h l) x = over-none v h l x
   conflict-sound c (isUnder v h l) x = under-none v h l x
   conflict-sound c (isCrowded r ps h n m a l) x = crowded-none r ps h n a l x

@@ -28,7 +28,7 @@ use Rattle.division.specs.Conflicts.{spans, Conflict, conflictList}
 use Rattle.division.specs.Noted.{Bounded}
 use Rattle.division.proofs.Noted.{low-one, high-one}
 use Rattle.division.specs.Explained.{Explains, byInGroup, byBetween, byTooLarge, byLarge, bySmall, byMismatch, bySpreadLow, bySpreadHigh, bySameSize}
-use Rattle.division.specs.Proposed.{Spaced, IsConflict, isDisconnected, isOver, isUnder, isCrowded, isApart}
+use Rattle.division.specs.Proposed.{Spaced, IsConflict, isDisconnected, isCrossing, isOver, isUnder, isCrowded, isApart}
 use Rattle.division.proofs.Walk.{finds, joined-below}
 use Rattle.division.proofs.Sums.{total-parts}
 
@@ -284,6 +284,7 @@ pub conflict-fits : (d : Plan) (s : State) (k : Proper d) (b : Bounded d s) → 
     length (conflictList d s c) ≤ d .edges + d .vertices + d .vertices + 4
 unfolding conflictList
 conflict-fits d s k b c (isDisconnected g h t j) = simp length-append (omega (arith, path-short d s k _ _ (k .fine .within g h .a) j))
+conflict-fits d s k b c (isCrossing v h l) = simp length-append (omega (arith, low-one d v (b .low v h), high-one d v (b .high v h)))
 conflict-fits d s k b c (isOver v h l) = simp length-append (omega (arith, decided-short d s k v h, high-one d v (b .high v h)))
 conflict-fits d s k b c (isUnder v h l) = simp length-append (omega (arith, potential-short d s v, low-one d v (b .low v h)))
 conflict-fits d s k b c (isCrowded r ps h n m a l) =

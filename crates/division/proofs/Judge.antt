@@ -3,28 +3,29 @@ use Prim.Native.Nat.{ℕ, suc, pred, _+_, _<_, _≤_, min, zero-le}
 use native.Mathlib.Omega.{arith}
 use mathlib.Core.Path.{_≡_, refl, sym, _∙_, ap, subst}
 use mathlib.Core.Logic.{_⊎_, inl, inr, ⊎-elim}
-use mathlib.Core.Bool.{Bool, true, false, not, _&&_}
+use mathlib.Core.Bool.{Bool, true, false, true≢false, not, _&&_}
 use mathlib.Core.List.{List}
 use lib.Dec.{eqb, ltb}
-use borrow.Author.Tests.{eq-eqb, eqb-true, eqb-false, ltb-true, ltb-false, not-true}
+use borrow.Author.Tests.{eq-eqb, eqb-true, eqb-false, ltb-true, ltb-false, lt-ltb, not-true}
 use Rattle.base.specs.Iter.{pick}
 use Rattle.base.proofs.Loop.{pick-ind}
-use Rattle.base.proofs.Tests.{and-left, and-right, and-rest, or-cases}
+use Rattle.base.proofs.Tests.{and-left, and-right, and-rest, or-cases, le-or-lt}
 use Rattle.base.proofs.Lists.{every-map}
 use Rattle.division.specs.Plan.{touches, across, Plan, Proper, left, right}
 use Rattle.division.specs.Regions.{lowest, within, weightFrom}
-use Rattle.division.specs.State.{stateOf, State, Same, decided, decidedWeight, potentialWeight}
+use Rattle.division.specs.State.{stateOf, crossedAt, State, Same, decided, decidedWeight, potentialWeight}
 use Rattle.division.specs.Reasons.{edgeBetweenDifferentGroups, tooLargeIfRegionsAreMerged, inconsistentBoundsIfRegionsAreMerged}
-use Rattle.division.specs.Conflicts.{sumLower, greedy, disconnectedInside, over, under}
-use Rattle.division.specs.Analysis.{sameSize, sameSizeReason, parted, partsAt, place, View, Out, lid, rid, inside, matches, loose, matched, uncrossed, overfull, raises, merges, cuts, crowds, meets, parts, spreadsLow, spreadsHigh, spreads, best, forks}
+use Rattle.division.specs.Conflicts.{sumLower, greedy, disconnectedInside, crossing, over, under}
+use Rattle.division.specs.Analysis.{guarded, sameSize, sameSizeReason, parted, partsAt, place, View, Out, lid, rid, inside, matches, loose, matched, uncrossed, overfull, raises, merges, cuts, crowds, meets, parts, spreadsLow, spreadsHigh, spreads, best, forks}
 use Rattle.division.specs.Noted.{Lower, Bounded}
-use Rattle.division.specs.Proposed.{isDisconnected, isOver, isUnder, isCrowded, isApart, Between, Proposes, ruleInGroup, ruleBetween, ruleTooLarge, ruleLarge, ruleSmall, ruleMismatch, ruleSpreadLow, ruleSpreadHigh, Good, ruleSameSize}
+use Rattle.division.specs.Proposed.{isDisconnected, isCrossing, isOver, isUnder, isCrowded, isApart, Between, Proposes, ruleInGroup, ruleBetween, ruleTooLarge, ruleLarge, ruleSmall, ruleMismatch, ruleSpreadLow, ruleSpreadHigh, Good, ruleSameSize}
 use Rattle.division.proofs.Shown.{Held, Shows}
 use Rattle.division.proofs.Sums.{total-most}
 use Rattle.division.proofs.Conflicts.{greedy-taken, greedy-every}
 use Rattle.division.proofs.Exact.{high-entry}
 use Rattle.division.proofs.Fetch.{place-low, place-high}
-use Rattle.division.proofs.Phases.{zeroed, phase0, Inv, add, keep, clash, cross, lowest-true, best-has, best-max, best-min}
+use Rattle.division.proofs.Views.{crossed-known, crossed-over}
+use Rattle.division.proofs.Phases.{going-still, zeroed, phase0, Inv, add, keep, clash, lowest-true, best-has, best-max, best-min}
 
 module _ (d : Plan) (s : State) (w : View) (k : Proper d) (b : Bounded d s) (y : Shows d s w) where
   ha : (g : ℕ) → g < d .edges → left d g < d .vertices
@@ -83,9 +84,21 @@ module _ (d : Plan) (s : State) (w : View) (k : Proper d) (b : Bounded d s) (y :
       (λ t. x)
 
   -- 2.
-  pub uncrossed-turn : (v : ℕ) (o : Out) → v < d .vertices → Good d s o → Inv d s (s .lower v ≤ s .upper v) (uncrossed d s w v o)
-  unfolding uncrossed
-  uncrossed-turn v o h x = pick-ind (Inv d s _) _ _ _ (λ t. cross d s v h (ltb-true _ _ t) x) (λ t. keep d s x (ltb-false _ _ t))
+  -- where no vertex is told, none crosses
+  none-crossed : ltb (crossedAt d s) (d .vertices) ≡ false → (v : ℕ) → v < d .vertices → s .lower v ≤ s .upper v
+  none-crossed t v h =
+      ⊎-elim (λ l. l) (λ l. absurd (true≢false (sym (lt-ltb _ _ (crossed-known d s v h l)) ∙ t))) (le-or-lt _ _)
+
+  pub uncrossed-turn : {F : Type 0} (o : Out) → Inv d s F o → Inv d s (F × ((v : ℕ) → v < d .vertices → s .lower v ≤ s .upper v))
+      (guarded (uncrossed d s w) (crossedAt d s) o)
+  unfolding uncrossed guarded
+  uncrossed-turn o i =
+      pick-ind (Inv d s _) _ _ _
+      (λ _. pick-ind (Inv d s _) _ _ _
+      (λ t. let h = ltb-true (crossedAt d s) (d .vertices) t in
+      clash d s (crossing (crossedAt d s)) (isCrossing _ h (crossed-over d s h)) (i .good))
+      (λ t. record { good = i .good; fact = λ e. (i .fact e, none-crossed t) }))
+      (λ f. record { good = i .good; fact = λ e. absurd (true≢false (sym (going-still _ e) ∙ f)) })
 
   pub overfull-turn : (v : ℕ) (o : Out) → v < d .vertices → Good d s o → Inv d s (decidedWeight d s v ≤ s .upper v) (overfull d s w v o)
   unfolding overfull

@@ -11,10 +11,10 @@ use Rattle.sat.specs.Literal.{Holds}
 use Rattle.division.specs.Plan.{Plain, Plan, Proper, left, right}
 use Rattle.division.specs.State.{State, Same, decidedWeight, potentialWeight, stateOf}
 use Rattle.division.specs.Conflicts.{Conflict, conflictList}
-use Rattle.division.specs.Analysis.{View, Verdict, going, conflict, crossed, inside, matched, uncrossed, overfull, raises, merges, cuts, crowds, meets, parts, spreads, partsAt, begun, step1, step2, step3, step4, step5, analyzed, nothing}
+use Rattle.division.specs.Analysis.{View, Verdict, going, conflict, inside, matched, uncrossed, overfull, raises, merges, cuts, crowds, meets, parts, spreads, partsAt, begun, step1, step2, step3, step4, step5, analyzed, nothing}
 use Rattle.division.specs.Together.{Computed}
 use Rattle.division.specs.Noted.{Bounded, Noted}
-use Rattle.division.specs.Proposed.{Full, Right, rightGoing, rightConflict, rightCrossed, rightZero, Good}
+use Rattle.division.specs.Proposed.{Full, Right, rightGoing, rightConflict, rightZero, Good}
 use Rattle.division.proofs.Shown.{Shows}
 use Rattle.division.proofs.Sound.{low-sound, high-sound}
 use Rattle.division.proofs.Conflicts.{conflict-sound}
@@ -80,7 +80,7 @@ module _ (d : Plan) (s : State) (w : View) (k : Proper d) (b : Bounded d s) (y :
   through : Inv d s F5 (analyzed d s w)
   unfolding analyzed step2 step3 step4 step5
   through =
-      let i3 = phase d s F1 G2 (uncrossed d s w) (d .vertices) _ walled (λ v o h f x. uncrossed-turn d s w k b y v o h x) in
+      let i3 = uncrossed-turn d s w k b y (step1 d s w) walled in
       let i4 = phase d s F2 G3 (overfull d s w) (d .vertices) _ i3 (λ v o h f x. overfull-turn d s w k b y v o h x) in
       let i5 = phase0 d s F3 (raises d s w) (d .vertices) _ i4 (λ v o h f x. raises-turn d s w k b y v o h (f .1 v h) x) in
       let i6 = phase0 d s F3 (merges d s w) (d .edges) _ i5 (λ g o h f x. merges-turn d s w k b y g o h x) in
@@ -95,7 +95,7 @@ module _ (d : Plan) (s : State) (w : View) (k : Proper d) (b : Bounded d s) (y :
   pub analyzed-good : Good d s (analyzed d s w)
   analyzed-good = through .good
 
-  -- where there is no conflict and no crossed bound, all tests have passed
+  -- where there is no conflict, all tests have passed
   pub analyzed-tested : analyzed d s w .verdict ≡ going → Tested d s
   analyzed-tested e =
       let f = through .fact e in
@@ -114,8 +114,6 @@ module _ (d : Plan) (s : State) (w : View) (k : Proper d) (b : Bounded d s) (y :
     ended : (v : Verdict) → Right d s v → Computed d σ → v ≡ going
     ended v rightGoing z = refl
     ended v (rightConflict c f) z = absurd (conflict-sound d s σ k b z c f (every-map (full .holds) (conflict-stands d Stands s k n c f)))
-    ended v (rightCrossed p h l) z =
-        absurd (omega (arith, low-sound d σ k z p h (b .low p h) (every-map (full .holds) (n .lowStands p h)), high-sound d σ k z p h (b .high p h) (every-map (full .holds) (n .highStands p h))))
     ended v (rightZero o) z = absurd (true≢false (sym o ∙ pl .sizes))
 
     -- a full assignment is judged exactly

@@ -21,6 +21,7 @@ pub mod Computes
 pub mod Stale
 pub mod Labels
 pub mod Verdicts
+pub mod Crossed
 pub mod Agree
 pub mod Alike
 pub mod Adjacent

@@ -16,9 +16,9 @@ use Rattle.division.specs.Plan.{Plan}
 use Rattle.division.specs.State.{State}
 use Rattle.division.specs.Reasons.{Reason}
 use Rattle.division.specs.Conflicts.{Conflict}
-use Rattle.division.specs.Analysis.{Verdict, going, conflict, crossed, zeroSize, Out, still, propose, ends, guarded, best, also}
+use Rattle.division.specs.Analysis.{Verdict, going, conflict, zeroSize, Out, still, propose, ends, guarded, best, also}
 use Rattle.division.specs.Regions.{lowest}
-use Rattle.division.specs.Proposed.{IsConflict, Proposes, rightConflict, rightCrossed, rightZero, Good}
+use Rattle.division.specs.Proposed.{IsConflict, Proposes, rightConflict, rightZero, Good}
 
 pub record Inv (d : Plan) (s : State) (F : Type 0) (o : Out) : Type 0 where
   pub good : Good d s o
@@ -28,7 +28,6 @@ pub still-going : (v : Verdict) → still v ≡ true → v ≡ going
 unfolding still
 still-going going e = refl
 still-going (conflict c) e = absurd (false≢true e)
-still-going crossed e = absurd (false≢true e)
 still-going zeroSize e = absurd (false≢true e)
 
 pub going-still : (v : Verdict) → v ≡ going → still v ≡ true
@@ -38,10 +37,6 @@ going-still v e = rw e refl
 pub conflict-ends : (c : Conflict) → conflict c ≡ going → ⊥
 unfolding still
 conflict-ends c e = false≢true (going-still (conflict c) e)
-
-pub crossed-ends : crossed ≡ going → ⊥
-unfolding still
-crossed-ends e = false≢true (going-still crossed e)
 
 pub zero-ends : zeroSize ≡ going → ⊥
 unfolding still
@@ -78,10 +73,6 @@ module _ (d : Plan) (s : State) where
   pub clash : {G : Type 0} {o : Out} (c : Conflict) → IsConflict d s c → Good d s o → Inv d s G (ends (conflict c) o)
   unfolding ends
   clash c f g = record { good = record { props = g .props; right = rightConflict c f }; fact = λ e. absurd (conflict-ends c e) }
-
-  pub cross : {G : Type 0} {o : Out} (v : ℕ) → v < d .vertices → s .upper v < s .lower v → Good d s o → Inv d s G (ends crossed o)
-  unfolding ends
-  cross v h l g = record { good = record { props = g .props; right = rightCrossed v h l }; fact = λ e. absurd (crossed-ends e) }
 
   pub zeroed : {G : Type 0} {o : Out} → d .disallowAdjacentSameSizeRegions ≡ true → Good d s o → Inv d s G (ends zeroSize o)
   unfolding ends

@@ -20,7 +20,7 @@ use Rattle.division.specs.State.{State, decided, Same, Near}
 use Rattle.division.specs.Reasons.{connectedLit, connectedPath, decidedRegion, leaves, potentialRegion}
 use Rattle.division.specs.Conflicts.{spans, Conflict, conflictList}
 use Rattle.division.specs.Noted.{Noted}
-use Rattle.division.specs.Proposed.{IsConflict, isDisconnected, isOver, isUnder, isCrowded, isApart}
+use Rattle.division.specs.Proposed.{IsConflict, isDisconnected, isCrossing, isOver, isUnder, isCrowded, isApart}
 use Rattle.division.proofs.Walk.{finds, joined-below}
 
 module _ (d : Plan) (Stands : ℕ → Type 0) (s : State) (k : Proper d) (n : Noted d Stands s) where
@@ -66,6 +66,7 @@ module _ (d : Plan) (Stands : ℕ → Type 0) (s : State) (k : Proper d) (n : No
   pub conflict-stands : (c : Conflict) → IsConflict d s c → Every Stands (conflictList d s c)
   unfolding conflictList
   conflict-stands c (isDisconnected g h t j) = every-append (connectedPath d s (left d g) (right d g)) _ (path-stands (left d g) (right d g) (k .fine .within g h .a) j) (more (n .disconnected g h .0 t) none)
+  conflict-stands c (isCrossing v h l) = every-append (s .lowerLit v) _ (n .lowStands v h) (n .highStands v h)
   conflict-stands c (isOver v h l) = every-append (decidedRegion d s v) _ (decided-stands v h) (n .highStands v h)
   conflict-stands c (isUnder v h l) = every-append (potentialRegion d s v) _ (potential-stands v) (n .lowStands v h)
   conflict-stands c (isCrowded r ps h e m a l) = every-append (potentialRegion d s r) _ (potential-stands r) (spans-stand r ps h e)

@@ -1,19 +1,21 @@
--- When an analysis ends in a refusal: bounds that cross (12), a fixed size 0 (13).
+-- When an analysis ends because bounds cross, and when it ends in a refusal: a fixed size 0 (13).
 use Prim.Native.Nat.{ℕ, zero, suc, _<_}
 use native.Mathlib.Omega.{arith}
 use native.Mathlib.Nat.{not-suc-le-zero}
 use mathlib.Core.Path.{_≡_, refl, sym, _∙_, ap, subst}
 use mathlib.Core.Logic.{_⊎_, inl, inr, ⊎-elim}
 use mathlib.Core.Bool.{Bool, true, false, true≢false}
-use borrow.Author.Tests.{eqb-true, eq-eqb, ltb-true, lt-ltb}
+use borrow.Author.Tests.{eqb-true, eq-eqb, lt-ltb}
 use Rattle.base.specs.Iter.{iter}
 use Rattle.base.proofs.Loop.{iter-ind, pick-ind, pick-yes, pick-no, tested}
 use Rattle.graph.proofs.Mark.{lt-cases}
 use Rattle.division.specs.Plan.{Plan, across}
-use Rattle.division.specs.State.{State}
-use Rattle.division.specs.Conflicts.{Conflict}
-use Rattle.division.specs.Analysis.{View, Verdict, going, conflict, crossed, zeroSize, Out, still, propose, ends, guarded, inside, matched, uncrossed, overfull, raises, merges, cuts, crowds, meets, parts, spreadsLow, spreadsHigh, spreads, sameSize, parted, partsAt, begun, step1, step2, step3, step4, step5, analyzed}
-use Rattle.division.specs.Refusals.{Crosses, FixedZero}
+use Rattle.division.specs.State.{State, crossedAt}
+use Rattle.division.specs.Conflicts.{Conflict, crossing}
+use Rattle.division.specs.Analysis.{View, Verdict, going, conflict, zeroSize, Out, still, propose, ends, guarded, inside, matched, uncrossed, overfull, raises, merges, cuts, crowds, meets, parts, spreadsLow, spreadsHigh, spreads, sameSize, parted, partsAt, begun, step1, step2, step3, step4, step5, analyzed}
+use Rattle.division.specs.Refusals.{FixedZero}
+use Rattle.division.specs.Crossed.{Crosses}
+use Rattle.division.proofs.Views.{crossed-known}
 use Rattle.division.proofs.Phases.{still-going, going-still}
 
 -- a loop that has stopped stays as it is
@@ -27,7 +29,7 @@ unfoldable rest2 : Plan → State → View → Out → Out
 rest2 d s w o = iter (guarded (merges d s w)) (d .edges) (iter (guarded (raises d s w)) (d .vertices) (iter (guarded (overfull d s w)) (d .vertices) o))
 
 unfoldable bounds2 : Plan → State → View → Out → Out
-bounds2 d s w o = iter (guarded (uncrossed d s w)) (d .vertices) o
+bounds2 d s w o = guarded (uncrossed d s w) (crossedAt d s) o
 
 -- a verdict that only one kind of turn can give
 module _ (b : Verdict → Bool) where
@@ -111,9 +113,9 @@ module _ (b : Verdict → Bool) where
     unfolding step5
     step5-not z o e = pick-ind Not _ _ _ (λ _. loop-not _ _ _ (parts-at-not z) e) (λ _. e)
 
-    bounds2-not : b crossed ≡ false → (o : Out) → Not o → Not (bounds2 d s w o)
-    unfolding bounds2 uncrossed ends
-    bounds2-not z o e = loop-not _ _ _ (λ i x f. pick-ind Not _ _ _ (λ _. z) (λ _. f)) e
+    bounds2-not : (o : Out) → Not o → Not (bounds2 d s w o)
+    unfolding bounds2 guarded uncrossed ends
+    bounds2-not o e = pick-ind Not _ _ _ (λ _. pick-ind Not _ _ _ (λ _. bc _) (λ _. e)) (λ _. e)
 
 -- a loop that only a turn with verdict z can stop
 module _ (z : Verdict) (zs : still z ≡ false) where
@@ -138,21 +140,10 @@ module _ (z : Verdict) (zs : still z ≡ false) where
       m : Out
       m = iter (guarded f) n o
 
-unfoldable isCrossed : Verdict → Bool
-isCrossed going = false
-isCrossed (conflict c) = false
-isCrossed crossed = true
-isCrossed zeroSize = false
-
 unfoldable isZero : Verdict → Bool
 isZero going = false
 isZero (conflict c) = false
-isZero crossed = false
 isZero zeroSize = true
-
-crossed-not : (c : Conflict) → isCrossed (conflict c) ≡ false
-unfolding isCrossed
-crossed-not c = refl
 
 zero-not : (c : Conflict) → isZero (conflict c) ≡ false
 unfolding isZero
@@ -179,10 +170,6 @@ module _ (d : Plan) (s : State) (w : View) where
   unfolding step5
   step5-stuck o e = pick-ind (λ (x : Out). x ≡ o) _ _ _ (λ _. stuck (partsAt d s w) (d .vertices) o e) (λ _. refl)
 
-  bounds2-stuck : (o : Out) → still (o .verdict) ≡ false → bounds2 d s w o ≡ o
-  unfolding bounds2
-  bounds2-stuck o e = stuck (uncrossed d s w) (d .vertices) o e
-
   abbrev later : Out → Out
   later o = step5 d s w (step4 d s w (step3 d s w (rest2 d s w o)))
 
@@ -195,56 +182,19 @@ module _ (d : Plan) (s : State) (w : View) where
   unfolding analyzed step2 rest2 bounds2
   is-later = refl
 
-  abbrev Over : Type 0
-  Over = (v : ℕ) × (v < d .vertices) × (s .upper v < s .lower v)
-
-  bounds2-over : (o : Out) → isCrossed (o .verdict) ≡ false → isCrossed (bounds2 d s w o .verdict) ≡ true → Over
-  unfolding bounds2 uncrossed guarded ends
-  bounds2-over o e =
-      iter-ind (λ _ x. isCrossed (x .verdict) ≡ true → Over) (guarded (uncrossed d s w)) o (d .vertices) (λ t. absurd (true≢false (sym t ∙ e)))
-      (λ v x h p. pick-ind (λ (y : Out). isCrossed (y .verdict) ≡ true → Over) _ _ _
-      (λ _. pick-ind (λ (y : Out). isCrossed (y .verdict) ≡ true → Over) _ _ _ (λ t _. (v, h, ltb-true _ _ t)) (λ _. p)) (λ _. p))
-
-  -- 12
-  pub verdict-crosses : analyzed d s w .verdict ≡ crossed → Crosses d s w
-  unfolding isCrossed
-  verdict-crosses e = tested (still (o .verdict)) clear-case (λ t. absurd (true≢false (sym is ∙ ap (λ (x : Out). isCrossed (x .verdict)) (stopped t) ∙ first)))
-    where
-      o : Out
-      o = step1 d s w
-
-      is : isCrossed (analyzed d s w .verdict) ≡ true
-      is = ap isCrossed e
-
-      first : isCrossed (o .verdict) ≡ false
-      first = step1-not isCrossed d s w crossed-not refl
-
-      stopped : still (o .verdict) ≡ false → analyzed d s w ≡ o
-      stopped t = is-later ∙ ap later (bounds2-stuck o t) ∙ later-stuck o t
-
-      found : Over
-      found = tested (isCrossed (bounds2 d s w o .verdict)) (bounds2-over o first)
-          (λ f. absurd (true≢false (sym is ∙ ap (λ (x : Out). isCrossed (x .verdict)) is-later ∙
-          step5-not isCrossed d s w crossed-not refl _ (step4-not isCrossed d s w crossed-not _ (step3-not isCrossed d s w crossed-not _ (rest2-not isCrossed d s w crossed-not _ f))))))
-
-      clear-case : still (o .verdict) ≡ true → Crosses d s w
-      clear-case t = let (v, h, l) = found in record { clear = still-going _ t; v = v; vertex = h; over = l }
-
-  pub crosses-verdict : Crosses d s w → analyzed d s w .verdict ≡ crossed
-  unfolding still uncrossed ends bounds2
+  -- where 12 was given there is the conflict of the lowest vertex whose bounds cross
+  pub crosses-verdict : Crosses d s w → analyzed d s w .verdict ≡ conflict (crossing (crossedAt d s))
+  unfolding still guarded uncrossed ends bounds2
   crosses-verdict c = ap (λ (x : Out). x .verdict) (is-later ∙ later-stuck _ (ap still z)) ∙ z
     where
-      turn : (v : ℕ) (x : Out) → x .verdict ≡ going → Fine crossed refl (uncrossed d s w v x)
-      turn v x e = pick-ind (Fine crossed refl) _ _ _ (λ _. inr refl) (λ _. inl e)
+      known : crossedAt d s < d .vertices
+      known = crossed-known d s (c .v) (c .vertex) (c .over)
 
-      stops : (x : Out) → x .verdict ≡ going → uncrossed d s w (c .v) x .verdict ≡ crossed
-      stops x e = ap (λ (y : Out). y .verdict) (pick-yes _ _ (lt-ltb _ _ (c .over)))
-
-      z : bounds2 d s w (step1 d s w) .verdict ≡ crossed
-      z = hit crossed refl (uncrossed d s w) (d .vertices) (c .v) (c .vertex) turn stops (step1 d s w) (inl (c .clear))
+      z : bounds2 d s w (step1 d s w) .verdict ≡ conflict (crossing (crossedAt d s))
+      z = ap (λ (x : Out). x .verdict) (pick-yes _ _ (going-still _ (c .clear)) ∙ pick-yes _ _ (lt-ltb _ _ known))
 
   abbrev four : Out
-  four = step4 d s w (step3 d s w (step2 d s w (step1 d s w)))
+  four = step4 d s w (step3 d s w (step2 d s w (crossedAt d s) (step1 d s w)))
 
   abbrev Zeroed : Type 0
   Zeroed = (u : ℕ) × (g : ℕ) × (h : ℕ) × (u < d .vertices) × (g < d .edges) × (h < g) × (sameSize d s w u g h ≡ true) × (w .low (w .did (across d u g)) ≡ 0)
@@ -252,9 +202,9 @@ module _ (d : Plan) (s : State) (w : View) where
   four-not : isZero (four .verdict) ≡ false
   unfolding step2 isZero rest2 bounds2
   four-not =
-      step4-not isZero d s w zero-not _ (step3-not isZero d s w zero-not _ (rest2-two (bounds2-not isZero d s w zero-not refl _ (step1-not isZero d s w zero-not refl))))
+      step4-not isZero d s w zero-not _ (step3-not isZero d s w zero-not _ (rest2-two (bounds2-not isZero d s w zero-not _ (step1-not isZero d s w zero-not refl))))
     where
-      rest2-two : isZero (bounds2 d s w (step1 d s w) .verdict) ≡ false → isZero (step2 d s w (step1 d s w) .verdict) ≡ false
+      rest2-two : isZero (bounds2 d s w (step1 d s w) .verdict) ≡ false → isZero (step2 d s w (crossedAt d s) (step1 d s w) .verdict) ≡ false
       rest2-two e = rest2-not isZero d s w zero-not (bounds2 d s w (step1 d s w)) e
 
   abbrev Sees : Out → Type 0

@@ -1,16 +1,17 @@
 -- The view that is computed shows the state.
-use Prim.Native.Nat.{ℕ, zero, suc, _<_, _≤_}
+use Prim.Native.Nat.{ℕ, zero, suc, _+_, _<_, _≤_}
 use native.Mathlib.Omega.{arith}
+use native.Mathlib.Numerals.{add-one}
 use native.Mathlib.Nat.{le-refl, le-step, le-antisymm, not-suc-le-zero, le-of-suc-le-suc, lt-suc-self}
 use mathlib.Core.Path.{_≡_, refl, sym, _∙_, ap, subst}
 use mathlib.Core.Logic.{_⊎_, ⊎-elim, _↔_}
 use mathlib.Core.Bool.{Bool, true, false, _&&_, true≢false}
 use mathlib.Core.List.{List, [], _∷_, List·Memᴰ, List·Memᴰ·head, List·Memᴰ·tail, Memᴰ·cast}
 use lib.Dec.{eqb, ltb}
-use borrow.Author.Tests.{eqb-true, eq-eqb, ltb-true, ltb-false, lt-ltb}
+use borrow.Author.Tests.{eqb-true, eq-eqb, ltb-true, ltb-false, lt-ltb, le-ltb}
 use Rattle.base.specs.Lists.{Every, none, more, tab}
-use Rattle.base.proofs.Loop.{iter-ind, pick-ind}
-use Rattle.base.proofs.Tests.{and-left, and-right, and-rest}
+use Rattle.base.proofs.Loop.{iter-ind, pick-ind, pick-no}
+use Rattle.base.proofs.Tests.{and-left, and-right, and-rest, le-or-lt}
 use Rattle.base.proofs.Lists.{collect-every, every-map}
 use Rattle.graph.specs.Search.{Graph, graph, searched, at}
 use Rattle.graph.specs.Paths.{Joined, here}
@@ -19,7 +20,7 @@ use Rattle.graph.proofs.Mark.{lt-cases}
 use Rattle.regions.specs.Buckets.{Spot, leastIn, mostIn}
 use Rattle.division.specs.Plan.{Plan, Proper}
 use Rattle.division.specs.Regions.{regionLabel, lowest, weightFrom, within}
-use Rattle.division.specs.State.{State, decided}
+use Rattle.division.specs.State.{State, crossedAt, decided}
 use Rattle.division.specs.Views.{weightOf, insert, sorted, cellsOf, membersOf, viewOf}
 use Rattle.division.proofs.Shown.{Cell, Shows}
 use Rattle.division.proofs.Sums.{total-le}
@@ -53,6 +54,45 @@ lowest-some t (suc n) v h e =
     ⊎-elim (λ l. let z = lowest-some t n v l e in pick-ind (λ x. x < suc n) _ _ _ (λ _. le-step z) (λ f. absurd (true≢false (sym (lt-ltb _ _ z) ∙ f))))
     (λ (l : v ≡ n). pick-ind (λ x. x < suc n) _ _ _ (λ q. le-step (ltb-true _ _ q)) (λ q. pick-ind (λ x. x < suc n) _ _ _ (λ _. lt-suc-self n) (λ f. absurd (true≢false (sym e ∙ ap t l ∙ f)))))
     (lt-cases v n (omega arith))
+
+-- as a loop finds it, from below
+pub lowest-zero : (t : ℕ → Bool) → lowest t 0 ≡ 0
+unfolding lowest
+lowest-zero t = refl
+
+pub lowest-more : (t : ℕ → Bool) (i : ℕ) → lowest t i ≡ i → t i ≡ false → lowest t (i + 1) ≡ i + 1
+unfolding lowest
+lowest-more t i e f = rw add-one (pick-no _ _ (le-ltb (lowest t i) i (omega arith)) ∙ pick-no _ _ f)
+
+pub lowest-here : (t : ℕ → Bool) (i n : ℕ) → lowest t i ≡ i → t i ≡ true → i < n → i ≡ lowest t n
+lowest-here t i n e h k =
+    let m = lowest-most t n i k h in
+    ⊎-elim (λ (z : i ≤ lowest t n). omega arith)
+    (λ (z : lowest t n < i). let b = lowest-most t i (lowest t n) z (lowest-true t n (omega arith)) in absurd (omega arith))
+    (le-or-lt i (lowest t n))
+
+pub lowest-left : (t : ℕ → Bool) (i n : ℕ) → lowest t i ≡ i → i ≤ n → n ≤ i → n ≡ lowest t n
+lowest-left t i n e l k = let q = le-antisymm l k in sym (ap (lowest t) (sym q) ∙ (e ∙ q))
+
+-- the lowest vertex whose bounds cross: where one does it is a vertex, its bounds cross, and no lower one's do
+module _ (d : Plan) (s : State) where
+  abbrev cross : ℕ → Bool
+  cross v = ltb (s .upper v) (s .lower v)
+
+  pub crossed-known : (v : ℕ) → v < d .vertices → s .upper v < s .lower v → crossedAt d s < d .vertices
+  unfolding crossedAt
+  crossed-known v h l = lowest-some cross (d .vertices) v h (lt-ltb _ _ l)
+
+  pub crossed-over : crossedAt d s < d .vertices → s .upper (crossedAt d s) < s .lower (crossedAt d s)
+  unfolding crossedAt
+  crossed-over h = ltb-true _ _ (lowest-true cross (d .vertices) h)
+
+  pub crossed-lowest : crossedAt d s < d .vertices → (u : ℕ) → u < crossedAt d s → s .lower u ≤ s .upper u
+  unfolding crossedAt
+  crossed-lowest h u l =
+      ⊎-elim (λ m. m)
+      (λ m. let z = lowest-most cross (d .vertices) u (omega arith) (lt-ltb _ _ m) in absurd (omega arith))
+      (le-or-lt _ _)
 
 tab-mem : (f : ℕ → ℕ) (n i : ℕ) → i < n → List·Memᴰ (f i) (tab f n)
 unfolding tab

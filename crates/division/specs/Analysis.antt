@@ -7,9 +7,9 @@ use Rattle.base.specs.Iter.{iter, pick}
 use Rattle.sat.specs.Literal.{negate}
 use Rattle.division.specs.Plan.{Plan, left, right, touches, across}
 use Rattle.division.specs.Regions.{lowest}
-use Rattle.division.specs.State.{State, stateOf}
+use Rattle.division.specs.State.{State, stateOf, crossedAt}
 use Rattle.division.specs.Reasons.{connectedLit, Reason, edgeInSameGroup, edgeBetweenDifferentGroups, tooLargeIfRegionsAreMerged, regionAlreadyLarge, regionAlreadySmall, inconsistentBoundsIfRegionsAreMerged, boundPropagationWithinRegion, adjacentSameSizeRegions}
-use Rattle.division.specs.Conflicts.{sumLower, greedy, Conflict, disconnectedInside, over, under, crowded, apart}
+use Rattle.division.specs.Conflicts.{sumLower, greedy, Conflict, disconnectedInside, crossing, over, under, crowded, apart}
 
 -- What is computed first. A region is named by its label, its lowest vertex: r is a region's label where it is its own.
 pub record View : Type 0 where
@@ -36,8 +36,6 @@ place f w (suc n) = pick (ltb (f n) w) (suc n) (place f w n)
 pub data Verdict : Type 0 where
   going : Verdict
   conflict : Conflict → Verdict
-  -- refusal 12
-  crossed : Verdict
   -- refusal 13
   zeroSize : Verdict
 
@@ -59,7 +57,6 @@ pub record Out : Type 0 where
 unfoldable pub still : Verdict → Bool
 still going = true
 still (conflict c) = false
-still crossed = false
 still zeroSize = false
 
 unfoldable pub propose : ℕ → Reason → Out → Out
@@ -104,9 +101,10 @@ module _ (d : Plan) (s : State) (w : View) where
       let h = lowest (matches g) (d .edges) in
       pick (loose g && ltb h (d .edges)) (propose (d .edgeLit g) (edgeBetweenDifferentGroups h g (eqb (lid g) (rid h))) o) o
 
-  -- 2. crossed bounds, upper bounds, lower bounds raised, regions that would be too large
+  -- 2. crossed bounds, of the vertex that applying a literal told, if any; upper bounds, lower bounds raised, regions that would be too
+  -- large
   unfoldable pub uncrossed : ℕ → Out → Out
-  uncrossed v o = pick (ltb (s .upper v) (s .lower v)) (ends crossed o) o
+  uncrossed v o = pick (ltb v (d .vertices)) (ends (conflict (crossing v)) o) o
 
   unfoldable pub overfull : ℕ → Out → Out
   overfull v o = pick (ltb (s .upper v) (w .dw (w .did v))) (ends (conflict (over v)) o) o
@@ -193,9 +191,9 @@ module _ (d : Plan) (s : State) (w : View) where
   unfoldable pub step1 : Out
   step1 = pick (d .allowExtraWalls) begun (iter (guarded matched) (d .edges) (iter (guarded inside) (d .edges) begun))
 
-  unfoldable pub step2 : Out → Out
-  step2 o =
-      iter (guarded merges) (d .edges) (iter (guarded raises) (d .vertices) (iter (guarded overfull) (d .vertices) (iter (guarded uncrossed) (d .vertices) o)))
+  unfoldable pub step2 : ℕ → Out → Out
+  step2 c o =
+      iter (guarded merges) (d .edges) (iter (guarded raises) (d .vertices) (iter (guarded overfull) (d .vertices) (guarded uncrossed c o)))
 
   unfoldable pub step3 : Out → Out
   step3 o = iter (guarded crowds) (d .vertices) (iter (guarded cuts) (d .vertices) o)
@@ -208,4 +206,4 @@ module _ (d : Plan) (s : State) (w : View) where
 
   -- `analyze`
   unfoldable pub analyzed : Out
-  analyzed = step5 (step4 (step3 (step2 step1)))
+  analyzed = step5 (step4 (step3 (step2 (crossedAt d s) step1)))

@@ -22,10 +22,11 @@ unfoldable pub greedy : State → ℕ → List ℕ → List ℕ
 greedy s cur [] = []
 greedy s cur (p ∷ ps) = pick (ltb cur (s .lower p)) (p ∷ greedy s (s .upper p) ps) (greedy s cur ps)
 
--- a disconnected edge inside a region; an upper bound below the region's weight; a lower bound over the potential region's weight; separate
--- ranges that need more than it; bounds of one region that do not meet
+-- a disconnected edge inside a region; a vertex whose bounds cross; an upper bound below the region's weight; a lower bound over the
+-- potential region's weight; separate ranges that need more than it; bounds of one region that do not meet
 pub data Conflict : Type 0 where
   disconnectedInside : (g : ℕ) → Conflict
+  crossing : (v : ℕ) → Conflict
   over : (v : ℕ) → Conflict
   under : (v : ℕ) → Conflict
   crowded : (r : ℕ) (ps : List ℕ) → Conflict
@@ -34,6 +35,8 @@ pub data Conflict : Type 0 where
 -- `inconsistency_reason`
 unfoldable pub conflictList : Plan → State → Conflict → List ℕ
 conflictList d s (disconnectedInside g) = connectedPath d s (left d g) (right d g) ++ (d .edgeLit g ∷ [])
+-- document 02, request 2: "a conflict listing that pen's lower literal, then its upper literal"
+conflictList d s (crossing v) = s .lowerLit v ++ s .upperLit v
 conflictList d s (over v) = decidedRegion d s v ++ s .upperLit v
 conflictList d s (under v) = potentialRegion d s v ++ s .lowerLit v
 conflictList d s (crowded r ps) = potentialRegion d s r ++ spans s ps

@@ -7,6 +7,7 @@ pub mod Reasons
 pub mod Conflicts
 pub mod Analysis
 pub mod Refusals
+pub mod Crossed
 pub mod Views
 pub mod Runs
 pub mod Agree

@@ -8,8 +8,8 @@ use mathlib.Core.Path.{_≡_}
 use Rattle.base.specs.Iter.{pick}
 use Rattle.base.specs.Lists.{Every}
 use Rattle.sat.specs.Literal.{negate, Holds}
-use Rattle.division.specs.Analysis.{Verdict, going, conflict, crossed, zeroSize, Out, Each}
-use Rattle.division.specs.Conflicts.{Conflict, disconnectedInside, over, under, crowded, apart, sumLower}
+use Rattle.division.specs.Analysis.{Verdict, going, conflict, zeroSize, Out, Each}
+use Rattle.division.specs.Conflicts.{Conflict, disconnectedInside, crossing, over, under, crowded, apart, sumLower}
 use Rattle.division.specs.Plan.{Plan, left, right}
 use Rattle.division.specs.Reasons.{Reason, connectedLit, edgeInSameGroup, edgeBetweenDifferentGroups}
 use Rattle.division.specs.Reasons.{tooLargeIfRegionsAreMerged, regionAlreadyLarge, regionAlreadySmall}
@@ -64,17 +64,17 @@ pub data Spaced (s : State) : List ℕ → Type 0 where
 -- the analysis found this conflict in state s
 pub data IsConflict (d : Plan) (s : State) : Conflict → Type 0 where
   isDisconnected : (g : ℕ) → g < d .edges → getD (s .edgeState) g 0 ≡ 1 → Same d s (left d g) (right d g) → IsConflict d s (disconnectedInside g)
+  isCrossing : (v : ℕ) → v < d .vertices → s .upper v < s .lower v → IsConflict d s (crossing v)
   isOver : (v : ℕ) → v < d .vertices → s .upper v < decidedWeight d s v → IsConflict d s (over v)
   isUnder : (v : ℕ) → v < d .vertices → potentialWeight d s v < s .lower v → IsConflict d s (under v)
   isCrowded : (r : ℕ) (ps : List ℕ) → r < d .vertices → Every (Near d s r) ps → Every (λ p. s .lower p ≤ s .upper p) ps →
       Spaced s ps → potentialWeight d s r < sumLower s ps → IsConflict d s (crowded r ps)
   isApart : (a b : ℕ) → a < d .vertices → b < d .vertices → Same d s a b → s .upper b < s .lower a → IsConflict d s (apart a b)
 
--- a verdict is right: a conflict is one, bounds are crossed where they do, and refusal 13 comes only with the option
+-- a verdict is right: a conflict is one, and refusal 13 comes only with the option
 pub data Right (d : Plan) (s : State) : Verdict → Type 0 where
   rightGoing : Right d s going
   rightConflict : (c : Conflict) → IsConflict d s c → Right d s (conflict c)
-  rightCrossed : (v : ℕ) → v < d .vertices → s .upper v < s .lower v → Right d s crossed
   rightZero : d .disallowAdjacentSameSizeRegions ≡ true → Right d s zeroSize
 
 -- each proposal follows its rule, and a conflict is one

@@ -1,12 +1,13 @@
 -- The part of the Rust's `GraphDivision` that notifications change: what has been noted of the literals that stand.
 use Prim.Native.Nat.{ℕ}
 use mathlib.Core.Bool.{true, false}
+use lib.Dec.{ltb}
 use mathlib.Core.List.{List}
 use lib.ListN.{getD}
 use Rattle.graph.specs.Search.{Graph, graph}
 use Rattle.graph.specs.Paths.{Joined}
 use Rattle.division.specs.Plan.{Plan}
-use Rattle.division.specs.Regions.{weightFrom}
+use Rattle.division.specs.Regions.{weightFrom, lowest}
 
 -- edge states as the search reads them: 0 undecided, 1 disconnected, 2 connected; a bound's literal is a list of at most one
 pub record State : Type 0 where
@@ -15,6 +16,10 @@ pub record State : Type 0 where
   pub upper : ℕ → ℕ
   pub lowerLit : ℕ → List ℕ
   pub upperLit : ℕ → List ℕ
+
+-- Document 02, request 2: "the lowest pen whose bounds cross"; the number of vertices where none do
+unfoldable pub crossedAt : Plan → State → ℕ
+crossedAt d s = lowest (λ v. ltb (s .upper v) (s .lower v)) (d .vertices)
 
 -- the state of edge g
 abbrev pub stateOf : State → ℕ → ℕ

@@ -6,18 +6,17 @@ use mathlib.Core.List.{List, [], _∷_, map}
 use Rattle.division.specs.Plan.{Plan}
 use Rattle.division.specs.Reasons.{listOf}
 use Rattle.division.specs.Conflicts.{conflictList}
-use Rattle.division.specs.Analysis.{zeroSize, Verdict, going, conflict, crossed}
+use Rattle.division.specs.Analysis.{zeroSize, Verdict, going, conflict}
 use Rattle.division.specs.Noting.{noteAll}
 use Rattle.division.specs.Runs.{analysis}
 use Rattle.division.proofs.Computes.{computes}
 use Rattle.division.specs.Plans.{planWith, plan, planB, planD, planE, planG, planH, planS}
 
--- 0 and no list where the analysis goes on, 1 and the list of a conflict, 2 where bounds are crossed, 3 where a fixed size is 0
+-- 0 and no list where the analysis goes on, 1 and the list of a conflict, 2 where a fixed size is 0
 code : Plan → List ℕ → Verdict → List ℕ
 code d ls going = 0 ∷ []
 code d ls (conflict c) = 1 ∷ conflictList d (noteAll d ls) c
-code d ls crossed = 2 ∷ []
-code d ls zeroSize = 3 ∷ []
+code d ls zeroSize = 2 ∷ []
 
 -- the verdict, and each proposal with its reason, the newest first
 shown : Plan → List ℕ → List (List ℕ)
@@ -27,6 +26,10 @@ shown d ls = code d ls (analysis d ls .verdict) ∷ map (λ p. p .lit ∷ listOf
 -- the plan of case D, extra walls allowed
 planW : Plan
 planW = planWith false true 1 1 ((0 ∷ 0 ∷ []) ∷ []) (0 ∷ []) (1 ∷ []) [] []
+
+-- document 02, request 2: one vertex with three sizes, whose size literals are these
+planC : List ℕ → Plan
+planC ls = plan 1 0 [] [] (4 ∷ []) ((2 ∷ 4 ∷ 6 ∷ []) ∷ []) (ls ∷ [])
 
 -- the analysis, with what stands, newest first
 table : List (List (List ℕ))
@@ -48,6 +51,8 @@ table =
     shown (planS (0 ∷ 0 ∷ 1 ∷ []) 0) [] ∷
     shown planW (0 ∷ []) ∷
     shown planW [] ∷
+    shown (planC (0 ∷ 2 ∷ [])) (1 ∷ 2 ∷ []) ∷
+    shown (planC (0 ∷ 1 ∷ [])) (1 ∷ []) ∷
     []
 
 cases : table ≡
@@ -65,9 +70,11 @@ cases : table ≡
     ((1 ∷ 4 ∷ 0 ∷ []) ∷ []) ∷
     ((0 ∷ []) ∷ (0 ∷ 5 ∷ []) ∷ (2 ∷ 5 ∷ []) ∷ (0 ∷ 5 ∷ []) ∷ []) ∷
     ((0 ∷ []) ∷ (0 ∷ []) ∷ (2 ∷ []) ∷ []) ∷
-    ((3 ∷ []) ∷ (2 ∷ []) ∷ (0 ∷ []) ∷ []) ∷
+    ((2 ∷ []) ∷ (2 ∷ []) ∷ (0 ∷ []) ∷ []) ∷
     ((0 ∷ []) ∷ []) ∷
     ((0 ∷ []) ∷ []) ∷
+    ((1 ∷ 2 ∷ 1 ∷ []) ∷ []) ∷
+    ((1 ∷ 1 ∷ 1 ∷ []) ∷ []) ∷
     []
-unfolding table shown code planWith plan planG planB planD planE planH planS planW computes
+unfolding table shown code planWith plan planG planB planD planE planH planS planW planC computes
 cases = refl

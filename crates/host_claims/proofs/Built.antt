@@ -27,6 +27,7 @@ use Rattle.simulation.specs.Start.{justBuilt}
 use Rattle.claims.specs.Whole.{literalsOf, writtenOf}
 use Rattle.claims.specs.Conditions.{replyTo, outcomeTo, Condition1, Condition2, Condition3}
 use Rattle.claims.specs.Runs.{RunsBetween}
+use Rattle.claims.specs.Crossed.{CrossedConflicts}
 use Rattle.claims.proofs.Built as claims
 use Rattle.byte_calls.specs.Bytes.{wordAt}
 use Rattle.byte_calls.specs.Codes.{fitted}
@@ -136,6 +137,7 @@ module _ (vs : List ℤ) (n : ℕ) (es : List ℤ) (m : ℕ) (a b : ℤ) (before
     fits = λ {qs} {k} {k′} {q} all made. host-fits _ (first-condition .answers qs q) (answered all made) made;
     reads = reading;
     runs-between = of-start RunsBetween (claims.runs-between vs n es m (isOn a) (isOn b) accepted);
+    crossed-conflicts = of-start CrossedConflicts (claims.crossed-conflicts vs n es m (isOn a) (isOn b) accepted);
     condition-1 = first-condition;
     condition-2 = second-condition;
     condition-3 = third-condition;

@@ -25,6 +25,7 @@ use Rattle.graph_division.specs.Runs.{ask, tableOf, Kept, kept, reply, after}
 use Rattle.claims.specs.Whole.{literalsOf}
 use Rattle.claims.specs.Conditions.{AllQuiet, standingThen, Condition1, Condition2, Condition3}
 use Rattle.claims.specs.Runs.{RunsBetween}
+use Rattle.claims.specs.Crossed.{CrossedConflicts}
 use Rattle.byte_calls.specs.Codes.{answerCode, givenBy}
 use Rattle.byte_calls.specs.Layout.{stateIn, cursorIn, logIn, listIn, bufferIn}
 use Rattle.byte_calls.specs.Stores.{putList}
@@ -166,8 +167,9 @@ pub record HostConditions (sameSize extraWalls : ℤ) (start : Kept) (d : Plan) 
   -- the number says
   pub reads : {qs : List Request} {k k′ : Kept} {q : Request} {list : List ℕ} {x : Said} →
       AllHostMade start qs k → HostMade k q list x k′ → (n : ℕ) → x .code ≡ pos n → literalsAt (x .list) n ≡ literalsOf (reply (after start qs) q)
-  -- of these replies the conditions speak, and document 02, request 1
+  -- of these replies the conditions speak, and document 02, requests 1 and 2
   pub runs-between : RunsBetween start d
+  pub crossed-conflicts : CrossedConflicts start d
   pub condition-1 : Condition1 start d
   pub condition-2 : Condition2 start d
   -- "Both options off"

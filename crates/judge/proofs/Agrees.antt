@@ -14,7 +14,7 @@ use Rattle.division.proofs.Alike.{analysis-same}
 use Rattle.plan.specs.Plan.{planOf}
 use Rattle.plan.specs.Proper.{ProperWords}
 use Rattle.plan.proofs.Abstract.{proper-plan}
-use Rattle.noting.specs.Words.{stateOf}
+use Rattle.noting.specs.Words.{stateOf, crossedIn}
 use Rattle.noting.specs.Note.{Noting}
 use Rattle.noting.proofs.Distinct.{never-both}
 use Rattle.noting.proofs.Replaying.{standing-distinct}
@@ -51,5 +51,7 @@ module _ (ws : List ℕ) (ends : List (List ℕ)) (noted ls : List ℕ) (k : Agr
   analysis-is = analysis-same (planOf ws ends) proper (stateOf noted) (noteAll (planOf ws ends) ls) (k .state)
 
   -- what `analyze` leaves is the analysis of the standing literals, each proposal at its literal's place
-  pub ran-is : (proposals : List ℕ) → analyzeWords ws ends noted proposals ≡ ranOf (relabelled (placeOfLit ws) (analysis (planOf ws ends) ls)) proposals
+  pub ran-is : (proposals : List ℕ) →
+      analyzeWords ws ends noted (crossedIn ws noted) proposals
+      ≡ ranOf (relabelled (placeOfLit ws) (analysis (planOf ws ends) ls)) proposals
   ran-is proposals = analyzed-words ws ends (k .held .proper) noted (k .len) proposals ∙ ap (λ (o : Out). ranOf (relabelled (placeOfLit ws) o) proposals) analysis-is

@@ -13,7 +13,7 @@ use Rattle.base.specs.Lists.{tab}
 use Rattle.base.proofs.Loop.{pick-yes, pick-no, tested}
 use Rattle.division.specs.Plan.{Plan}
 use Rattle.division.specs.State.{State}
-use Rattle.division.specs.Conflicts.{greedy, Conflict, disconnectedInside, over, under, crowded, apart, conflictList}
+use Rattle.division.specs.Conflicts.{greedy, Conflict, disconnectedInside, crossing, over, under, crowded, apart, conflictList}
 use Rattle.division.specs.Analysis.{Out, conflict}
 use Rattle.division.specs.Noting.{noteAll}
 use Rattle.division.specs.Runs.{analysis}
@@ -74,6 +74,7 @@ module _ (ws : List ℕ) (ends : List (List ℕ)) (noted ls : List ℕ) (k : Agr
   path-same : (c : Conflict) → pathGone d s c ≡ pathGone d u c
   unfolding pathGone
   path-same (disconnectedInside g) = unjoined-same _ _
+  path-same (crossing v) = refl
   path-same (over v) = refl
   path-same (under v) = refl
   path-same (crowded r ps) = refl
@@ -126,6 +127,7 @@ module _ (ws : List ℕ) (ends : List (List ℕ)) (noted ls : List ℕ) (k : Agr
       judgeFound ws ends noted t (verdictOf (conflict c)) words l ≡ listing (Clash (length (conflictList d u c))) (sets l 0 (conflictList d u c))
   unfolding judgeFound verdictOf judgeConflict judgeCrowded crowdedBy
   conflict-found t words l long (disconnectedInside g) e = chosen-found l long (disconnectedInside g) e [] tt
+  conflict-found t words l long (crossing v) e = chosen-found l long (crossing v) e [] tt
   conflict-found t words l long (over v) e = chosen-found l long (over v) e [] tt
   conflict-found t words l long (under v) e = chosen-found l long (under v) e [] tt
   conflict-found t words l long (crowded r ps) e =

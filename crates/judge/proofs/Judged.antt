@@ -11,7 +11,7 @@ use Rattle.base.specs.Iter.{pick}
 use Rattle.base.proofs.Loop.{pick-yes, pick-no, tested}
 use Rattle.division.specs.Plan.{Plan}
 use Rattle.division.specs.Conflicts.{conflictList}
-use Rattle.division.specs.Analysis.{Verdict, going, conflict, crossed, zeroSize, Out}
+use Rattle.division.specs.Analysis.{Verdict, going, conflict, zeroSize, Out}
 use Rattle.division.specs.Noting.{noteAll}
 use Rattle.division.specs.Runs.{analysis}
 use Rattle.calls.specs.Table.{someCurrent}
@@ -20,6 +20,7 @@ use Rattle.calls.specs.Look.{Looked, looked, lookedBy, offered, clashes, stop, 
 use Rattle.plan.specs.Words.{verticesOf, edgesOf, variablesOf, uniqueLitAt}
 use Rattle.plan.specs.Plan.{planOf}
 use Rattle.plan.specs.Proper.{ProperWords}
+use Rattle.noting.specs.Words.{crossedIn}
 use Rattle.noting.specs.Note.{Noting}
 use Rattle.noting.specs.Standing.{standingOf}
 use Rattle.noting.specs.Good.{GoodLog}
@@ -27,7 +28,7 @@ use Rattle.reasons.specs.Words.{stored}
 use Rattle.reasons.specs.Verdicts.{verdictOf, ranOf}
 use Rattle.analysis.specs.Relabel.{relabelled}
 use Rattle.sweep.specs.Sweep.{cleared, firstFalseAt}
-use Rattle.judge.specs.Judge.{Listing, listing, hasRoom, withWords, judgeRan, judgeProposals, judgeFound, judgeWords}
+use Rattle.judge.specs.Judge.{Listing, listing, Judged, hasRoom, withWords, judgeRan, judgeProposals, judgeFound, judgeTold, judgeWords}
 use Rattle.judge.specs.Answers.{answerFor, Leaves, Keeps, atPlaces, JudgedBy}
 use Rattle.judge.specs.declared.Judgement.the-variants.{Fine, Clash, Stopped}
 use Rattle.judge.proofs.Agrees.{Agrees, valid-agrees, ran-is}
@@ -99,7 +100,6 @@ module _ (ws : List ℕ) (ends : List (List ℕ)) (noted ls : List ℕ) (k : Agr
   found-answers (conflict c) e =
       subst (Answers (clashes o t (conflictList d (noteAll d ls) c)) l) (sym (conflict-found ws ends noted ls k t words l long c e))
       (clash-answers d ls t o l (conflictList d (noteAll d ls) c) (conflict-short ws ends noted ls k l long c e))
-  found-answers crossed e = stop-answers d ls t o l 12 l
   found-answers zeroSize e = stop-answers d ls t o l 13 l
 
   has-room : hasRoom ws proposals l ≡ true
@@ -107,7 +107,7 @@ module _ (ws : List ℕ) (ends : List (List ℕ)) (noted ls : List ℕ) (k : Agr
   has-room = pick-no _ _ (le-ltb (length proposals) (4 * variablesOf ws) room) ∙ pick-no _ _ (le-ltb (length l) (edgesOf ws + 2 * verticesOf ws + 4) long)
 
   words-are : judgeWords ws ends noted t proposals l ≡ withWords words (judgeFound ws ends noted t (verdictOf (o .verdict)) words l)
-  unfolding judgeWords judgeRan ranOf relabelled
+  unfolding judgeWords judgeTold judgeRan ranOf relabelled
   words-are = pick-yes _ _ has-room ∙ ap (judgeRan ws ends noted t l) (ran-is ws ends noted ls k (cleared ws proposals))
 
   pub judged-words : JudgedBy ws d ls t proposals l (judgeWords ws ends noted t proposals l)
@@ -116,6 +116,12 @@ module _ (ws : List ℕ) (ends : List (List ℕ)) (noted ls : List ℕ) (k : Agr
       let a = found-answers (o .verdict) refl in
       record { answer = a .answer; leaves = a .leaves; words = refl; records = keeps d ls t (saw d ls t) }
       )
+
+-- where applying a literal told the lowest vertex whose bounds cross
+pub judge-told : (ws : List ℕ) (ends : List (List ℕ)) (noted : List ℕ) (v : ℕ) (t proposals l : List ℕ) {x : Judged} →
+    v ≡ crossedIn ws noted → x ≡ judgeTold ws ends noted v t proposals l → x ≡ judgeWords ws ends noted t proposals l
+unfolding judgeWords
+judge-told ws ends noted v t proposals l e h = h ∙ ap (λ (u : ℕ). judgeTold ws ends noted u t proposals l) e
 
 -- `judge` of a proper plan's words, where what it is lent passes refusal 7: the table may hold anything
 pub judged : (ws : List ℕ) (ends : List (List ℕ)) → ProperWords ws ends → 4360 ≤ length ws → (x : Noting) → GoodLog ws x →

@@ -7,18 +7,18 @@ use Rattle.base.specs.Iter.{iter, pick}
 use Rattle.base.proofs.Loop.{pick-ind, iter-ind}
 use Rattle.division.specs.Plan.{Plan}
 use Rattle.division.specs.State.{State}
-use Rattle.division.specs.Conflicts.{greedy, disconnectedInside, over, under, crowded, apart}
-use Rattle.division.specs.Analysis.{View, Verdict, going, conflict, crossed, zeroSize, Out, propose, ends, guarded, inside, matched, uncrossed, overfull, raises, merges, cuts, crowds, meets, parts, spreadsLow, spreadsHigh, spreads, parted, partsAt, begun, step1, step2, step3, step4, step5, analyzed}
+use Rattle.division.specs.Conflicts.{greedy, disconnectedInside, crossing, over, under, crowded, apart}
+use Rattle.division.specs.Analysis.{View, Verdict, going, conflict, zeroSize, Out, propose, ends, guarded, inside, matched, uncrossed, overfull, raises, merges, cuts, crowds, meets, parts, spreadsLow, spreadsHigh, spreads, parted, partsAt, begun, step1, step2, step3, step4, step5, analyzed}
 
 module _ (d : Plan) (s : State) (w : View) where
   abbrev Ranged : Verdict → Type 0
   Ranged going = Unit {0}
   Ranged (conflict (disconnectedInside g)) = Unit {0}
+  Ranged (conflict (crossing v)) = Unit {0}
   Ranged (conflict (over v)) = Unit {0}
   Ranged (conflict (under v)) = Unit {0}
   Ranged (conflict (crowded r ps)) = ps ≡ greedy s 0 (w .cells r)
   Ranged (conflict (apart a b)) = Unit {0}
-  Ranged crossed = Unit {0}
   Ranged zeroSize = Unit {0}
 
   abbrev R : Out → Type 0
@@ -91,11 +91,11 @@ module _ (d : Plan) (s : State) (w : View) where
   unfolding step1 begun
   step1-kept = picked _ _ _ tt (pass (matched d s w) matched-kept (d .edges) _ (pass (inside d s w) inside-kept (d .edges) (begun d s w) tt))
 
-  step2-kept : (o : Out) → R o → R (step2 d s w o)
-  unfolding step2
-  step2-kept o h =
+  step2-kept : (v : ℕ) (o : Out) → R o → R (step2 d s w v o)
+  unfolding step2 guarded
+  step2-kept v o h =
       pass (merges d s w) merges-kept (d .edges) _
-      (pass (raises d s w) raises-kept (d .vertices) _ (pass (overfull d s w) overfull-kept (d .vertices) _ (pass (uncrossed d s w) uncrossed-kept (d .vertices) o h)))
+      (pass (raises d s w) raises-kept (d .vertices) _ (pass (overfull d s w) overfull-kept (d .vertices) _ (picked _ _ _ (uncrossed-kept v o h) h)))
 
   step3-kept : (o : Out) → R o → R (step3 d s w o)
   unfolding step3
@@ -111,7 +111,7 @@ module _ (d : Plan) (s : State) (w : View) where
 
   analyzed-kept : R (analyzed d s w)
   unfolding analyzed
-  analyzed-kept = step5-kept _ (step4-kept _ (step3-kept _ (step2-kept _ step1-kept)))
+  analyzed-kept = step5-kept _ (step4-kept _ (step3-kept _ (step2-kept _ _ step1-kept)))
 
   pub ranges-are : (r : ℕ) (ps : List ℕ) → analyzed d s w .verdict ≡ conflict (crowded r ps) → ps ≡ greedy s 0 (w .cells r)
   ranges-are r ps e = subst Ranged e analyzed-kept

@@ -27,7 +27,7 @@ use Rattle.lists.specs.Lists.{reasonLits}
 use Rattle.lists.specs.Conflicts.{chosenOf}
 use Rattle.analysis.specs.Analyze.{analyzeWords}
 use Rattle.sweep.specs.Sweep.{cleared, firstFalseAt}
-use Rattle.judge.specs.Judge.{Listing, listing, judgedOf, listed, ofList, judgeCurrent, ofFalse, negationAt, judgeChosen, judgeConflict, rangesOf, crowdedBy, judgeCrowded, falseLits, judgeFalse, judgeProposals, judgeFound, hasRoom, withWords, judgeRan, judgeWords}
+use Rattle.judge.specs.Judge.{Listing, listing, judgedOf, listed, ofList, judgeCurrent, ofFalse, negationAt, judgeChosen, judgeConflict, rangesOf, crowdedBy, judgeCrowded, falseLits, judgeFalse, judgeProposals, judgeFound, hasRoom, withWords, judgeRan, judgeTold}
 use Rattle.judge.specs.declared.Judgement.{Judgement}
 use Rattle.judge.specs.declared.Judgement.the-variants.{Fine, Clash, Stopped}
 
@@ -107,11 +107,11 @@ module _ (ws : List ℕ) (es : List (List ℕ)) (noted : List ℕ) where
   found-conflict t words l v w x e h k = h ∙ ap (λ (y : Verdict). judgeConflict ws es noted y l) e ∙ k ∙ sym (ap (λ (y : Verdict). judgeFound ws es noted t y words l) e)
 
   module _ (t p l : List ℕ) (b : Bool) (r : b ≡ hasRoom ws p l) where
-    pub judge-some : (q : Ran) (x : Listing) → b ≡ true → q ≡ analyzeWords ws es noted (cleared ws p) → x ≡ judgeFound ws es noted t (q .verdict) (q .words) l →
-        withWords (q .words) x ≡ judgeWords ws es noted t p l
-    unfolding judgeWords judgeRan
-    judge-some q x h e z = ap (withWords (q .words)) z ∙ ap (judgeRan ws es noted t l) e ∙ sym (pick-yes _ _ (sym r ∙ h))
+    pub judge-some : (v : ℕ) (q : Ran) (x : Listing) → b ≡ true → q ≡ analyzeWords ws es noted v (cleared ws p) →
+        x ≡ judgeFound ws es noted t (q .verdict) (q .words) l → withWords (q .words) x ≡ judgeTold ws es noted v t p l
+    unfolding judgeTold judgeRan
+    judge-some v q x h e z = ap (withWords (q .words)) z ∙ ap (judgeRan ws es noted t l) e ∙ sym (pick-yes _ _ (sym r ∙ h))
 
-    pub judge-short : b ≡ false → judgedOf (Stopped 7) p l ≡ judgeWords ws es noted t p l
-    unfolding judgeWords
-    judge-short h = sym (pick-no _ _ (sym r ∙ h))
+    pub judge-short : (v : ℕ) → b ≡ false → judgedOf (Stopped 7) p l ≡ judgeTold ws es noted v t p l
+    unfolding judgeTold
+    judge-short v h = sym (pick-no _ _ (sym r ∙ h))

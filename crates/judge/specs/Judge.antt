@@ -1,4 +1,4 @@
--- The body of the Rust's `propagate` after noting, up to handing on, on any words: document 01, "Analysis" and refusals 12 to 14.
+-- The body of the Rust's `propagate` after noting, up to handing on, on any words: document 01, "Analysis" and refusals 13 and 14.
 use mathlib.Core.Bool.{Bool, true, false}
 use mathlib.Core.List.{List, []}
 use Prim.Native.Nat.{ℕ, _+_, _*_, _%_}
@@ -8,10 +8,11 @@ use Rattle.base.specs.Iter.{pick}
 use Rattle.sat.specs.Literal.{negate}
 use Rattle.calls.specs.Table.{someCurrent}
 use Rattle.plan.specs.Words.{verticesOf, edgesOf, variablesOf, uniqueLitAt}
+use Rattle.noting.specs.Words.{crossedIn}
 use Rattle.views.specs.Compute.{Computed, computeView}
 use Rattle.views.specs.Cells.{Chosen, separateRanges}
 use Rattle.reasons.specs.declared.Verdict.{Verdict}
-use Rattle.reasons.specs.declared.Verdict.the-variants.{Going, DisconnectedInside, Over, Under, Crowded, Apart, Crossed, ZeroSize, Unfit}
+use Rattle.reasons.specs.declared.Verdict.the-variants.{Going, DisconnectedInside, Over, Under, Crowded, Apart, Crossing, ZeroSize, Unfit}
 use Rattle.reasons.specs.Verdicts.{Ran}
 use Rattle.reasons.specs.Reason.{reasonOf}
 use Rattle.walks.specs.declared.Listed.{Listed}
@@ -99,7 +100,7 @@ module _ (ws : List ℕ) (es : List (List ℕ)) (noted : List ℕ) where
   judgeFound t (Under v) words l = judgeConflict (Under v) l
   judgeFound t (Crowded r) words l = judgeCrowded r l
   judgeFound t (Apart a b) words l = judgeConflict (Apart a b) l
-  judgeFound t Crossed words l = listing (Stopped 12) l
+  judgeFound t (Crossing v) words l = judgeConflict (Crossing v) l
   judgeFound t ZeroSize words l = listing (Stopped 13) l
   judgeFound t Unfit words l = listing (Stopped 7) l
 
@@ -113,6 +114,13 @@ withWords words x = judgedOf (x .judgement) words (x .left)
 unfoldable pub judgeRan : List ℕ → List (List ℕ) → List ℕ → List ℕ → List ℕ → Ran → Judged
 judgeRan ws es noted t l r = withWords (r .words) (judgeFound ws es noted t (r .verdict) (r .words) l)
 
+-- where v is what applying a literal told of crossed bounds
+unfoldable pub judgeTold : List ℕ → List (List ℕ) → List ℕ → ℕ → List ℕ → List ℕ → List ℕ → Judged
+judgeTold ws es noted v t proposals l =
+    pick (hasRoom ws proposals l)
+    (judgeRan ws es noted t l (analyzeWords ws es noted v (cleared ws proposals)))
+    (judgedOf (Stopped 7) proposals l)
+
+-- and where it told the lowest vertex whose bounds cross
 unfoldable pub judgeWords : List ℕ → List (List ℕ) → List ℕ → List ℕ → List ℕ → List ℕ → Judged
-judgeWords ws es noted t proposals l =
-    pick (hasRoom ws proposals l) (judgeRan ws es noted t l (analyzeWords ws es noted (cleared ws proposals))) (judgedOf (Stopped 7) proposals l)
+judgeWords ws es noted t proposals l = judgeTold ws es noted (crossedIn ws noted) t proposals l

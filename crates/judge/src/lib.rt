@@ -11,13 +11,13 @@ use plan::Plan;
 use proposal::judge_proposals;
 use reasons::Verdict;
 ghost use mathlib.Core.Path.{_≡_};
-ghost use Rattle.judge.specs.Judge.{judgedOf, listing, hasRoom, judgeFound, judgeWords};
+ghost use Rattle.judge.specs.Judge.{judgedOf, listing, hasRoom, judgeFound, judgeTold};
 
 pub enum Judgement {
     Fine,
     // The list that the conflict leaves is left[0..len].
     Clash { len: usize },
-    // Document 01's number: 12, 13 or 14; 7 where the words are no plan's or the buffers are too short.
+    // Document 01's number: 13 or 14; 7 where the words are no plan's or the buffers are too short.
     Stopped { refusal: u32 },
 }
 
@@ -60,26 +60,30 @@ fn judge_found(
             lower_bound_idx: _,
             upper_bound_idx: _,
         } => judge_conflict(plan, edges, noted, found, left),
-        Verdict::Crossed => Judgement::Stopped { refusal: 12 },
+        Verdict::Crossing { vertex_idx: _ } => judge_conflict(plan, edges, noted, found, left),
         Verdict::ZeroSize => Judgement::Stopped { refusal: 13 },
         Verdict::Unfit => Judgement::Stopped { refusal: 7 },
     }
 }
 
-// Analyzes what is noted and judges it. The proposals' words are those of this analysis after it.
+// Analyzes what is noted and judges it. The proposals' words are those of this analysis after it. Which vertex's bounds
+// cross, if any, is what applying a literal told.
 pub fn judge(
     plan: &Plan,
     edges: Edges,
     noted: &Noted,
+    crossed: usize,
     table: &[u8],
     proposals: &mut [u64],
     left: &mut [u32],
 ) -> Judgement
-    ensures { λ r. ⌜ judgedOf r (now (proposals .exit)) (now (left .exit)) ≡ judgeWords (now (plan .entry)) edges (now (noted .entry)) (now (table .entry)) (now (proposals .entry)) (now (left .entry)) ⌝ }
+    ensures { λ r. ⌜ judgedOf r (now (proposals .exit)) (now (left .exit))
+        ≡ judgeTold (now (plan .entry)) edges (now (noted .entry)) crossed (now (table .entry))
+        (now (proposals .entry)) (now (left .entry)) ⌝ }
 {
     if has_room(plan, proposals, left) {
         sweep::clear(plan, proposals);
-        let found = analysis::analyze::analyze(plan, edges, noted, proposals);
+        let found = analysis::analyze::analyze(plan, edges, noted, crossed, proposals);
         return judge_found(plan, edges, noted, table, found, proposals, left);
     }
     Judgement::Stopped { refusal: 7 }

@@ -37,7 +37,8 @@ fn note_at(
     ensures { λ c. ⌜ noting (now (noted .exit)) (now (log .exit)) c ≡ notedAt (now (plan .entry)) (now (entry .entry)) p (noting (now (noted .entry)) (now (log .entry)) cursor) ⌝ }
 {
     if sweep::table::is_true(entry, plan::unique_lit(plan, p)) {
-        return noting::note::note(plan, noted, log, cursor, lit_at(plan, p));
+        let told = noting::note::note(plan, noted, log, cursor, lit_at(plan, p));
+        return told.cursor;
     }
     cursor
 }

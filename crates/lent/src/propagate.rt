@@ -23,7 +23,8 @@ fn add(plan: &Plan, noted: &mut Noted, log: &mut [u64], cursor: Cursor, lit: u16
         calledOf (stateOf (now (plan .entry)) ends (now (noted .entry)) rs last len b) (now (noted .exit)) proposals left r t list (now (log .exit))
         ≡ adding (stateOf (now (plan .entry)) ends (now (noted .entry)) rs last len b) cursor lit t list (now (log .entry))) ⌝ }
 {
-    let moved = note(plan, noted, log, cursor, lit);
+    let added = note(plan, noted, log, cursor, lit);
+    let moved = added.cursor;
     Done {
         cursor: moved,
         answer: Answer::Noted,
@@ -50,12 +51,13 @@ fn settle(
         ≡ settledOver (stateOf (now (plan .entry)) edges (now (noted .entry)) rs last len b) cursor (now (proposals .entry)) (now (left .entry)) lit (now (table .entry)) (now (list .entry)) (now (log .entry))) ⌝ }
 {
     let mut trial = *noted;
-    try_out(plan, &mut trial, lit);
-    let found = judge::judge(plan, edges, &trial, table, proposals, left);
+    let crossed = try_out(plan, &mut trial, lit);
+    let found = judge::judge(plan, edges, &trial, crossed, table, proposals, left);
     match found {
         Judgement::Fine => {
             let handed = sweep::hand_on(plan, proposals, table, list, 0);
-            let c = note(plan, noted, log, cursor, lit);
+            let told = note(plan, noted, log, cursor, lit);
+            let c = told.cursor;
             Done {
                 cursor: c,
                 answer: Answer::Consistent { handed: handed },
@@ -64,7 +66,8 @@ fn settle(
             }
         }
         Judgement::Clash { len } => {
-            let c = note(plan, noted, log, cursor, lit);
+            let told = note(plan, noted, log, cursor, lit);
+            let c = told.cursor;
             Done {
                 cursor: c,
                 answer: Answer::Conflict,

@@ -6,20 +6,20 @@ use mathlib.Core.List.{List, [], _∷_, _++_, append-nil, append-assoc}
 use Rattle.division.specs.Plan.{Plan, Proper}
 use Rattle.division.specs.State.{State}
 use Rattle.division.specs.Reasons as abstract
-use Rattle.division.specs.Conflicts.{spans, Conflict, disconnectedInside, over, under, crowded, apart, conflictList}
+use Rattle.division.specs.Conflicts.{spans, Conflict, disconnectedInside, crossing, over, under, crowded, apart, conflictList}
 use Rattle.division.specs.Analysis as analysis
 use Rattle.division.proofs.Walk.{joined-within}
-use Rattle.division.specs.Proposed.{IsConflict, isDisconnected, isOver, isUnder, isCrowded, isApart}
+use Rattle.division.specs.Proposed.{IsConflict, isDisconnected, isCrossing, isOver, isUnder, isCrowded, isApart}
 use Rattle.calls.specs.Look.{unjoined}
 use Rattle.plan.specs.Plan.{planOf}
 use Rattle.noting.specs.Words.{stateOf, litsOf, lowerLitOf, upperLitOf}
 use Rattle.reasons.specs.Verdicts.{verdictOf}
 use Rattle.reasons.specs.declared.Verdict.{Verdict}
-use Rattle.reasons.specs.declared.Verdict.the-variants.{Going, DisconnectedInside, Over, Under, Crowded, Apart, Crossed, ZeroSize, Unfit}
+use Rattle.reasons.specs.declared.Verdict.the-variants.{Going, DisconnectedInside, Over, Under, Crowded, Apart, Crossing, ZeroSize, Unfit}
 use Rattle.walks.specs.declared.Listed.the-variants.{Missing}
 use Rattle.walks.specs.Written.{Out}
 use Rattle.walks.specs.Answers.{given, missing}
-use Rattle.lists.specs.Conflicts.{spanAfter, spansAfter, apartLits, conflictLits, conflictsOf, Chosen, ConflictWithin, pathGone}
+use Rattle.lists.specs.Conflicts.{spanAfter, spansAfter, crossingLits, apartLits, conflictLits, conflictsOf, Chosen, ConflictWithin, pathGone}
 use Rattle.lists.specs.Within.{Held}
 use Rattle.lists.proofs.Walks.{lit-given, word-lost, lit-lost, path-there, path-gone, decided-there, potential-there}
 use Rattle.lists.proofs.Lists.{word-after, lit-after, inside-there, inside-gone}
@@ -32,6 +32,12 @@ spans-given noted (p ∷ ps) l o =
     ap (spansAfter noted ps) (lit-after (upperLitOf noted p) _ _ _ o (lit-given (lowerLitOf noted p) l o) refl) ∙
     spans-given noted ps ((l ++ litsOf (lowerLitOf noted p)) ++ litsOf (upperLitOf noted p)) o ∙
     ap (λ (m : List ℕ). given m o) (simp append-assoc)
+
+crossing-given : (noted : List ℕ) (v : ℕ) (o : Out) →
+    crossingLits noted v o ≡ given (litsOf (lowerLitOf noted v) ++ litsOf (upperLitOf noted v)) o
+unfolding crossingLits spanAfter
+crossing-given noted v o =
+    lit-after (upperLitOf noted v) _ _ _ o (lit-after (lowerLitOf noted v) _ [] _ o refl refl) refl
 
 module _ (ws : List ℕ) (es : List (List ℕ)) (noted : List ℕ) (k : Held ws es noted) where
   abbrev d : Plan
@@ -52,7 +58,7 @@ module _ (ws : List ℕ) (es : List (List ℕ)) (noted : List ℕ) (k : Held ws 
   writes (Under v) ps o = λ h e. lit-after _ _ _ _ o (potential-there ws es noted k v o h) refl
   writes (Crowded r) ps o = λ h e. ap (spansAfter noted ps) (potential-there ws es noted k r o h) ∙ spans-given noted ps _ o
   writes (Apart a b) ps o = λ (h, i) e. lit-after _ _ _ _ o (lit-after _ _ _ _ o (path-there ws es noted k a b o h i e) refl) (simp append-assoc)
-  writes Crossed ps o = tt
+  writes (Crossing v) ps o = λ h e. crossing-given noted v o
   writes ZeroSize ps o = tt
   writes Unfit ps o = tt
 
@@ -73,7 +79,7 @@ module _ (ws : List ℕ) (es : List (List ℕ)) (noted : List ℕ) (k : Held ws 
   misses (Under v) ps o = λ h e. absurd (false≢true e)
   misses (Crowded r) ps o = λ h e. absurd (false≢true e)
   misses (Apart a b) ps o = λ (h, i) e. lit-lost _ _ (lit-lost _ _ (path-gone ws es noted k a b o h i e))
-  misses Crossed ps o = refl
+  misses (Crossing v) ps o = λ h e. absurd (false≢true e)
   misses ZeroSize ps o = refl
   misses Unfit ps o = refl
 
@@ -90,6 +96,7 @@ module _ (ws : List ℕ) (es : List (List ℕ)) (noted : List ℕ) (k : Held ws 
 pub conflict-coded : (c : Conflict) (ps : List ℕ) → Chosen c ps → conflictsOf (verdictOf (analysis.conflict c)) ps ≡ c ∷ []
 unfolding conflictsOf verdictOf
 conflict-coded (disconnectedInside g) ps h = refl
+conflict-coded (crossing v) ps h = refl
 conflict-coded (over v) ps h = refl
 conflict-coded (under v) ps h = refl
 conflict-coded (crowded r qs) ps h = ap (λ (l : List ℕ). crowded r l ∷ []) h
@@ -99,6 +106,7 @@ conflict-coded (apart a b) ps h = refl
 pub conflict-there : (d : Plan) (s : State) → Proper d → (c : Conflict) → IsConflict d s c → ConflictWithin d c × (pathGone d s c ≡ false)
 unfolding pathGone unjoined
 conflict-there d s k c (isDisconnected g h e j) = (h, ap not (joined-within d k (s .edgeState) false _ (k .fine .within g h .a) _ j))
+conflict-there d s k c (isCrossing v h l) = (h, refl)
 conflict-there d s k c (isOver v h l) = (h, refl)
 conflict-there d s k c (isUnder v h l) = (h, refl)
 conflict-there d s k c (isCrowded r ps h n m a l) = (h, refl)

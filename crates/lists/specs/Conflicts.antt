@@ -9,14 +9,14 @@ use Rattle.base.specs.Iter.{pick}
 use Rattle.base.specs.Lists.{tab}
 use Rattle.division.specs.Plan.{Plan, left, right}
 use Rattle.division.specs.State.{State}
-use Rattle.division.specs.Conflicts.{Conflict, disconnectedInside, over, under, crowded, apart}
+use Rattle.division.specs.Conflicts.{Conflict, disconnectedInside, crossing, over, under, crowded, apart}
 use Rattle.calls.specs.Look.{unjoined}
 use Rattle.plan.specs.Words.{edgeLitOf}
 use Rattle.noting.specs.Words.{lowerLitOf, upperLitOf}
 use Rattle.reasons.specs.declared.Verdict.{Verdict}
-use Rattle.reasons.specs.declared.Verdict.the-variants.{Going, DisconnectedInside, Over, Under, Crowded, Apart, Crossed, ZeroSize, Unfit}
+use Rattle.reasons.specs.declared.Verdict.the-variants.{Going, DisconnectedInside, Over, Under, Crowded, Apart, Crossing, ZeroSize, Unfit}
 use Rattle.walks.specs.Written.{Out}
-use Rattle.walks.specs.Answers.{Answer, missing}
+use Rattle.walks.specs.Answers.{Answer, given, missing}
 use Rattle.lists.specs.Parts.{endsFrom, path, decided, potential, inside, andWord, andLit}
 
 -- the vertices chosen: the first count of them, 64 at most
@@ -34,6 +34,10 @@ unfoldable pub spansAfter : List ℕ → List ℕ → Answer → Answer
 spansAfter noted [] a = a
 spansAfter noted (p ∷ ps) a = spansAfter noted ps (spanAfter noted p a)
 
+-- document 02, request 2: "that pen's lower literal, then its upper literal"
+unfoldable pub crossingLits : List ℕ → ℕ → Out → Answer
+crossingLits noted v o = spanAfter noted v (given [] o)
+
 module _ (ws : List ℕ) (es : List (List ℕ)) (noted : List ℕ) where
   unfoldable pub apartLits : ℕ → ℕ → Out → Answer
   apartLits a b o = andLit (upperLitOf noted b) (andLit (lowerLitOf noted a) (path ws es noted (endsFrom a b) o))
@@ -46,7 +50,7 @@ module _ (ws : List ℕ) (es : List (List ℕ)) (noted : List ℕ) where
   conflictLits (Under v) ps o = andLit (lowerLitOf noted v) (potential ws es noted v o)
   conflictLits (Crowded r) ps o = spansAfter noted ps (potential ws es noted r o)
   conflictLits (Apart a b) ps o = apartLits a b o
-  conflictLits Crossed ps o = missing o
+  conflictLits (Crossing v) ps o = crossingLits noted v o
   conflictLits ZeroSize ps o = missing o
   conflictLits Unfit ps o = missing o
 
@@ -58,13 +62,14 @@ conflictsOf (Over v) ps = over v ∷ []
 conflictsOf (Under v) ps = under v ∷ []
 conflictsOf (Crowded r) ps = crowded r ps ∷ []
 conflictsOf (Apart a b) ps = apart a b ∷ []
-conflictsOf Crossed ps = []
+conflictsOf (Crossing v) ps = crossing v ∷ []
 conflictsOf ZeroSize ps = []
 conflictsOf Unfit ps = []
 
 -- ps are the vertices of a conflict's separate ranges, if it has any
 abbrev pub Chosen : Conflict → List ℕ → Type 0
 Chosen (disconnectedInside g) ps = Unit {0}
+Chosen (crossing v) ps = Unit {0}
 Chosen (over v) ps = Unit {0}
 Chosen (under v) ps = Unit {0}
 Chosen (crowded r qs) ps = ps ≡ qs
@@ -73,6 +78,7 @@ Chosen (apart a b) ps = Unit {0}
 -- a conflict names edges and vertices of the plan
 abbrev pub ConflictWithin : Plan → Conflict → Type 0
 ConflictWithin d (disconnectedInside g) = g < d .edges
+ConflictWithin d (crossing v) = v < d .vertices
 ConflictWithin d (over v) = v < d .vertices
 ConflictWithin d (under v) = v < d .vertices
 ConflictWithin d (crowded r ps) = r < d .vertices
@@ -81,6 +87,7 @@ ConflictWithin d (apart a b) = (a < d .vertices) × (b < d .vertices)
 -- a path that the conflict walks is gone
 unfoldable pub pathGone : Plan → State → Conflict → Bool
 pathGone d s (disconnectedInside g) = unjoined d s (left d g) (right d g)
+pathGone d s (crossing v) = false
 pathGone d s (over v) = false
 pathGone d s (under v) = false
 pathGone d s (crowded r ps) = false

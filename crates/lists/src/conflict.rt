@@ -15,7 +15,7 @@ use walks::Listed;
 ghost use mathlib.Core.Path.{_≡_};
 ghost use Rattle.walks.specs.Written.{outOf};
 ghost use Rattle.walks.specs.Answers.{answerOf};
-ghost use Rattle.lists.specs.Conflicts.{numChosen, spanAfter, spansAfter, chosenOf, apartLits, conflictLits};
+ghost use Rattle.lists.specs.Conflicts.{numChosen, spanAfter, spansAfter, chosenOf, crossingLits, apartLits, conflictLits};
 
 // The bound literals of vertex v after a list.
 fn span(noted: &Noted, v: usize, r: Listed, out: &mut [u32]) -> Listed
@@ -66,6 +66,13 @@ fn apart(
     and_lit(s, noting::upper_bound_lit(noted, b), out)
 }
 
+// The bounds of vertex v, which cross: its lower literal, then its upper literal.
+fn crossing(noted: &Noted, v: usize, out: &mut [u32], at: usize) -> Listed
+    ensures { λ r. ⌜ answerOf r (now (out .exit)) ≡ crossingLits (now (noted .entry)) v (outOf (now (out .entry)) at) ⌝ }
+{
+    span(noted, v, Listed::Past(at), out)
+}
+
 // The list of a conflict. Of a potential region whose ranges need more than it weighs, the vertices of these ranges are the first
 // `count` of `chosen`. What is no conflict has no list.
 pub fn conflict_lits(
@@ -102,7 +109,7 @@ pub fn conflict_lits(
             lower_bound_idx: a,
             upper_bound_idx: b,
         } => apart(plan, edges, noted, a, b, out, at),
-        Verdict::Crossed => Listed::Missing,
+        Verdict::Crossing { vertex_idx: v } => crossing(noted, v, out, at),
         Verdict::ZeroSize => Listed::Missing,
         Verdict::Unfit => Listed::Missing,
     }

@@ -11,6 +11,7 @@ use sat::Lit;
 use undo_log::Cursor;
 ghost use mathlib.Core.Path.{_≡_};
 ghost use Prim.Native.Nat.{_<_};
+ghost use Rattle.noting.specs.Words.{crossedIn};
 ghost use Rattle.judge.specs.declared.Judgement.the-variants.{Fine};
 ghost use Rattle.notifications.specs.Notifications.{litAt, triedOut, way, ending, isFine, isDue, joined, notified, notifiedAt, notifiedAll, onceMore, lastPass, progress, goneThrough};
 
@@ -32,16 +33,18 @@ pub fn lit_at(plan: &Plan, p: usize) -> u16
     (plan::unique_lit(plan, p) % 65536) as u16
 }
 
-// The words noted with literal `lit`, tried out with no log.
-pub fn try_out(plan: &Plan, noted: &mut Noted, lit: u16)
-    ensures { λ _. ⌜ now (noted .exit) ≡ triedOut (now (plan .entry)) lit (now (noted .entry)) ⌝ }
+// The words noted with literal `lit`, tried out with no log, and the lowest vertex whose bounds then cross.
+pub fn try_out(plan: &Plan, noted: &mut Noted, lit: u16) -> usize
+    ensures { λ r. ⌜ (now (noted .exit) ≡ triedOut (now (plan .entry)) lit (now (noted .entry)))
+        × (r ≡ crossedIn (now (plan .entry)) (now (noted .exit))) ⌝ }
 {
     let mut none = [0u64; 1];
     let start = Cursor {
         used: 0,
         standing: 0,
     };
-    noting::note::note(plan, noted, &mut none, start, lit);
+    let told = noting::note::note(plan, noted, &mut none, start, lit);
+    told.crossed
 }
 
 // What is noted is analyzed and judged; an analysis that is not refused is kept, and a fine one handed on.
@@ -49,6 +52,7 @@ fn join(
     plan: &Plan,
     edges: Edges,
     noted: &Noted,
+    crossed: usize,
     table: &mut [u8],
     list: &mut [u32],
     words: &mut [u64],
@@ -57,10 +61,11 @@ fn join(
     x: Progress,
     past: usize,
 ) -> Progress
+    requires { ⌜ crossed ≡ crossedIn (now plan) (now noted) ⌝ }
     ensures { λ r. ⌜ way r (now (noted .entry)) (now (table .exit)) (now (list .exit)) (now (words .exit)) (now (proposals .exit)) (now (left .exit)) ≡ joined (now (plan .entry)) edges past (way x (now (noted .entry)) (now (table .entry)) (now (list .entry)) (now (words .entry)) (now (proposals .entry)) (now (left .entry))) ⌝ }
 {
     let handed = x.handed;
-    let found = judge::judge(plan, edges, noted, table, proposals, left);
+    let found = judge::judge(plan, edges, noted, crossed, table, proposals, left);
     match found {
         Judgement::Fine => {
             merge(plan, proposals, words);
@@ -114,11 +119,12 @@ fn notify(
             ..x
         };
     }
-    try_out(plan, noted, lit);
+    let crossed = try_out(plan, noted, lit);
     join(
         plan,
         edges,
         noted,
+        crossed,
         table,
         list,
         words,
@@ -242,7 +248,8 @@ fn analyze_once_more(
     ensures { λ r. ⌜ ending r (now (words .exit)) (now (proposals .exit)) (now (left .exit)) ≡ onceMore (now (plan .entry)) edges (now (noted .entry)) x (now (words .entry)) (now (proposals .entry)) (now (left .entry)) ⌝ }
 {
     let unset = [0u8; 1];
-    let found = judge::judge(plan, edges, noted, &unset, proposals, left);
+    let crossed = noting::note::crossed(plan, noted);
+    let found = judge::judge(plan, edges, noted, crossed, &unset, proposals, left);
     match found {
         Judgement::Fine => {
             merge(plan, proposals, words);

@@ -30,3 +30,4 @@ pub mod Readying
 pub mod Keeping
 pub mod Preserved
 pub mod Valid
+pub mod Crossed

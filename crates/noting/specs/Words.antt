@@ -7,6 +7,7 @@ use Prim.Native.Nat.{ℕ, _+_, _-_}
 use lib.Dec.{eqb, ltb}
 use Rattle.base.specs.Iter.{pick}
 use Rattle.base.specs.Lists.{filled}
+use Rattle.division.specs.Regions.{lowest}
 use Rattle.division.specs.State.{State}
 use Rattle.plan.specs.Words.{word, entry, verticesOf, edgesOf, domainLenOf, domainOf}
 
@@ -54,6 +55,13 @@ firstSize ws v = pick (ltb 0 (domainLenOf ws v)) (domainOf ws v 0) 0
 
 unfoldable pub lastSize : List ℕ → ℕ → ℕ
 lastSize ws v = pick (ltb 0 (domainLenOf ws v)) (domainOf ws v (domainLenOf ws v - 1)) 2147483647
+
+-- Document 02, request 2, "the lowest pen whose bounds cross": a vertex of the plan, or how many there are where no bounds cross
+unfoldable pub crosses : List ℕ → ℕ → Bool
+crosses noted v = ltb (upperOf noted v) (lowerOf noted v)
+
+unfoldable pub crossedIn : List ℕ → List ℕ → ℕ
+crossedIn ws noted = lowest (crosses noted) (capped (verticesOf ws) 64)
 
 -- nothing noted: no edge decided, first and last sizes, no literals. Words that the plan does not use are as they were.
 unfoldable pub fresh : List ℕ → List ℕ → List ℕ

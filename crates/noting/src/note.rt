@@ -2,6 +2,7 @@
 use crate::CONNECTED;
 use crate::DISCONNECTED;
 use crate::Noted;
+use crate::capped;
 use crate::lower_bound;
 use crate::lower_bound_lit;
 use crate::upper_bound;
@@ -20,8 +21,10 @@ ghost use mathlib.Core.Bool.{_&&_};
 ghost use Prim.Native.Nat.{ℕ, _+_, _-_, _≤_, _<_};
 ghost use lib.Dec.{ltb, eqb};
 ghost use Rattle.base.specs.Iter.{iter};
+ghost use Rattle.division.specs.Regions.{lowest};
 ghost use Rattle.undo_log.specs.Log.{pushWords};
 ghost use Rattle.plan.specs.Words.{variablesOf, variableAt, startAt, occurrenceAt};
+ghost use Rattle.noting.specs.Words.{crosses, crossedIn};
 ghost use Rattle.noting.specs.Note.{effect, sizeEffect, edgeEffect, effectOf, undoRecord, boundSet, edgeSet, applied, noting, pushedTo, noteSlot, boundary, oneMore, levelPushed, halved, searchedIn, placeFromFirst, placeFromLast, isAt, placeIn, known, noteAt, note};
 
 // An effect's kind where a literal says nothing new.
@@ -392,8 +395,8 @@ fn note_at(
     note_occurrences(plan, noted, log, cursor, lit, from, n)
 }
 
-// `notify`: the literal stands from here on. A literal that the plan does not have changes no edge and no bound.
-pub fn note(plan: &Plan, noted: &mut Noted, log: &mut [u64], cursor: Cursor, lit: u16) -> Cursor
+// The literal stands from here on. A literal that the plan does not have changes no edge and no bound.
+fn note_level(plan: &Plan, noted: &mut Noted, log: &mut [u64], cursor: Cursor, lit: u16) -> Cursor
     ensures { λ c. ⌜ noting (now (noted .exit)) (now (log .exit)) c ≡ note (now (plan .entry)) lit (noting (now (noted .entry)) (now (log .entry)) cursor) ⌝ }
 {
     let c = push_level(log, cursor, lit);
@@ -403,4 +406,45 @@ pub fn note(plan: &Plan, noted: &mut Noted, log: &mut [u64], cursor: Cursor, lit
         return note_at(plan, noted, log, c, lit, k);
     }
     c
+}
+
+// Whether the bounds of vertex v cross.
+fn crosses(noted: &Noted, v: usize) -> bool
+    ensures { λ r. ⌜ r ≡ crosses (now (noted .entry)) v ⌝ }
+{
+    upper_bound(noted, v) < lower_bound(noted, v)
+}
+
+// The lowest vertex whose bounds cross; the number of vertices where none do.
+pub fn crossed(plan: &Plan, noted: &Noted) -> usize
+    ensures { λ r. ⌜ r ≡ crossedIn (now (plan .entry)) (now (noted .entry)) ⌝ }
+{
+    let n = capped(plan::num_vertices(plan), 64);
+    let mut v: usize = 0;
+    while v < n {
+        if crosses(noted, v) {
+            return v;
+        }
+        v += 1;
+    }
+    n
+}
+
+// What applying a literal tells: the cursor after it, and the lowest vertex whose bounds cross, as `crossed` has it.
+pub struct Told {
+    pub cursor: Cursor,
+    pub crossed: usize,
+}
+
+// `notify`.
+pub fn note(plan: &Plan, noted: &mut Noted, log: &mut [u64], cursor: Cursor, lit: u16) -> Told
+    ensures { λ r. ⌜ (noting (now (noted .exit)) (now (log .exit)) (r .cursor)
+        ≡ note (now (plan .entry)) lit (noting (now (noted .entry)) (now (log .entry)) cursor))
+        × (r .crossed ≡ crossedIn (now (plan .entry)) (now (noted .exit))) ⌝ }
+{
+    let c = note_level(plan, noted, log, cursor, lit);
+    Told {
+        cursor: c,
+        crossed: crossed(plan, noted),
+    }
 }

@@ -2,10 +2,10 @@
 use mathlib.Core.Bool.{Bool, true, false}
 use mathlib.Core.List.{List, []}
 use Prim.Native.Nat.{ℕ}
-use Rattle.division.specs.Conflicts.{disconnectedInside, over, under, crowded, apart}
+use Rattle.division.specs.Conflicts.{disconnectedInside, crossing, over, under, crowded, apart}
 use Rattle.division.specs.Analysis as abstract
 use Rattle.reasons.specs.declared.Verdict.{Verdict}
-use Rattle.reasons.specs.declared.Verdict.the-variants.{Going, DisconnectedInside, Over, Under, Crowded, Apart, Crossed, ZeroSize, Unfit}
+use Rattle.reasons.specs.declared.Verdict.the-variants.{Going, DisconnectedInside, Over, Under, Crowded, Apart, Crossing, ZeroSize, Unfit}
 use Rattle.reasons.specs.Words.{stored}
 
 -- the code's verdict; the vertices of separate ranges follow from the region
@@ -16,7 +16,7 @@ verdictOf (abstract.conflict (over v)) = Over v
 verdictOf (abstract.conflict (under v)) = Under v
 verdictOf (abstract.conflict (crowded r ps)) = Crowded r
 verdictOf (abstract.conflict (apart a b)) = Apart a b
-verdictOf abstract.crossed = Crossed
+verdictOf (abstract.conflict (crossing v)) = Crossing v
 verdictOf abstract.zeroSize = ZeroSize
 
 abbrev pub goesOn : Verdict → Bool
@@ -26,7 +26,7 @@ goesOn (Over v) = false
 goesOn (Under v) = false
 goesOn (Crowded r) = false
 goesOn (Apart a b) = false
-goesOn Crossed = false
+goesOn (Crossing v) = false
 goesOn ZeroSize = false
 goesOn Unfit = false
 

@@ -41,8 +41,10 @@ pub enum Verdict {
         lower_bound_idx: usize,
         upper_bound_idx: usize,
     },
-    // Refusal 12.
-    Crossed,
+    // A lower bound over the upper bound of the same vertex.
+    Crossing {
+        vertex_idx: usize,
+    },
     // Refusal 13.
     ZeroSize,
     // The words are no plan's: nothing was analyzed.
@@ -62,7 +64,7 @@ pub fn goes_on(v: Verdict) -> bool
             lower_bound_idx: _,
             upper_bound_idx: _,
         } => false,
-        Verdict::Crossed => false,
+        Verdict::Crossing { vertex_idx: _ } => false,
         Verdict::ZeroSize => false,
         Verdict::Unfit => false,
     }

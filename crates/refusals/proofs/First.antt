@@ -19,7 +19,7 @@ use Rattle.noting.specs.Buffers.{reasonShort}
 use Rattle.noting.specs.Standing.{standingOf}
 use Rattle.calls.specs.Table.{knows, variables, tooHigh, badTable}
 use Rattle.calls.specs.Calls.{World, Query, reasonFor, lastLeft, Call, initialize, propagate, undo, ask, accepted, Outcome, refuse, answerTo, tell, call}
-use Rattle.calls.specs.Refusals.{roomOf, BadTable, Stops, at12, at13, at14, AppliesTo, Applies, First}
+use Rattle.calls.specs.Refusals.{roomOf, BadTable, Stops, at13, at14, AppliesTo, Applies, First}
 use Rattle.calls.proofs.Known.{known}
 use Rattle.calls.proofs.Queries.{isRun}
 use Rattle.calls.proofs.Refusals.{asksRun, refusals, acceptances}
@@ -42,7 +42,6 @@ module _ (d : Plan) (w : World) (c : Call) (pr : asksRun c ≡ true → Proper d
 
 -- 7 to 11 do not depend on the pending number
 stops-late : {d : Plan} {ls t : List ℕ} {n : ℕ} → Stops d ls t n → 11 < n
-stops-late (at12 x) = omega arith
 stops-late (at13 x) = omega arith
 stops-late (at14 x) = omega arith
 
@@ -72,7 +71,6 @@ initialize-clear {d = d} r b n h (Applies.badInitialize room t x) = table-good d
 initialize-clear r b n h (Applies.again room t e) = true≢false (sym e ∙ n)
 initialize-clear r b n h (Applies.standsLater room t a l ls g x) = absurd (omega arith)
 initialize-clear r b n h (Applies.stopsLater room t a l ls k g x y) = absurd (let z = stops-late y in omega arith)
-initialize-clear r b n h (Applies.crossedLast room t a g x) = absurd (omega arith)
 initialize-clear r b n h (Applies.zeroLast room t a g x) = absurd (omega arith)
 
 reason-clear : {d : Plan} {w : World} {room : Bool} {l : ℕ} {m : ℕ} → room ≡ true → knows d l ≡ true → m ≤ 9 → Applies d w (ask room (reasonFor l)) m → ⊥

@@ -3,43 +3,24 @@ use Prim.Native.Nat.{ℕ, suc, _+_, _-_, _<_, _≤_}
 use native.Mathlib.Omega.{arith}
 use native.Mathlib.Numerals.{add-one}
 use mathlib.Core.Path.{_≡_, refl, sym, _∙_, ap, ap₂, subst}
-use mathlib.Core.Logic.{⊎-elim}
 use mathlib.Core.Bool.{Bool, true, false, _&&_, _||_}
 use mathlib.Core.List.{List}
 use lib.Dec.{eqb}
 use lib.ListN.{length, getD}
-use borrow.Author.Tests.{eq-eqb, ne-eqb, le-ltb}
+use borrow.Author.Tests.{eq-eqb, ne-eqb}
 use Rattle.base.specs.Iter.{pick}
 use Rattle.base.proofs.Loop.{pick-yes, pick-no}
-use Rattle.base.proofs.Tests.{le-or-lt, and-no}
+use Rattle.base.proofs.Tests.{and-no}
 use Rattle.graph.specs.Search.{Graph, graph, isOpen, endA, endB}
 use Rattle.graph.specs.Bounds.{Fine}
 use Rattle.walks.specs.Written.{Out, outOf, pushed, written}
 use Rattle.walks.proofs.Written.{pushed-length}
 use Rattle.division.specs.Regions.{lowest}
-use Rattle.division.proofs.Phases.{lowest-true}
-use Rattle.division.proofs.Views.{lowest-most}
 use Rattle.runs.specs.Run.{isUndecided}
 use Rattle.runs.specs.Rounds.{Far, farOf, Settled}
 use Rattle.runs.specs.Walk.{other, nextBy, onward, walked}
 use Rattle.runs.proofs.Best.{Step, due-step, not-goal}
 use Rattle.runs.proofs.Eased.{second, otherwise}
-
--- ---- the lowest number that passes a test, from below
-pub none-yet : (t : ℕ → Bool) → lowest t 0 ≡ 0
-unfolding lowest
-none-yet t = refl
-
-pub none-more : (t : ℕ → Bool) (i : ℕ) → lowest t i ≡ i → t i ≡ false → lowest t (i + 1) ≡ i + 1
-unfolding lowest
-none-more t i h f = rw add-one (pick-no _ _ (le-ltb (lowest t i) i (omega arith)) ∙ pick-no _ _ f)
-
-pub lowest-here : (t : ℕ → Bool) (n i : ℕ) → lowest t i ≡ i → t i ≡ true → i < n → i ≡ lowest t n
-lowest-here t n i e h k =
-    let m = lowest-most t n i k h in
-    ⊎-elim (λ (z : i ≤ lowest t n). omega arith)
-    (λ (z : lowest t n < i). let b = lowest-most t i (lowest t n) z (lowest-true t n (omega arith)) in absurd (omega arith))
-    (le-or-lt i (lowest t n))
 
 -- ---- whether an edge leads onward
 module _ (e : Graph) (f : Far) (p g a b : ℕ) (o : Bool) (ea : a ≡ endA e g) (eb : b ≡ endB e g) (eo : o ≡ isOpen e g) where

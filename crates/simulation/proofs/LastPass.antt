@@ -9,7 +9,7 @@ use Rattle.base.specs.Iter.{pick}
 use Rattle.base.proofs.Loop.{pick-no}
 use Rattle.division.specs.Plan.{Plan}
 use Rattle.division.specs.Conflicts.{conflictList}
-use Rattle.division.specs.Analysis.{Verdict, going, conflict, crossed, zeroSize, Out}
+use Rattle.division.specs.Analysis.{Verdict, going, conflict, zeroSize, Out}
 use Rattle.division.specs.Noting.{noteAll}
 use Rattle.division.specs.Runs.{analysis}
 use Rattle.calls.specs.Table.{codeOf, coded, falseIn}
@@ -62,7 +62,6 @@ module _ (d : Plan) (w : World) (t : List ℕ) (a : Going) where
   unfolding lastBy lookedBy lastFrom offered clashes stop
   by-verdict o going = ap (λ (ps : List ℕ). lastFrom w t a (offered d ls unset o ps) (offered d ls unset o ps .judgement)) (sym (none-first (offers o)))
   by-verdict o (conflict c) = refl
-  by-verdict o crossed = refl
   by-verdict o zeroSize = refl
 
   pub unset-looked : lastBy d w t a (analysis d ls) (analysis d ls .verdict) ≡ lastFrom w t a (looked d ls unset) (looked d ls unset .judgement)

@@ -26,7 +26,7 @@ same-length-2 c = search needs
 
 returns : tie.Need-returns
 unfolding withWords
-returns c = judge-some _ _ _ _ _ _ _ (c .before .before .before .before .before .before .before .before .before .before .before .before .before .before .has-room .ensures) _ _ (c .before .before .before .before .before .before .before .before .before .before .before .before .before .if1 .taken) ((c .before .before .before .before .before .before .before .analyze .ensures) ∙ ap (analyzeWords _ _ _) (c .before .before .before .before .before .before .before .before .before .before .before .clear .ensures)) (c .before .before .judge-found .ensures)
+returns c = judge-some _ _ _ _ _ _ _ (c .before .before .before .before .before .before .before .before .before .before .before .before .before .before .has-room .ensures) _ _ _ (c .before .before .before .before .before .before .before .before .before .before .before .before .before .if1 .taken) ((c .before .before .before .before .before .before .before .analyze .ensures) ∙ ap (analyzeWords _ _ _ _) (c .before .before .before .before .before .before .before .before .before .before .before .clear .ensures)) (c .before .before .judge-found .ensures)
 
 same-length-3 : tie.Need-same-length-3
 same-length-3 c = search needs
@@ -35,7 +35,7 @@ same-length-4 : tie.Need-same-length-4
 same-length-4 c = search needs
 
 returns-2 : tie.Need-returns-2
-returns-2 c = judge-short _ _ _ _ _ _ _ (c .before .has-room .ensures) (c .if1 .left)
+returns-2 c = judge-short _ _ _ _ _ _ _ (c .before .has-room .ensures) _ (c .if1 .left)
 
 pub judge-spec : {M : Type 1} → statement M
 judge-spec =

@@ -44,6 +44,9 @@ judge-conflict-requires-4 c κs = search needs
 enum-told-6 : tie.Need-enum-told-6
 enum-told-6 c = search needs
 
+judge-conflict-requires-5 : tie.Need-judge-conflict-requires-5
+judge-conflict-requires-5 c κs = search needs
+
 enum-told-7 : tie.Need-enum-told-7
 enum-told-7 c = search needs
 
@@ -92,9 +95,12 @@ returns-6 : tie.Need-returns-6
 unfolding judgeFound
 returns-6 c = found-conflict _ _ _ _ _ _ _ _ _ (c .before .before .before .before .enum-told5 .given .1) (c .before .before .judge-conflict4 .ensures) refl
 
+same-length-7 : tie.Need-same-length-7
+same-length-7 c = search needs
+
 returns-7 : tie.Need-returns-7
 unfolding judgeFound
-returns-7 c = found-arm _ _ _ _ _ _ _ _ _ ((c .enum-told6 .given) .1) refl
+returns-7 c = found-conflict _ _ _ _ _ _ _ _ _ (c .before .before .before .before .enum-told6 .given .1) (c .before .before .judge-conflict5 .ensures) refl
 
 returns-8 : tie.Need-returns-8
 unfolding judgeFound
@@ -121,6 +127,7 @@ judge-found-spec =
     enum-told-5
     judge-conflict-requires-4
     enum-told-6
+    judge-conflict-requires-5
     enum-told-7
     enum-told-8
     same-length
@@ -135,6 +142,7 @@ judge-found-spec =
     returns-5
     same-length-6
     returns-6
+    same-length-7
     returns-7
     returns-8
     returns-9)

@@ -1,7 +1,11 @@
 use Rattle.notifications.proofs.Cases.{last-fine, last-clash, last-stopped}
+use Rattle.judge.proofs.Judged.{judge-told}
 use borrow.Author.Needs.{needs}
 use Rattle.notifications.proofs.analyze_once_more.Statement.{statement}
 use Rattle.notifications.proofs.analyze_once_more.Tie as tie
+
+crossed-requires : tie.Need-crossed-requires
+crossed-requires c κs = search needs
 
 slice-aggregate-judge : tie.Need-slice-aggregate-judge
 slice-aggregate-judge c = search needs
@@ -34,7 +38,9 @@ same-length-3 : tie.Need-same-length-3
 same-length-3 c = search needs
 
 returns : tie.Need-returns
-returns c = last-fine _ _ _ _ _ _ _ _ _ _ (c .before .before .before .before .before .before .before .before .before .before .before .judge .ensures) _ (c .before .before .before .before .before .enum-told .given .1) (c .before .before .merge .ensures)
+returns c =
+    let j = c .before .before .before .before .before .before .before .before .before .before .before in
+    last-fine _ _ _ _ _ _ _ _ _ _ (judge-told _ _ _ _ _ _ _ (j .before .before .before .before .crossed .ensures) (j .judge .ensures)) _ (c .before .before .before .before .before .enum-told .given .1) (c .before .before .merge .ensures)
 
 same-length-4 : tie.Need-same-length-4
 same-length-4 c = search needs
@@ -46,7 +52,9 @@ same-length-6 : tie.Need-same-length-6
 same-length-6 c = search needs
 
 returns-2 : tie.Need-returns-2
-returns-2 c = last-clash _ _ _ _ _ _ _ _ _ _ (c .before .before .before .before .before .before .before .before .before .before .before .before .judge .ensures) _ _ (c .before .before .before .before .before .before .found .given .1) (c .before .before .merge2 .ensures)
+returns-2 c =
+    let j = c .before .before .before .before .before .before .before .before .before .before .before .before in
+    last-clash _ _ _ _ _ _ _ _ _ _ (judge-told _ _ _ _ _ _ _ (j .before .before .before .before .crossed .ensures) (j .judge .ensures)) _ _ (c .before .before .before .before .before .before .found .given .1) (c .before .before .merge2 .ensures)
 
 same-length-7 : tie.Need-same-length-7
 same-length-7 c = search needs
@@ -55,12 +63,15 @@ same-length-8 : tie.Need-same-length-8
 same-length-8 c = search needs
 
 returns-3 : tie.Need-returns-3
-returns-3 c = last-stopped _ _ _ _ _ _ _ _ _ _ (c .before .before .before .before .before .before .before .judge .ensures) _ (c .before .found2 .given .1)
+returns-3 c =
+    let j = c .before .before .before .before .before .before .before in
+    last-stopped _ _ _ _ _ _ _ _ _ _ (judge-told _ _ _ _ _ _ _ (j .before .before .before .before .crossed .ensures) (j .judge .ensures)) _ (c .before .found2 .given .1)
 
 pub analyze-once-more-spec : {M : Type 1} → statement M
 analyze-once-more-spec =
     tie.close
     (tie.spec
+    crossed-requires
     slice-aggregate-judge
     judge-requires
     enum-told

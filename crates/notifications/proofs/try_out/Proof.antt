@@ -11,7 +11,7 @@ note-requires : tie.Need-note-requires
 note-requires c κs = search needs
 
 returns : tie.Need-returns
-returns c = ap (λ (x : Noting). x .noted) (c .before .note .ensures)
+returns c = (ap (λ (x : Noting). x .noted) (c .before .note .ensures .0), c .before .note .ensures .1)
 
 pub try-out-spec : {M : Type 1} → statement M
 try-out-spec = tie.close (tie.spec slice-aggregate-note note-requires returns)

@@ -6,7 +6,7 @@ use Rattle.graph.specs.Search.{graph}
 use Rattle.division.specs.Regions.{lowest}
 use Rattle.runs.specs.Rounds.{farOf}
 use Rattle.runs.specs.Walk.{onward}
-use Rattle.runs.proofs.Next.{none-yet, none-more, lowest-here}
+use Rattle.division.proofs.Views.{lowest-zero, lowest-more, lowest-here}
 use Rattle.runs.proofs.next_edge.Statement.{statement}
 use Rattle.runs.proofs.next_edge.Tie as tie
 
@@ -17,7 +17,7 @@ abbrev μ-loop : tie.MeasureT-loop
 μ-loop edges state far num-edges p g₀ g = num-edges - g
 
 loop-holds : tie.Need-loop-holds Inv-loop μ-loop
-loop-holds c = (omega arith, none-yet _)
+loop-holds c = (omega arith, lowest-zero _)
 
 leads-on-requires : tie.Need-leads-on-requires Inv-loop μ-loop
 leads-on-requires c κs = let p = c .before .before .before .pre in (omega (arith, p .0 .fits), omega arith, p .2, p .0 .within _ (omega arith), p .3)
@@ -38,7 +38,7 @@ loop-again : tie.Need-loop-again Inv-loop μ-loop
 loop-again c =
     let a = c .before .before .before .before .before .args in
     let t = onward (graph (a .edges .now) (a .state .now) true) (farOf (a .far .now)) (a .p) in
-    (omega arith, none-more t _ (c .before .before .before .loop .inv .1) (sym (c .before .leads-on .ensures) ∙ c .if1 .left))
+    (omega arith, lowest-more t _ (c .before .before .before .loop .inv .1) (sym (c .before .leads-on .ensures) ∙ c .if1 .left))
 
 returns-2 : tie.Need-returns-2 Inv-loop μ-loop
 returns-2 c =

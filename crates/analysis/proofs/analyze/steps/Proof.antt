@@ -43,35 +43,35 @@ same-length c = ran-length _ _ _ _ (c .before .before .step5 .ensures) ∙ (ran-
 
 returns : tie.Need-returns
 unfolding step3 cuts crowds cellsOf
-returns c = ends-5 _ _ _ _ _ _ _ _ (sym (c .before .before .before .before .before .goes-on4 .ensures) ∙ (c .before .before .before .before .if4 .taken)) (ran-next _ (step4-regular _ _ _) _ _ _ _ _ _ (sym (c .before .before .before .before .before .before .before .before .before .before .before .goes-on3 .ensures) ∙ (c .before .before .before .before .before .before .before .before .before .before .if3 .taken)) (ran-next _ (step3-regular (planIn (words (c .before .before .before .before .before .before .before .before .before .before .before .before .before .before .before .before .before .before .before .before .before .before .before .before .before .before .before .before .before .args .plan .now) (c .before .before .before .before .before .before .before .before .before .before .before .before .before .before .before .before .before .before .before .before .before .before .before .before .before .before .before .before .before .args .edges) (c .before .before .before .before .before .before .before .before .before .before .before .before .before .before .before .before .before .before .before .before .before .before .before .before .before .before .before .before .before .args .noted .now) (c .before .before .before .before .before .before .before .before .before .before .before .before .before .before .before .before .before .before .before .before .before .before .before .before .before .before .before .before .before .args .view .now))) (stateOf (c .before .before .before .before .before .before .before .before .before .before .before .before .before .before .before .before .before .before .before .before .before .before .before .before .before .before .before .before .before .args .noted .now)) (viewIn (words (c .before .before .before .before .before .before .before .before .before .before .before .before .before .before .before .before .before .before .before .before .before .before .before .before .before .before .before .before .before .args .plan .now) (c .before .before .before .before .before .before .before .before .before .before .before .before .before .before .before .before .before .before .before .before .before .before .before .before .before .before .before .before .before .args .edges) (c .before .before .before .before .before .before .before .before .before .before .before .before .before .before .before .before .before .before .before .before .before .before .before .before .before .before .before .before .before .args .noted .now) (c .before .before .before .before .before .before .before .before .before .before .before .before .before .before .before .before .before .before .before .before .before .before .before .before .before .before .before .before .before .args .view .now)))) _ _ _ _ _ _ (sym (c .before .before .before .before .before .before .before .before .before .before .before .before .before .before .before .before .before .goes-on2 .ensures) ∙ (c .before .before .before .before .before .before .before .before .before .before .before .before .before .before .before .before .if2 .taken)) (ran-next _ (step2-regular _ _ _) _ _ _ _ _ _ (sym (c .before .before .before .before .before .before .before .before .before .before .before .before .before .before .before .before .before .before .before .before .before .before .before .goes-on .ensures) ∙ (c .before .before .before .before .before .before .before .before .before .before .before .before .before .before .before .before .before .before .before .before .before .before .if1 .taken)) (c .before .before .before .before .before .before .before .before .before .before .before .before .before .before .before .before .before .before .before .before .before .before .before .before .before .before .step1 .ensures) (c .before .before .before .before .before .before .before .before .before .before .before .before .before .before .before .before .before .before .before .before .step2 .ensures)) (c .before .before .before .before .before .before .before .before .before .before .before .before .before .before .step3 .ensures)) (c .before .before .before .before .before .before .before .before .step4 .ensures)) (c .before .before .step5 .ensures)
+returns c = ends-5 _ _ _ _ _ _ _ _ _ (sym (c .before .before .before .before .before .goes-on4 .ensures) ∙ (c .before .before .before .before .if4 .taken)) (ran-next _ (step4-regular _ _ _) _ _ _ _ _ _ (sym (c .before .before .before .before .before .before .before .before .before .before .before .goes-on3 .ensures) ∙ (c .before .before .before .before .before .before .before .before .before .before .if3 .taken)) (ran-next _ (step3-regular (planIn (words (c .before .before .before .before .before .before .before .before .before .before .before .before .before .before .before .before .before .before .before .before .before .before .before .before .before .before .before .before .before .args .plan .now) (c .before .before .before .before .before .before .before .before .before .before .before .before .before .before .before .before .before .before .before .before .before .before .before .before .before .before .before .before .before .args .edges) (c .before .before .before .before .before .before .before .before .before .before .before .before .before .before .before .before .before .before .before .before .before .before .before .before .before .before .before .before .before .args .noted .now) (c .before .before .before .before .before .before .before .before .before .before .before .before .before .before .before .before .before .before .before .before .before .before .before .before .before .before .before .before .before .args .view .now))) (stateOf (c .before .before .before .before .before .before .before .before .before .before .before .before .before .before .before .before .before .before .before .before .before .before .before .before .before .before .before .before .before .args .noted .now)) (viewIn (words (c .before .before .before .before .before .before .before .before .before .before .before .before .before .before .before .before .before .before .before .before .before .before .before .before .before .before .before .before .before .args .plan .now) (c .before .before .before .before .before .before .before .before .before .before .before .before .before .before .before .before .before .before .before .before .before .before .before .before .before .before .before .before .before .args .edges) (c .before .before .before .before .before .before .before .before .before .before .before .before .before .before .before .before .before .before .before .before .before .before .before .before .before .before .before .before .before .args .noted .now) (c .before .before .before .before .before .before .before .before .before .before .before .before .before .before .before .before .before .before .before .before .before .before .before .before .before .before .before .before .before .args .view .now)))) _ _ _ _ _ _ (sym (c .before .before .before .before .before .before .before .before .before .before .before .before .before .before .before .before .before .goes-on2 .ensures) ∙ (c .before .before .before .before .before .before .before .before .before .before .before .before .before .before .before .before .if2 .taken)) (ran-next _ (step2-regular _ _ _ _) _ _ _ _ _ _ (sym (c .before .before .before .before .before .before .before .before .before .before .before .before .before .before .before .before .before .before .before .before .before .before .before .goes-on .ensures) ∙ (c .before .before .before .before .before .before .before .before .before .before .before .before .before .before .before .before .before .before .before .before .before .before .if1 .taken)) (c .before .before .before .before .before .before .before .before .before .before .before .before .before .before .before .before .before .before .before .before .before .before .before .before .before .before .step1 .ensures) (c .before .before .before .before .before .before .before .before .before .before .before .before .before .before .before .before .before .before .before .before .step2 .ensures)) (c .before .before .before .before .before .before .before .before .before .before .before .before .before .before .step3 .ensures)) (c .before .before .before .before .before .before .before .before .step4 .ensures)) (c .before .before .step5 .ensures)
 
 same-length-2 : tie.Need-same-length-2
 same-length-2 c = ran-length _ _ _ _ (c .before .before .before .before .step4 .ensures) ∙ (ran-length _ _ _ _ (c .before .before .before .before .before .before .before .before .before .before .step3 .ensures) ∙ (ran-length _ _ _ _ (c .before .before .before .before .before .before .before .before .before .before .before .before .before .before .before .before .step2 .ensures) ∙ (ran-length _ _ _ _ (c .before .before .before .before .before .before .before .before .before .before .before .before .before .before .before .before .before .before .before .before .before .before .step1 .ensures))))
 
 returns-2 : tie.Need-returns-2
 unfolding step3 cuts crowds cellsOf
-returns-2 c = ends-4 _ _ _ _ _ [] _ (sym (c .before .goes-on4 .ensures) ∙ (c .if4 .left)) (ran-next _ (step4-regular _ _ _) _ _ _ _ _ _ (sym (c .before .before .before .before .before .before .before .goes-on3 .ensures) ∙ (c .before .before .before .before .before .before .if3 .taken)) (ran-next _ (step3-regular (planIn (words (c .before .before .before .before .before .before .before .before .before .before .before .before .before .before .before .before .before .before .before .before .before .before .before .before .before .args .plan .now) (c .before .before .before .before .before .before .before .before .before .before .before .before .before .before .before .before .before .before .before .before .before .before .before .before .before .args .edges) (c .before .before .before .before .before .before .before .before .before .before .before .before .before .before .before .before .before .before .before .before .before .before .before .before .before .args .noted .now) (c .before .before .before .before .before .before .before .before .before .before .before .before .before .before .before .before .before .before .before .before .before .before .before .before .before .args .view .now))) (stateOf (c .before .before .before .before .before .before .before .before .before .before .before .before .before .before .before .before .before .before .before .before .before .before .before .before .before .args .noted .now)) (viewIn (words (c .before .before .before .before .before .before .before .before .before .before .before .before .before .before .before .before .before .before .before .before .before .before .before .before .before .args .plan .now) (c .before .before .before .before .before .before .before .before .before .before .before .before .before .before .before .before .before .before .before .before .before .before .before .before .before .args .edges) (c .before .before .before .before .before .before .before .before .before .before .before .before .before .before .before .before .before .before .before .before .before .before .before .before .before .args .noted .now) (c .before .before .before .before .before .before .before .before .before .before .before .before .before .before .before .before .before .before .before .before .before .before .before .before .before .args .view .now)))) _ _ _ _ _ _ (sym (c .before .before .before .before .before .before .before .before .before .before .before .before .before .goes-on2 .ensures) ∙ (c .before .before .before .before .before .before .before .before .before .before .before .before .if2 .taken)) (ran-next _ (step2-regular _ _ _) _ _ _ _ _ _ (sym (c .before .before .before .before .before .before .before .before .before .before .before .before .before .before .before .before .before .before .before .goes-on .ensures) ∙ (c .before .before .before .before .before .before .before .before .before .before .before .before .before .before .before .before .before .before .if1 .taken)) (c .before .before .before .before .before .before .before .before .before .before .before .before .before .before .before .before .before .before .before .before .before .before .step1 .ensures) (c .before .before .before .before .before .before .before .before .before .before .before .before .before .before .before .before .step2 .ensures)) (c .before .before .before .before .before .before .before .before .before .before .step3 .ensures)) (c .before .before .before .before .step4 .ensures))
+returns-2 c = ends-4 _ _ _ _ _ [] _ _ (sym (c .before .goes-on4 .ensures) ∙ (c .if4 .left)) (ran-next _ (step4-regular _ _ _) _ _ _ _ _ _ (sym (c .before .before .before .before .before .before .before .goes-on3 .ensures) ∙ (c .before .before .before .before .before .before .if3 .taken)) (ran-next _ (step3-regular (planIn (words (c .before .before .before .before .before .before .before .before .before .before .before .before .before .before .before .before .before .before .before .before .before .before .before .before .before .args .plan .now) (c .before .before .before .before .before .before .before .before .before .before .before .before .before .before .before .before .before .before .before .before .before .before .before .before .before .args .edges) (c .before .before .before .before .before .before .before .before .before .before .before .before .before .before .before .before .before .before .before .before .before .before .before .before .before .args .noted .now) (c .before .before .before .before .before .before .before .before .before .before .before .before .before .before .before .before .before .before .before .before .before .before .before .before .before .args .view .now))) (stateOf (c .before .before .before .before .before .before .before .before .before .before .before .before .before .before .before .before .before .before .before .before .before .before .before .before .before .args .noted .now)) (viewIn (words (c .before .before .before .before .before .before .before .before .before .before .before .before .before .before .before .before .before .before .before .before .before .before .before .before .before .args .plan .now) (c .before .before .before .before .before .before .before .before .before .before .before .before .before .before .before .before .before .before .before .before .before .before .before .before .before .args .edges) (c .before .before .before .before .before .before .before .before .before .before .before .before .before .before .before .before .before .before .before .before .before .before .before .before .before .args .noted .now) (c .before .before .before .before .before .before .before .before .before .before .before .before .before .before .before .before .before .before .before .before .before .before .before .before .before .args .view .now)))) _ _ _ _ _ _ (sym (c .before .before .before .before .before .before .before .before .before .before .before .before .before .goes-on2 .ensures) ∙ (c .before .before .before .before .before .before .before .before .before .before .before .before .if2 .taken)) (ran-next _ (step2-regular _ _ _ _) _ _ _ _ _ _ (sym (c .before .before .before .before .before .before .before .before .before .before .before .before .before .before .before .before .before .before .before .goes-on .ensures) ∙ (c .before .before .before .before .before .before .before .before .before .before .before .before .before .before .before .before .before .before .if1 .taken)) (c .before .before .before .before .before .before .before .before .before .before .before .before .before .before .before .before .before .before .before .before .before .before .step1 .ensures) (c .before .before .before .before .before .before .before .before .before .before .before .before .before .before .before .before .step2 .ensures)) (c .before .before .before .before .before .before .before .before .before .before .step3 .ensures)) (c .before .before .before .before .step4 .ensures))
 
 same-length-3 : tie.Need-same-length-3
 same-length-3 c = ran-length _ _ _ _ (c .before .before .before .before .step3 .ensures) ∙ (ran-length _ _ _ _ (c .before .before .before .before .before .before .before .before .before .before .step2 .ensures) ∙ (ran-length _ _ _ _ (c .before .before .before .before .before .before .before .before .before .before .before .before .before .before .before .before .step1 .ensures)))
 
 returns-3 : tie.Need-returns-3
 unfolding step3 cuts crowds cellsOf
-returns-3 c = ends-3 _ _ _ _ _ [] _ (sym (c .before .goes-on3 .ensures) ∙ (c .if3 .left)) (ran-next _ (step3-regular (planIn (words (c .before .before .before .before .before .before .before .before .before .before .before .before .before .before .before .before .before .before .before .args .plan .now) (c .before .before .before .before .before .before .before .before .before .before .before .before .before .before .before .before .before .before .before .args .edges) (c .before .before .before .before .before .before .before .before .before .before .before .before .before .before .before .before .before .before .before .args .noted .now) (c .before .before .before .before .before .before .before .before .before .before .before .before .before .before .before .before .before .before .before .args .view .now))) (stateOf (c .before .before .before .before .before .before .before .before .before .before .before .before .before .before .before .before .before .before .before .args .noted .now)) (viewIn (words (c .before .before .before .before .before .before .before .before .before .before .before .before .before .before .before .before .before .before .before .args .plan .now) (c .before .before .before .before .before .before .before .before .before .before .before .before .before .before .before .before .before .before .before .args .edges) (c .before .before .before .before .before .before .before .before .before .before .before .before .before .before .before .before .before .before .before .args .noted .now) (c .before .before .before .before .before .before .before .before .before .before .before .before .before .before .before .before .before .before .before .args .view .now)))) _ _ _ _ _ _ (sym (c .before .before .before .before .before .before .before .goes-on2 .ensures) ∙ (c .before .before .before .before .before .before .if2 .taken)) (ran-next _ (step2-regular _ _ _) _ _ _ _ _ _ (sym (c .before .before .before .before .before .before .before .before .before .before .before .before .before .goes-on .ensures) ∙ (c .before .before .before .before .before .before .before .before .before .before .before .before .if1 .taken)) (c .before .before .before .before .before .before .before .before .before .before .before .before .before .before .before .before .step1 .ensures) (c .before .before .before .before .before .before .before .before .before .before .step2 .ensures)) (c .before .before .before .before .step3 .ensures))
+returns-3 c = ends-3 _ _ _ _ _ [] _ _ (sym (c .before .goes-on3 .ensures) ∙ (c .if3 .left)) (ran-next _ (step3-regular (planIn (words (c .before .before .before .before .before .before .before .before .before .before .before .before .before .before .before .before .before .before .before .args .plan .now) (c .before .before .before .before .before .before .before .before .before .before .before .before .before .before .before .before .before .before .before .args .edges) (c .before .before .before .before .before .before .before .before .before .before .before .before .before .before .before .before .before .before .before .args .noted .now) (c .before .before .before .before .before .before .before .before .before .before .before .before .before .before .before .before .before .before .before .args .view .now))) (stateOf (c .before .before .before .before .before .before .before .before .before .before .before .before .before .before .before .before .before .before .before .args .noted .now)) (viewIn (words (c .before .before .before .before .before .before .before .before .before .before .before .before .before .before .before .before .before .before .before .args .plan .now) (c .before .before .before .before .before .before .before .before .before .before .before .before .before .before .before .before .before .before .before .args .edges) (c .before .before .before .before .before .before .before .before .before .before .before .before .before .before .before .before .before .before .before .args .noted .now) (c .before .before .before .before .before .before .before .before .before .before .before .before .before .before .before .before .before .before .before .args .view .now)))) _ _ _ _ _ _ (sym (c .before .before .before .before .before .before .before .goes-on2 .ensures) ∙ (c .before .before .before .before .before .before .if2 .taken)) (ran-next _ (step2-regular _ _ _ _) _ _ _ _ _ _ (sym (c .before .before .before .before .before .before .before .before .before .before .before .before .before .goes-on .ensures) ∙ (c .before .before .before .before .before .before .before .before .before .before .before .before .if1 .taken)) (c .before .before .before .before .before .before .before .before .before .before .before .before .before .before .before .before .step1 .ensures) (c .before .before .before .before .before .before .before .before .before .before .step2 .ensures)) (c .before .before .before .before .step3 .ensures))
 
 same-length-4 : tie.Need-same-length-4
 same-length-4 c = ran-length _ _ _ _ (c .before .before .before .before .step2 .ensures) ∙ (ran-length _ _ _ _ (c .before .before .before .before .before .before .before .before .before .before .step1 .ensures))
 
 returns-4 : tie.Need-returns-4
 unfolding step3 cuts crowds cellsOf
-returns-4 c = ends-2 _ _ _ _ _ [] _ (sym (c .before .goes-on2 .ensures) ∙ (c .if2 .left)) (ran-next _ (step2-regular _ _ _) _ _ _ _ _ _ (sym (c .before .before .before .before .before .before .before .goes-on .ensures) ∙ (c .before .before .before .before .before .before .if1 .taken)) (c .before .before .before .before .before .before .before .before .before .before .step1 .ensures) (c .before .before .before .before .step2 .ensures))
+returns-4 c = ends-2 _ _ _ _ _ [] _ _ (sym (c .before .goes-on2 .ensures) ∙ (c .if2 .left)) (ran-next _ (step2-regular _ _ _ _) _ _ _ _ _ _ (sym (c .before .before .before .before .before .before .before .goes-on .ensures) ∙ (c .before .before .before .before .before .before .if1 .taken)) (c .before .before .before .before .before .before .before .before .before .before .step1 .ensures) (c .before .before .before .before .step2 .ensures))
 
 same-length-5 : tie.Need-same-length-5
 same-length-5 c = ran-length _ _ _ _ (c .before .before .before .before .step1 .ensures)
 
 returns-5 : tie.Need-returns-5
 unfolding step3 cuts crowds cellsOf
-returns-5 c = ends-1 _ _ _ _ _ [] _ (sym (c .before .goes-on .ensures) ∙ (c .if1 .left)) (c .before .before .before .before .step1 .ensures)
+returns-5 c = ends-1 _ _ _ _ _ [] _ _ (sym (c .before .goes-on .ensures) ∙ (c .if1 .left)) (c .before .before .before .before .step1 .ensures)
 
 pub steps-spec : {M : Type 1} → statement M
 steps-spec =

@@ -5,7 +5,7 @@ use lib.ListN.{getD}
 use Prim.Native.Nat.{_-_, _≤_}
 use borrow.Author.Needs.{needs}
 use Rattle.division.specs.Regions.{lowest}
-use Rattle.analysis.proofs.Matching.{lowest-zero, lowest-more, lowest-here, lowest-left}
+use Rattle.division.proofs.Views.{lowest-zero, lowest-more, lowest-here, lowest-left}
 use Rattle.analysis.proofs.step1.first_undecided.Statement.{statement}
 use Rattle.analysis.proofs.step1.first_undecided.Tie as tie
 

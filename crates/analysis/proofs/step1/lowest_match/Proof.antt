@@ -6,7 +6,7 @@ use borrow.Author.Needs.{needs}
 use Rattle.division.specs.Regions.{lowest}
 use Rattle.division.specs.Analysis.{matches}
 use Rattle.analysis.specs.Placed.{words, on}
-use Rattle.analysis.proofs.Matching.{lowest-zero, lowest-more, lowest-here, lowest-left}
+use Rattle.division.proofs.Views.{lowest-zero, lowest-more, lowest-here, lowest-left}
 use Rattle.analysis.proofs.step1.lowest_match.Statement.{statement}
 use Rattle.analysis.proofs.step1.lowest_match.Tie as tie
 

@@ -19,7 +19,7 @@ same-length : tie.Need-same-length
 same-length c = search needs
 
 returns : tie.Need-returns
-returns c = note-yes _ _ _ _ _ _ (c .before .before .before .before .before .before .before .before .unique-lit .ensures) (c .before .before .before .before .before .before .before .is-true .ensures) (c .before .before .before .before .before .before .if1 .taken) _ _ (c .before .before .before .lit-at .ensures) (c .before .before .note .ensures)
+returns c = note-yes _ _ _ _ _ _ (c .before .before .before .before .before .before .before .before .before .unique-lit .ensures) (c .before .before .before .before .before .before .before .before .is-true .ensures) (c .before .before .before .before .before .before .before .if1 .taken) _ _ (c .before .before .before .before .lit-at .ensures) (c .before .before .before .note .ensures .0)
 
 returns-2 : tie.Need-returns-2
 returns-2 c = note-no _ _ _ _ _ _ (c .before .before .unique-lit .ensures) (c .before .is-true .ensures) (c .if1 .left)

@@ -3,6 +3,7 @@ use Rattle.lent.specs.Lent.{stateOf, stateAfter, calledOf}
 use Rattle.graph_division.specs.Calls.{withNoted, withJudged, refuse, triedOut}
 use Rattle.base.specs.Iter.{pick}
 use Rattle.judge.specs.Judge.{judgeWords}
+use Rattle.judge.proofs.Judged.{judge-told}
 use Rattle.lent.proofs.Lending.{noted-judged}
 use Rattle.lent.proofs.Settling.{settle-fine, settle-clash, settle-stopped}
 use borrow.Author.Needs.{needs}
@@ -51,9 +52,11 @@ same-length-5 c = search needs
 returns : tie.Need-returns
 unfolding calledOf stateAfter pick withNoted withJudged refuse triedOut
 returns c =
-    let a = c .before .before .before .before .before .before .before .before .before .before .before .before .before .before .before .before .before .before .before .before .before .before .before .before .before .before .before .before .before .before .before .before .args in
+    let a = c .before .before .before .before .before .before .before .before .before .before .before .before .before .before .before .before .before .before .before .before .before .before .before .before .before .before .before .before .before .before .before .before .before .args in
+    let j = c .before .before .before .before .before .before .before .before .before .before .before .before .before .before .before .before .before .before .before .before in
+    let e = j .before .before .before .before .before .try-out .ensures in
     λ rs last len b.
-    settle-fine (stateOf (a .plan .now) (a .edges) (a .noted .now) rs last len b) (a .cursor) (a .proposals .now) (a .left .now) (a .lit) (a .table .now) (a .list .now) (a .log .now) _ _ _ ((c .before .before .before .before .before .before .before .before .before .before .before .before .before .before .before .before .before .before .before .judge .ensures) ∙ (λ i. judgeWords (a .plan .now) (a .edges) ((c .before .before .before .before .before .before .before .before .before .before .before .before .before .before .before .before .before .before .before .before .before .before .before .before .try-out .ensures) i) (a .table .now) (a .proposals .now) (a .left .now))) _ _ _ _ _ (c .before .before .before .before .before .before .before .before .before .before .before .before .before .enum-told .given .1) (c .before .before .before .before .before .before .before .before .before .hand-on .ensures) (noted-judged (stateOf (a .plan .now) (a .edges) (a .noted .now) rs last len b) (a .cursor) (a .lit) 0 _ _ _ _ _ _ _ (c .before .before .note .ensures))
+    settle-fine (stateOf (a .plan .now) (a .edges) (a .noted .now) rs last len b) (a .cursor) (a .proposals .now) (a .left .now) (a .lit) (a .table .now) (a .list .now) (a .log .now) _ _ _ (judge-told _ _ _ _ _ _ _ (e .1) (j .judge .ensures) ∙ (λ i. judgeWords (a .plan .now) (a .edges) ((e .0) i) (a .table .now) (a .proposals .now) (a .left .now))) _ _ _ _ _ (c .before .before .before .before .before .before .before .before .before .before .before .before .before .before .enum-told .given .1) (c .before .before .before .before .before .before .before .before .before .before .hand-on .ensures) (noted-judged (stateOf (a .plan .now) (a .edges) (a .noted .now) rs last len b) (a .cursor) (a .lit) 0 _ _ _ _ _ _ _ (c .before .before .before .note .ensures .0))
 
 same-length-6 : tie.Need-same-length-6
 same-length-6 c = search needs
@@ -70,9 +73,11 @@ same-length-9 c = search needs
 returns-2 : tie.Need-returns-2
 unfolding calledOf stateAfter pick withNoted withJudged refuse triedOut
 returns-2 c =
-    let a = c .before .before .before .before .before .before .before .before .before .before .before .before .before .before .before .before .before .before .before .before .before .before .before .before .before .args in
+    let a = c .before .before .before .before .before .before .before .before .before .before .before .before .before .before .before .before .before .before .before .before .before .before .before .before .before .before .args in
+    let j = c .before .before .before .before .before .before .before .before .before .before .before .before .before in
+    let e = j .before .before .before .before .before .try-out .ensures in
     λ rs last len b.
-    settle-clash (stateOf (a .plan .now) (a .edges) (a .noted .now) rs last len b) (a .cursor) (a .proposals .now) (a .left .now) (a .lit) (a .table .now) (a .list .now) (a .log .now) _ _ _ ((c .before .before .before .before .before .before .before .before .before .before .before .before .judge .ensures) ∙ (λ i. judgeWords (a .plan .now) (a .edges) ((c .before .before .before .before .before .before .before .before .before .before .before .before .before .before .before .before .before .try-out .ensures) i) (a .table .now) (a .proposals .now) (a .left .now))) _ _ _ (c .before .before .before .before .before .before .found .given .1) (noted-judged (stateOf (a .plan .now) (a .edges) (a .noted .now) rs last len b) (a .cursor) (a .lit) _ _ _ _ _ _ _ _ (c .before .before .note2 .ensures))
+    settle-clash (stateOf (a .plan .now) (a .edges) (a .noted .now) rs last len b) (a .cursor) (a .proposals .now) (a .left .now) (a .lit) (a .table .now) (a .list .now) (a .log .now) _ _ _ (judge-told _ _ _ _ _ _ _ (e .1) (j .judge .ensures) ∙ (λ i. judgeWords (a .plan .now) (a .edges) ((e .0) i) (a .table .now) (a .proposals .now) (a .left .now))) _ _ _ (c .before .before .before .before .before .before .before .found .given .1) (noted-judged (stateOf (a .plan .now) (a .edges) (a .noted .now) rs last len b) (a .cursor) (a .lit) _ _ _ _ _ _ _ _ (c .before .before .before .note2 .ensures .0))
 
 same-length-10 : tie.Need-same-length-10
 same-length-10 c = search needs
@@ -87,8 +92,10 @@ returns-3 : tie.Need-returns-3
 unfolding calledOf stateAfter pick withNoted withJudged refuse triedOut
 returns-3 c =
     let a = c .before .before .before .before .before .before .before .before .before .before .before .before .before .before .before .before .before .before .before .before .args in
+    let j = c .before .before .before .before .before .before .before in
+    let e = j .before .before .before .before .before .try-out .ensures in
     λ rs last len b.
-    settle-stopped (stateOf (a .plan .now) (a .edges) (a .noted .now) rs last len b) (a .cursor) (a .proposals .now) (a .left .now) (a .lit) (a .table .now) (a .list .now) (a .log .now) _ _ _ ((c .before .before .before .before .before .before .before .judge .ensures) ∙ (λ i. judgeWords (a .plan .now) (a .edges) ((c .before .before .before .before .before .before .before .before .before .before .before .before .try-out .ensures) i) (a .table .now) (a .proposals .now) (a .left .now))) _ _ (c .before .found2 .given .1) refl
+    settle-stopped (stateOf (a .plan .now) (a .edges) (a .noted .now) rs last len b) (a .cursor) (a .proposals .now) (a .left .now) (a .lit) (a .table .now) (a .list .now) (a .log .now) _ _ _ (judge-told _ _ _ _ _ _ _ (e .1) (j .judge .ensures) ∙ (λ i. judgeWords (a .plan .now) (a .edges) ((e .0) i) (a .table .now) (a .proposals .now) (a .left .now))) _ _ (c .before .found2 .given .1) refl
 
 pub settle-spec : {M : Type 1} → statement M
 settle-spec =

@@ -61,14 +61,17 @@ enum-known-verdict-5 c = search needs
 apart-requires : tie.Need-apart-requires
 apart-requires c κs = search needs
 
+enum-known-verdict-6 : tie.Need-enum-known-verdict-6
+enum-known-verdict-6 c = search needs
+
+crossing-requires : tie.Need-crossing-requires
+crossing-requires c κs = search needs
+
 enum-told-2 : tie.Need-enum-told-2
 enum-told-2 c = search needs
 
 enum-told-3 : tie.Need-enum-told-3
 enum-told-3 c = search needs
-
-enum-told-4 : tie.Need-enum-told-4
-enum-told-4 c = search needs
 
 returns : tie.Need-returns
 unfolding conflictLits missing
@@ -109,17 +112,20 @@ returns-6 : tie.Need-returns-6
 unfolding conflictLits missing
 returns-6 c = conflict-arm _ _ _ _ _ _ _ _ ((c .before .before .before .before .before .verdict5 .given) .1) (c .before .before .apart .ensures)
 
+same-length-6 : tie.Need-same-length-6
+same-length-6 c = search needs
+
 returns-7 : tie.Need-returns-7
 unfolding conflictLits missing
-returns-7 c = conflict-arm _ _ _ _ _ _ _ _ ((c .enum-told2 .given) .1) refl
+returns-7 c = conflict-arm _ _ _ _ _ _ _ _ ((c .before .before .before .before .before .verdict6 .given) .1) (c .before .before .crossing .ensures)
 
 returns-8 : tie.Need-returns-8
 unfolding conflictLits missing
-returns-8 c = conflict-arm _ _ _ _ _ _ _ _ ((c .enum-told3 .given) .1) refl
+returns-8 c = conflict-arm _ _ _ _ _ _ _ _ ((c .enum-told2 .given) .1) refl
 
 returns-9 : tie.Need-returns-9
 unfolding conflictLits missing
-returns-9 c = conflict-arm _ _ _ _ _ _ _ _ ((c .enum-told4 .given) .1) refl
+returns-9 c = conflict-arm _ _ _ _ _ _ _ _ ((c .enum-told3 .given) .1) refl
 
 pub conflict-lits-spec : {M : Type 1} → statement M
 conflict-lits-spec =
@@ -143,9 +149,10 @@ conflict-lits-spec =
     spans-requires
     enum-known-verdict-5
     apart-requires
+    enum-known-verdict-6
+    crossing-requires
     enum-told-2
     enum-told-3
-    enum-told-4
     returns
     same-length
     returns-2
@@ -157,6 +164,7 @@ conflict-lits-spec =
     returns-5
     same-length-5
     returns-6
+    same-length-6
     returns-7
     returns-8
     returns-9)
