@@ -1,5 +1,4 @@
--- `analyze` on any words: what it computes first, then the five steps. The vertex v is the lowest whose bounds cross, as applying a literal
--- told it.
+-- `analyze` on any words: what it computes first, then the five steps. Vertex v is what applying a literal told of crossed bounds.
 use mathlib.Core.Path.{_≡_}
 use mathlib.Core.Bool.{true}
 use mathlib.Core.List.{List}

@@ -25,8 +25,8 @@ use Rattle.calls.specs.Claim.{counted, Covers, AllQuiet, answered, Condi
 use Rattle.calls.proofs.View.{Saw, saw, Did, away, added, agreed, clashed, did}
 use Rattle.calls.proofs.Looks.{clash-not-fine, saw-fine, looked-fine}
 use Rattle.calls.proofs.Stands.{add-consistent, stands-from-calls, run-consistent, all-quiet-same}
-use Rattle.calls.proofs.Queries.{one-reason}
-use Rattle.calls.proofs.Recent.{isConflict, handed-justified, conflict-refuted}
+use Rattle.calls.proofs.Queries.{answerKind, isConflict, one-reason}
+use Rattle.calls.proofs.Recent.{handed-justified, conflict-refuted}
 
 pub has-in : (ls : List ℕ) (l : ℕ) → has ls l ≡ true → In ls l
 unfolding has
@@ -79,7 +79,7 @@ describes-any d k pl ls c v s σ h = exactly d k ls c pl σ (full d ls v σ h) .
 
 did-exact : (d : Plan) (k : Proper d) (pl : Plain d) (w : World) → Consistent (w .standing) → {room : Bool} {t : List ℕ} {l : ℕ} {o : Outcome} → Did d w (propagate room t l false) o →
     accepted (o .answer) ≡ true → Covers d (o .world .standing) → (o .answer ≡ consistent) ↔ Describes d (o .world .standing)
-unfolding refuse accepted settledBy noting isConflict
+unfolding refuse accepted settledBy noting answerKind
 did-exact d k pl w g (away c n) a v = absurd (false≢true a)
 did-exact d k pl w g (added room t l p e f kn) a v = absurd (false≢true e)
 did-exact d k pl w g (agreed room t l p pf o e f q bt kn) a v =

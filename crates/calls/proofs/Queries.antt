@@ -18,7 +18,8 @@ use Rattle.graph.specs.Search.{Graph}
 use Rattle.runs.specs.Walk.{bestRun}
 use Rattle.runs.proofs.Given.{given-best, none-joined}
 use Rattle.calls.specs.Look.{gone}
-use Rattle.calls.specs.Calls.{World, Query, reasonFor, lastLeft, runBetween, Answer, refused, reason, foundRun, giveReason, giveRun, answerTo}
+use Rattle.calls.specs.Calls.{World, Query, reasonFor, lastLeft, runBetween, giveReason, giveRun, answerTo}
+use Rattle.calls.specs.Calls.{Answer, consistent, conflicting, noted, undone, refused, reason, foundRun}
 use Rattle.calls.specs.Refusals.{Known, AppliesTo}
 use Rattle.calls.proofs.Known.{known, unknown}
 use Rattle.calls.proofs.View.{not-not}
@@ -38,6 +39,25 @@ one-reason l (p ∷ ps) r rs e = pick-ind (λ (z : List Reason). z ≡ r ∷ rs 
   where
     tails : {a b : Reason} {k m : List Reason} → a ∷ k ≡ b ∷ m → m ≡ k
     tails q = cc
+
+-- which answer it is, by a number of its own
+unfoldable pub answerKind : Answer → ℕ
+answerKind consistent = 0
+answerKind conflicting = 1
+answerKind noted = 2
+answerKind undone = 3
+answerKind (refused n) = 4
+answerKind (reason ls) = 5
+answerKind (foundRun gs) = 6
+
+abbrev pub isConflict : Answer → Bool
+isConflict a = eqb (answerKind a) 1
+
+abbrev pub isReason : Answer → Bool
+isReason a = eqb (answerKind a) 5
+
+abbrev pub isFound : Answer → Bool
+isFound a = eqb (answerKind a) 6
 
 unfoldable pub isRun : Query → Bool
 isRun (reasonFor l) = false

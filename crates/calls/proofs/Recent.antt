@@ -14,8 +14,8 @@ use Rattle.division.specs.Noting.{In, Consistent}
 use Rattle.division.specs.Runs.{analysis, Justifies, reasonOf, Run, start, note, look}
 use Rattle.division.proofs.Whole.{conflicts, run-fetched, reason-there, reason-newer}
 use Rattle.calls.specs.Look.{fine, clash, Looked, looked}
-use Rattle.calls.specs.Calls.{World, Call, Answer, consistent, conflicting, noted, undone, refused, reason, foundRun, Outcome, refuse, noting, adding, settledBy, Query, reasonFor, lastLeft, runBetween, giveRun, answerTo, tell, Going, joinBy, lastBy, finishBy, entry, call}
-use Rattle.calls.proofs.Queries.{isRun, Answered, denied, given, found, answer-judged}
+use Rattle.calls.specs.Calls.{World, Call, Answer, conflicting, Outcome, refuse, noting, adding, settledBy, Query, reasonFor, lastLeft, runBetween, giveRun, answerTo, tell, Going, joinBy, lastBy, finishBy, entry, call}
+use Rattle.calls.proofs.Queries.{answerKind, isConflict, isRun, Answered, denied, given, found, answer-judged}
 use Rattle.calls.proofs.View.{Saw, saw, Steps, over, more, ends, halts, Did, away, added, agreed, clashed, took, asked, began, beganLast, beganClash, did}
 use Rattle.calls.proofs.Looks.{halted, saw-handed, saw-records, saw-clash, clash-not-fine}
 use Rattle.calls.proofs.Stands.{add-consistent, fine-on, clash-on, not-halted, steps-consistent, call-consistent}
@@ -104,23 +104,14 @@ steps-clash d k pl {a} (ends {l = l} o e f q) i j c σ y x =
     saw-clash d (l ∷ a .world .standing) (a .table) k pl (add-consistent (a .world) l f c) (subst (Saw d (l ∷ a .world .standing) (a .table)) (sym e) (saw d _ _)) q σ y x
 steps-clash d k pl (halts n e) i j c σ y x = absurd (not-halted e (clash-on j))
 
-unfoldable pub isConflict : Answer → Bool
-isConflict consistent = false
-isConflict conflicting = true
-isConflict noted = false
-isConflict undone = false
-isConflict (refused n) = false
-isConflict (reason ls) = false
-isConflict (foundRun gs) = false
-
 -- no query is answered a conflict
 run-quiet : (x : List (List ℕ)) → isConflict (giveRun x) ≡ false
-unfolding giveRun isConflict
+unfolding giveRun answerKind
 run-quiet [] = refl
 run-quiet (gs ∷ rest) = refl
 
 quiet-answered : {d : Plan} {w : World} {q : Query} {a : Answer} → Answered d w q a → isConflict a ≡ false
-unfolding isConflict
+unfolding answerKind
 quiet-answered (denied n e x f) = ap isConflict e
 quiet-answered (given list e f) = ap isConflict e
 quiet-answered (found gs r e f) = ap isConflict e
@@ -134,7 +125,7 @@ answer-quiet d w (runBetween p q) = run-quiet _
 -- the list that a conflict leaves
 did-conflict : (d : Plan) (k : Proper d) (pl : Plain d) (w : World) → Consistent (w .standing) → {c : Call} {o : Outcome} → Did d w c o → isConflict (o .answer) ≡ true →
     (σ : ℕ → Bool) → Valid d σ → Every (Holds σ) (o .world .last) → ⊥
-unfolding isConflict refuse settledBy noting tell lastBy finishBy entry
+unfolding answerKind refuse settledBy noting tell lastBy finishBy entry
 did-conflict d k pl w g (away c n) h σ y x = false≢true h
 did-conflict d k pl w g (added room t l p e f kn) h σ y x = false≢true h
 did-conflict d k pl w g (agreed room t l p pf o e f q bt kn) h σ y x = false≢true h
@@ -149,5 +140,5 @@ did-conflict d k pl w g (beganClash room t a s j bt) h σ y x = steps-clash d k 
 -- no valid division agrees with the list that a conflict leaves
 pub conflict-refuted : (d : Plan) (k : Proper d) (pl : Plain d) (w : World) (c : Call) → Consistent (w .standing) → call d c w .answer ≡ conflicting →
     (σ : ℕ → Bool) → Valid d σ → Every (Holds σ) (call d c w .world .last) → ⊥
-unfolding isConflict
+unfolding answerKind
 conflict-refuted d k pl w c g e = did-conflict d k pl w g (did d w c) (ap isConflict e)

@@ -38,7 +38,8 @@ use Rattle.calls.proofs.Fetchable.{each-append, each-map, good}
 use Rattle.calls.proofs.View.{Saw, sawStop, sawConflict, sawFalse, sawFine, saw, Steps, over, more, ends, halts, Did, did, or-right}
 use Rattle.calls.proofs.Looks.{stop-not-clash, clash-not-fine, first-in, offer-in, halted, saw-records}
 use Rattle.calls.proofs.Stands.{or-left, run-consistent, add-consistent, not-halted, clash-on, steps-consistent, fine-on}
-use Rattle.calls.proofs.Recent.{isConflict, answer-quiet}
+use Rattle.calls.proofs.Queries.{answerKind, isConflict}
+use Rattle.calls.proofs.Recent.{answer-quiet}
 use Rattle.calls.proofs.Room.{Formed, formedIn, formedBetween, formedTooLarge, formedLarge, formedSmall, formedMismatch, formedSpread, formedSameSize, run-formed}
 use Rattle.division.proofs.Whole as whole
 
@@ -276,7 +277,7 @@ module _ (d : Plan) (k : Proper d) where
   steps-backed (Steps.halts n e) i j c = absurd (not-halted e (clash-on j))
 
   did-backed : (w : World) → Consistent (w .standing) → {c : Call} {o : Outcome} → Did d w c o → isConflict (o .answer) ≡ true → Backed (o .world .standing) (o .table) (o .world .last)
-  unfolding isConflict refuse settledBy noting tell lastBy finishBy entry
+  unfolding answerKind refuse settledBy noting tell lastBy finishBy entry
   did-backed w g (Did.away c n) h = absurd (false≢true h)
   did-backed w g (Did.added room t l p e f kn) h = absurd (false≢true h)
   did-backed w g (Did.agreed room t l p pf o e f q bt kn) h = absurd (false≢true h)
@@ -290,5 +291,5 @@ module _ (d : Plan) (k : Proper d) where
   -- The list that a conflict leaves: each literal stands, but a false proposal's negation, which is true in the table.
   pub conflict-backed : (before : List Call) (c : Call) → answered d before c .answer ≡ conflicting →
       Backed (answered d before c .world .standing) (answered d before c .table) (answered d before c .world .last)
-  unfolding isConflict
+  unfolding answerKind
   conflict-backed before c e = did-backed (run d before) (run-consistent d before) (did d (run d before) c) (ap isConflict e)

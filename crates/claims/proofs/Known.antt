@@ -26,9 +26,10 @@ use Rattle.division.specs.Proposed.{Proposes, ruleInGroup, ruleBetween, ruleToo
 use Rattle.division.proofs.Whole.{each-found, reason-there, reasons, conflicts}
 use Rattle.calls.specs.Table.{knows, trueIn, entered}
 use Rattle.calls.specs.Look.{Looked, looked, listFor, falseList, stop, clashes, offered}
-use Rattle.calls.specs.Calls.{World, built, Query, reasonFor, lastLeft, runBetween, Call, ask, Answer, consistent, conflicting, noted, undone, refused, reason, foundRun, Outcome, refuse, taken, adding, noting, settledBy, giveRun, answerTo, tell, onAsk, Going, joinBy, lastBy, finishBy, entry, call, after, run, answerList}
+use Rattle.calls.specs.Calls.{World, built, Query, reasonFor, lastLeft, runBetween, Call, ask, Answer, consistent, reason, Outcome, refuse, taken, adding, noting, settledBy, giveRun, answerTo, tell, onAsk, Going, joinBy, lastBy, finishBy, entry, call, after, run, answerList}
 use Rattle.calls.specs.Truths.{recordedIn}
 use Rattle.calls.proofs.Claim.{last-given}
+use Rattle.calls.proofs.Queries.{answerKind, isReason}
 use Rattle.calls.proofs.Order.{swept-every}
 use Rattle.calls.proofs.Fetchable.{each-append, each-map, good, run-explained, is-known}
 use Rattle.calls.proofs.Looks.{first-in, offer-in, halted, saw-records}
@@ -164,28 +165,19 @@ module _ (d : Plan) (k : Proper d) where
   run-known cs = after-known cs built (record { consistent = λ l a b. absurd (List·Memᴰ·not-nil a); standing = none; reasons = nothing; last = none })
 
   -- every list that a fetch gives
-  unfoldable isReason : Answer → Bool
-  isReason consistent = false
-  isReason conflicting = false
-  isReason noted = false
-  isReason undone = false
-  isReason (refused n) = false
-  isReason (reason ls) = true
-  isReason (foundRun gs) = false
-
   module _ (before : List Call) where
     abbrev w : World
     w = run d before
 
     -- a run is no reason
     run-no-reason : (x : List (List ℕ)) (ls : List ℕ) → isReason (giveRun x) ≡ true → ⊥
-    unfolding giveRun isReason
+    unfolding giveRun answerKind
     run-no-reason [] ls e = false≢true e
     run-no-reason (gs ∷ rest) ls e = false≢true e
 
     run-given : (room : Bool) (p q : ℕ) {ls : List ℕ} → call d (ask room (runBetween p q)) w .answer ≡ reason ls →
         isReason (giveRun (bestRun (potential d (noteAll d (w .standing))) (d .edges) (d .vertices) p q)) ≡ true
-    unfolding call onAsk tell answerTo isReason
+    unfolding call onAsk tell answerTo answerKind
     run-given room p q e =
         pick-ind (λ (a : Answer). isReason a ≡ true → isReason (giveRun (bestRun (potential d (noteAll d (w .standing))) (d .edges) (d .vertices) p q)) ≡ true) (not room) _ _
         (λ _ z. absurd (false≢true z)) (λ _ z. z) (ap isReason e)
@@ -201,7 +193,7 @@ module _ (d : Plan) (k : Proper d) where
 
     -- no other call gives one
     did-reason : {c : Call} {o : Outcome} → Did d w c o → (ls : List ℕ) → o .answer ≡ reason ls → Every Known ls
-    unfolding isReason refuse settledBy tell lastBy finishBy call onAsk
+    unfolding answerKind refuse settledBy tell lastBy finishBy call onAsk
     did-reason (Did.away c n) ls e = absurd (false≢true (ap isReason e))
     did-reason (Did.added room t l p f t′ kn) ls e = absurd (false≢true (ap isReason e))
     did-reason (Did.agreed room t l p pf o u f q bt kn) ls e = absurd (false≢true (ap isReason e))

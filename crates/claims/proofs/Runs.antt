@@ -11,18 +11,9 @@ use Rattle.division.specs.State.{potential}
 use Rattle.division.specs.Noting.{noteAll, In}
 use Rattle.runs.specs.Walk.{bestRun}
 use Rattle.runs.proofs.Given.{IsBest, given-best, run-edges}
-use Rattle.calls.specs.Calls.{World, Query, reasonFor, lastLeft, runBetween, Call, ask, Answer, consistent, conflicting, noted, undone, refused, reason, foundRun, Outcome, refuse, settledBy, giveRun, answerTo, tell, lastBy, finishBy, call}
-use Rattle.calls.proofs.Queries.{isRun, Answered, denied, given, found, answer-judged}
+use Rattle.calls.specs.Calls.{World, Query, reasonFor, lastLeft, runBetween, Call, ask, Answer, foundRun, Outcome, refuse, settledBy, giveRun, answerTo, tell, lastBy, finishBy, call}
+use Rattle.calls.proofs.Queries.{answerKind, isFound, isRun, Answered, denied, given, found, answer-judged}
 use Rattle.calls.proofs.View.{Did, away, added, agreed, clashed, took, asked, began, beganLast, beganClash, did}
-
-unfoldable isFound : Answer → Bool
-isFound consistent = false
-isFound conflicting = false
-isFound noted = false
-isFound undone = false
-isFound (refused n) = false
-isFound (reason ls) = false
-isFound (foundRun gs) = true
 
 same-run : {g h : List ℕ} → foundRun g ≡ foundRun h → g ≡ h
 same-run q = cc
@@ -40,13 +31,13 @@ module _ (d : Plan) (pr : Proper d) (w : World) where
 
   -- a fetch gives none
   fetch-none : {q : Query} {a : Answer} → isRun q ≡ false → Answered d w q a → isFound a ≡ true → ⊥
-  unfolding isFound
+  unfolding answerKind
   fetch-none r (denied n x y f) z = false≢true (sym (ap isFound x) ∙ z)
   fetch-none r (given list x f) z = false≢true (sym (ap isFound x) ∙ z)
   fetch-none r (found gs s x f) z = false≢true (sym r ∙ s)
 
   asked-found : (room : Bool) (q : Query) (gs : List ℕ) → answerTo d w q ≡ foundRun gs → FoundRun (ask room q) gs
-  unfolding isRun isFound answerTo giveRun
+  unfolding isRun answerKind answerTo giveRun
   asked-found room (reasonFor l) gs x = absurd (fetch-none refl (answer-judged d w (reasonFor l) (λ z. absurd (false≢true z))) (ap isFound x))
   asked-found room lastLeft gs x = absurd (fetch-none refl (answer-judged d w lastLeft (λ z. absurd (false≢true z))) (ap isFound x))
   asked-found room (runBetween p q) gs x = by (bestRun e (d .edges) (d .vertices) p q) refl x
@@ -62,7 +53,7 @@ module _ (d : Plan) (pr : Proper d) (w : World) where
       }
 
   did-found : {c : Call} {o : Outcome} → Did d w c o → (gs : List ℕ) → o .answer ≡ foundRun gs → FoundRun c gs
-  unfolding isFound refuse settledBy tell lastBy finishBy
+  unfolding answerKind refuse settledBy tell lastBy finishBy
   did-found (away c n) gs x = absurd (false≢true (ap isFound x))
   did-found (added room t l pending p f kn) gs x = absurd (false≢true (ap isFound x))
   did-found (agreed room t l pending p o y f q bt kn) gs x = absurd (false≢true (ap isFound x))

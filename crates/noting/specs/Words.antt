@@ -56,7 +56,7 @@ firstSize ws v = pick (ltb 0 (domainLenOf ws v)) (domainOf ws v 0) 0
 unfoldable pub lastSize : List ℕ → ℕ → ℕ
 lastSize ws v = pick (ltb 0 (domainLenOf ws v)) (domainOf ws v (domainLenOf ws v - 1)) 2147483647
 
--- Document 02, request 2, "the lowest pen whose bounds cross": a vertex of the plan, or how many there are where no bounds cross
+-- Document 02, request 2, "the lowest pen whose bounds cross": a vertex of the plan, or how many there are, 64 at most, where none do
 unfoldable pub crosses : List ℕ → ℕ → Bool
 crosses noted v = ltb (upperOf noted v) (lowerOf noted v)
 

@@ -415,7 +415,7 @@ fn crosses(noted: &Noted, v: usize) -> bool
     upper_bound(noted, v) < lower_bound(noted, v)
 }
 
-// The lowest vertex whose bounds cross; the number of vertices where none do.
+// The lowest vertex whose bounds cross; the number of vertices, 64 at most, where none do.
 pub fn crossed(plan: &Plan, noted: &Noted) -> usize
     ensures { λ r. ⌜ r ≡ crossedIn (now (plan .entry)) (now (noted .entry)) ⌝ }
 {
