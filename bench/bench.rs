@@ -1,7 +1,7 @@
 // The calls of the C host against the Rust's GraphDivision: the same calls on the same plans, in one run. The lists
 // of calls are made once, on the Rust; both sides then replay them in turns of 200 calls, and the numbers that they
-// answer are compared call by call, the tables at the end. A run between two vertices, which the Rust does not have, is
-// timed alone. Times are the thread's own, the median of ROUNDS rounds.
+// answer are compared call by call, the tables at the end. A run between two vertices and a page, which the Rust does
+// not have, are timed alone. Times are the thread's own, the median of ROUNDS rounds.
 //   bench ROUNDS FIGURES   prints the table; the times against standing literals go to the file FIGURES
 // The Rust is the copy that tests/rust/compile makes: one search takes the match that document 01 fixes.
 #![allow(dead_code)]
@@ -30,7 +30,7 @@ mod graph_division {
 }
 
 use graph_division::{GraphDivision, GraphDivisionOptions};
-use host::{Given, Host, CONFLICT, NOTED, STATE_LEN};
+use host::{Given, Host, CONFLICT, LINE_LEN, NOTED, STATE_LEN};
 use sat::{CustomPropagator, Lit};
 use solver::Solver;
 
@@ -476,32 +476,56 @@ fn building(plans: &[Plan], rounds: usize) -> Times {
     })
 }
 
-// The host with half of the edges notified, and the two vertices of all pairs whose run has the most edges: which, and
-// how many edges.
-fn far_apart(plan: &Plan) -> (Host, i32, i32, i32) {
+// The host with half of the edges notified.
+fn half_notified(plan: &Plan) -> Host {
     let mut b = plan.host();
     half(plan).0.iter().for_each(|&op| {
         apply(&mut b, op);
     });
+    b
+}
+
+// The same, and the two vertices of all pairs whose run has the most edges: which, and how many edges.
+fn far_apart(plan: &Plan) -> (Host, i32, i32, i32) {
+    let mut b = half_notified(plan);
     let pairs = (0..plan.n as i32).flat_map(|from| (0..plan.n as i32).map(move |to| (from, to)));
     let (length, from, to) = pairs.map(|(from, to)| (b.run(from, to), from, to)).max().expect("a vertex");
     assert!(length > 0, "no run has an edge");
     (b, from, to, length)
 }
 
-// Microseconds a run.
-fn runs(plans: &[Plan], rounds: usize) -> f64 {
-    let mut sides: Vec<_> = plans.iter().map(far_apart).collect();
+// Microseconds a call, each made 100 times in a round.
+fn alone<T>(mut sides: Vec<T>, rounds: usize, mut call: impl FnMut(&mut T)) -> f64 {
     let round = |_| {
         let start = now();
-        for (b, from, to, length) in &mut sides {
+        for side in &mut sides {
             for _ in 0..100 {
-                assert_eq!(b.run(*from, *to), *length, "a run");
+                call(side);
             }
         }
-        (now() - start) / (100 * plans.len()) as f64
+        (now() - start) / (100 * sides.len()) as f64
     };
     median((0..rounds).map(round).collect())
+}
+
+fn runs(plans: &[Plan], rounds: usize) -> f64 {
+    alone(plans.iter().map(far_apart).collect(), rounds, |(b, from, to, length)| {
+        assert_eq!(b.run(*from, *to), *length, "a run");
+    })
+}
+
+// The host with half of the edges notified, a page buffer, and how many bytes its page has.
+fn to_be_printed(plan: &Plan) -> (Host, Vec<u8>, i32) {
+    let (b, mut page) = (half_notified(plan), vec![0; LINE_LEN * plan.n]);
+    let length = b.page(&mut page);
+    assert!(length > 0 && length as usize % LINE_LEN == 0, "no page");
+    (b, page, length)
+}
+
+fn pages(plans: &[Plan], rounds: usize) -> f64 {
+    alone(plans.iter().map(to_be_printed).collect(), rounds, |(b, page, length)| {
+        assert_eq!(b.page(page), *length, "a page");
+    })
 }
 
 // Both sides with the first `many` literals of the division standing, all only noted, and literals whose reasons can
@@ -584,15 +608,15 @@ fn stack_of(mut f: impl FnMut()) -> usize {
     unpainted(top)
 }
 
-// The bytes of stack that the host's calls use: building, initialise, notify, undo, fetch, run; of notify, undo and
-// fetch the most that one of them uses in a search, while literals are only noted, or with all literals standing.
-fn stacks(plan: &Plan) -> [usize; 6] {
+// The bytes of stack that the host's calls use: building, initialise, notify, undo, fetch, run, page; of notify, undo
+// and fetch the most that one of them uses in a search, while literals are only noted, or with all literals standing.
+fn stacks(plan: &Plan) -> [usize; 7] {
     let none = stack_of(|| {
         black_box(());
     });
     let given = plan.given();
     let (bytes, mut state) = (given.bytes(), vec![0; STATE_LEN]);
-    let mut most = [0; 6];
+    let mut most = [0; 7];
     most[0] = stack_of(|| {
         black_box(given.build_into(&bytes, &mut state));
     });
@@ -621,6 +645,10 @@ fn stacks(plan: &Plan) -> [usize; 6] {
     most[5] = stack_of(|| {
         black_box(b.run(from, to));
     });
+    let (b, mut page, _) = to_be_printed(plan);
+    most[6] = stack_of(|| {
+        black_box(b.page(&mut page));
+    });
     most.map(|x| x.saturating_sub(none))
 }
 
@@ -633,13 +661,13 @@ fn row(out: &mut Vec<String>, calls: &str, size: &str, t: Times, stack: &[usize]
 }
 
 fn bench(rounds: usize, figures: &str) {
-    let mut rows: Vec<Vec<String>> = vec![vec![]; 8];
+    let mut rows: Vec<Vec<String>> = vec![vec![]; 9];
     let mut points = "plan\tstanding\tnote ours\tnote Rust\tfetch ours\tfetch Rust\n".to_string();
     for (name, n, m, k) in [("S", 10, 15, 6), ("M", 30, 45, 6), ("L", 64, 128, 6), ("X", 64, 128, 32)] {
         let mut r = Rng(7);
         let plans: Vec<Plan> = (0..3).map(|_| Plan::new(&mut r, n, m, k)).collect();
         eprintln!("{name}: {n} vertices, {m} edges, {} literals", plans[0].variables());
-        let [build, init, notify, undo, fetch, run] = stacks(&plans[0]);
+        let [build, init, notify, undo, fetch, run, page] = stacks(&plans[0]);
         let grown = standing(&plans[0], rounds);
         for (many, note, fetch) in &grown {
             let times = [note.ours, note.rust, fetch.ours, fetch.rust].map(|t| format!("{t:.4}")).join("\t");
@@ -662,8 +690,11 @@ fn bench(rounds: usize, figures: &str) {
         row(&mut rows[5], "note only, then undo", name, t, &pair, Some(noting), "-");
         let t = building(&plans, rounds);
         row(&mut rows[6], "building", name, t, &[build], None, "100 µs");
-        let (ours, used) = (runs(&plans, rounds), run as f64 / 1000.0);
-        rows[7].push(format!("| run | {name} | {ours:.2} | - | - | {used:.0} | - | 100 µs |"));
+        let ours_only = |calls: &str, ours: f64, used: usize| {
+            format!("| {calls} | {name} | {ours:.2} | - | - | {:.0} | - | 100 µs |", used as f64 / 1000.0)
+        };
+        rows[7].push(ours_only("run", runs(&plans, rounds), run));
+        rows[8].push(ours_only("page", pages(&plans, rounds), page));
     }
     std::fs::write(figures, points).expect("the file of figures");
     println!("| Calls | Yard | Ours, µs | Rust, µs | Ratio | Stack, KB | Growth, ns | Wanted |");

@@ -72,6 +72,11 @@ static int32_t run(int32_t from, int32_t to, size_t buffer_len)
                        buffer_len);
 }
 
+static int32_t page(size_t page_len)
+{
+    return zuntjev_page(state, sizeof state, undo_log, sizeof undo_log, cursor, sizeof cursor, buffer, page_len);
+}
+
 /* Two pens of one head and two gates between them, literals 0 and 2. */
 static void two_gates(void)
 {
@@ -131,6 +136,9 @@ int main(void)
     two_gates(); propagate(0, 1); propagate(2, 1); show(run(0, 1, sizeof buffer)); /* -18 */
     two_gates(); show(run(0, 2, sizeof buffer)); /* -18 */
     two_gates(); show(run(0, 2, ZUNTJEV_REASON_LEN_FOR(2, 2) - 1)); /* -7 */
+    two_gates(); show(page(2 * ZUNTJEV_LINE_LEN - 1)); /* -19 */
+    two_gates(); propagate(1, 1); show(page(ZUNTJEV_LINE_LEN - 1)); /* -19 */
+    two_gates(); cursor[4] = 1; show(page(0)); /* -7 */
     two_gates(); show(propagate(0, 1)); /* -101 */
     return 0;
 }

@@ -21,6 +21,7 @@
  *           3 true, 4 false, set at the current level
  *   list    2 bytes a literal: here a call puts the literals that follow ("handed on")
  *   buffer  2 bytes a literal: here a fetch puts a reason, and zuntjev_run the numbers of gates, 2 bytes each
+ *   page    39 bytes a region: here zuntjev_page puts its text
  *
  * ANY BYTES may be lent: every function ends, with an answer. A call that is refused leaves all bytes as they were.
  * What is tested, in this order, the first that applies being the answer:
@@ -31,22 +32,25 @@
  *   zuntjev_calc_reason  7, 9, 15, 16
  *   zuntjev_calc_last    7
  *   zuntjev_run          7, 18
+ *   zuntjev_page         7, 19
  * 7 is tested in each call, and only of what that call is lent: the lengths; that the state's plan is one that a
  * build gives; that the log, the cursor and the noted words belong together (the log's literals, noted afresh from
  * the oldest on, give those words); that the whole table has no code over 4. NOT tested are the recorded reasons,
  * whether an initialise was consistent, and the list last left, but for its length: one that is longer than a reason
- * buffer must hold is refused, so that no fetch answers more literals than its buffer has entries.
+ * buffer must hold is refused, so that no fetch answers more literals than its buffer has entries. Nor does 7 ask
+ * anything of a page buffer: its length is tested by 19, right after 7.
  *
  * MUST A NOTIFIED LITERAL BE SET IN THE TABLE? No call tests it, and what stands is read from the log, not from the
  * table. But set it, with code 3 or 4, before zuntjev_propagate: a proposal that the table says is false makes a
  * conflict only where some literal of its list is coded 3 or 4, and is refused with 14 elsewhere.
  *
  * THREADS. No function keeps anything, or reads anything, but what it is lent: calls on different buffers may run at
- * the same time, and so may fetches and zuntjev_run of one state. A call that changes a state must have it for itself.
+ * the same time, and so may fetches, zuntjev_run and zuntjev_page of one state. A call that changes a state must
+ * have it for itself.
  *
  * STACK that a call needs, as measured on x86-64; nothing is taken from the heap: zuntjev_build about 140 KB,
- * zuntjev_initialize about 312 KB, zuntjev_propagate about 204 KB, zuntjev_undo about 103 KB, a fetch and zuntjev_run
- * about 104 KB each. Give a thread that makes calls 512 KB.
+ * zuntjev_initialize about 312 KB, zuntjev_propagate about 204 KB, zuntjev_undo about 103 KB, a fetch, zuntjev_run
+ * and zuntjev_page about 104 KB each. Give a thread that makes calls 512 KB.
  *
  * THE STATE'S BYTES:
  *        0  the plan's words, 15241 of 4 bytes. Bytes 24 to 27 of them hold the mark 1, ZUNTJEV_LAYOUT_VERSION, in a
@@ -88,20 +92,26 @@ extern "C" {
 #define ZUNTJEV_VERTEX_LEN 268
 #define ZUNTJEV_EDGE_LEN 12
 
+/* A line of a page has so many bytes, its newline included. */
+#define ZUNTJEV_LINE_LEN 39
+
 /* Lengths in bytes that are enough for any plan: a byte for each of 4096 variables; both literals of each of 2112
- * variables; 128 + 2 * 64 + 4 literals of a reason; 2 * 2112 records. */
+ * variables; 128 + 2 * 64 + 4 literals of a reason; 2 * 2112 records; a line of a page for each of 64 vertices. */
 #define ZUNTJEV_TABLE_LEN 4096
 #define ZUNTJEV_LIST_LEN 8448
 #define ZUNTJEV_REASON_LEN 520
 #define ZUNTJEV_LOG_LEN 33792
+#define ZUNTJEV_PAGE_LEN 2496
 
 /* The least lengths in bytes for the plan at hand. `largest` is its largest variable (a plan with no variable: 0
  * bytes), `variables` how many different variables its literals have, `size_lits` how many size literals its vertices
- * with a domain have in sum. */
+ * with a domain have in sum. A page of the plan has a line for each region, and fits where there is one for each
+ * vertex. */
 #define ZUNTJEV_TABLE_LEN_FOR(largest) ((size_t)(largest) + 1)
 #define ZUNTJEV_LIST_LEN_FOR(variables) ((size_t)4 * (size_t)(variables))
 #define ZUNTJEV_REASON_LEN_FOR(vertices, edges) ((size_t)2 * ((size_t)(edges) + (size_t)2 * (size_t)(vertices) + 4))
 #define ZUNTJEV_LOG_LEN_FOR(edges, size_lits) ((size_t)16 * ((size_t)(edges) + (size_t)(size_lits)))
+#define ZUNTJEV_PAGE_LEN_FOR(vertices) ((size_t)ZUNTJEV_LINE_LEN * (size_t)(vertices))
 
 /* Answers below 0. The first two are no refusals: a conflict, and a literal that was only noted. The others are minus
  * the refusal's number; 17, a malformed line of text, comes only from the program yard. 12 is not given any more: size
@@ -124,6 +134,7 @@ extern "C" {
 #define ZUNTJEV_REFUSED_NO_REASON (-15)    /* no reason was recorded for the literal */
 #define ZUNTJEV_REFUSED_PATH_GONE (-16)    /* the open gates that the reason goes by are not open any more */
 #define ZUNTJEV_REFUSED_NO_RUN (-18)       /* every run between the two vertices has a shut gate, or one is unknown */
+#define ZUNTJEV_REFUSED_SHORT_PAGE (-19)   /* the page buffer is under 39 bytes a region */
 
 /* Whether an answer is a refusal: minus its number then. */
 static inline int zuntjev_is_refused(int32_t answer)
@@ -246,6 +257,20 @@ int32_t zuntjev_calc_last(const uint8_t *state, size_t state_len, const uint8_t 
  */
 int32_t zuntjev_run(const uint8_t *state, size_t state_len, const uint8_t *log, size_t log_len, const uint8_t *cursor,
                     size_t cursor_len, int32_t from, int32_t to, uint8_t *buffer, size_t buffer_len);
+
+/*
+ * A page for the shed wall: a line for each region, in order of its lowest vertex. A line has five numbers,
+ * right-aligned with spaces, and a newline, 39 bytes in sum: the lowest vertex and how many vertices the region has,
+ * 4 bytes wide each; its weight, the greatest lower bound and the least upper bound of its vertices, 10 bytes wide
+ * each. An upper bound that is unlimited is printed as `-`. Answers how many bytes the page has: they are at the
+ * buffer's start, with no 0 after them. 0 for a plan without vertices, whatever the buffer. Or minus the number of a
+ * refusal: 19 where the buffer is under 39 bytes a region. A region is the vertices that are joined by open gates,
+ * and the bounds are what is left of a vertex's domain, both by the literals that stand, those only noted included; a
+ * vertex with no sizes has 0 and unlimited. Bounds that contradict each other are printed as they are. The table is
+ * not asked.
+ */
+int32_t zuntjev_page(const uint8_t *state, size_t state_len, const uint8_t *log, size_t log_len,
+                     const uint8_t *cursor, size_t cursor_len, uint8_t *page, size_t page_len);
 
 #ifdef __cplusplus
 }

@@ -25,6 +25,7 @@ static void check(const char *what, long got, long want)
 enum { TABLE = 3, LIST = 12, LOG = 48, REASON = 18 };
 static uint8_t vertices[2 * 268], edges[12], state_bytes[133440 + 1], *state = state_bytes + 1;
 static uint8_t table[TABLE], list[LIST], records[LOG + 1], *undo_log = records + 1, cursor[8], buffer[REASON];
+static uint8_t page_bytes[2 * 39 + 2], *page = page_bytes + 1;
 
 static int32_t build(void)
 {
@@ -61,6 +62,11 @@ static int32_t undo(int32_t lit)
 static int32_t run_in(size_t buffer_len, int32_t from, int32_t to)
 {
     return zuntjev_run(state, 133440, undo_log, LOG, cursor, 8, from, to, buffer, buffer_len);
+}
+
+static int32_t page_in(size_t page_len)
+{
+    return zuntjev_page(state, 133440, undo_log, LOG, cursor, 8, page, page_len);
 }
 
 /* Number i of 4 bytes each, the lowest first, in two's complement. */
@@ -103,6 +109,7 @@ static void helpers(void)
     check("-1 is one", zuntjev_is_refused(ZUNTJEV_REFUSED_COUNT), 1);
     check("-16 is one", zuntjev_is_refused(ZUNTJEV_REFUSED_PATH_GONE), 1);
     check("-18 is one", zuntjev_is_refused(ZUNTJEV_REFUSED_NO_RUN), 1);
+    check("-19 is one", zuntjev_is_refused(ZUNTJEV_REFUSED_SHORT_PAGE), 1);
     check("a conflict is none", zuntjev_is_refused(ZUNTJEV_CONFLICT), 0);
     check("a noted literal is none", zuntjev_is_refused(ZUNTJEV_NOTED), 0);
 }
@@ -133,7 +140,17 @@ static void lengths(void)
     check("the largest list", (long)ZUNTJEV_LIST_LEN_FOR(128 + 64 * 31), ZUNTJEV_LIST_LEN);
     check("the largest log", (long)ZUNTJEV_LOG_LEN_FOR(128, 64 * 31), ZUNTJEV_LOG_LEN);
     check("the largest reason", (long)ZUNTJEV_REASON_LEN_FOR(64, 128), ZUNTJEV_REASON_LEN);
+    check("page", (long)ZUNTJEV_PAGE_LEN_FOR(2), 78);
+    check("the largest page", (long)ZUNTJEV_PAGE_LEN_FOR(64), ZUNTJEV_PAGE_LEN);
+    check("a line of a page", ZUNTJEV_LINE_LEN, 39);
     check("build", build(), 0);
+    memset(page_bytes, 77, sizeof page_bytes);
+    check("a page in a buffer one byte short", page_in(77), -19);
+    check("it is as it was", page[0] == 77 && page[76] == 77, 1);
+    check("a page in one just long enough", page_in(78), 78);
+    check("its text", memcmp(page, "   0   1         3         3         7\n"
+                                   "   1   1         4         4         7\n", 78), 0);
+    check("the bytes around it", page_bytes[0] == 77 && page_bytes[79] == 77, 1);
     check("a table one byte short", propagate_in(TABLE - 1, LIST, LOG, 5, 0), -7);
     check("a list one byte short", propagate_in(TABLE, LIST - 1, LOG, 5, 0), -7);
     check("a log one byte short", propagate_in(TABLE, LIST, LOG - 1, 5, 0), -7);
@@ -146,9 +163,14 @@ static void lengths(void)
     check("a run in a buffer one byte short", run_in(REASON - 1, 0, 1), -7);
     check("a run in one just long enough", run_in(REASON, 0, 1), 1);
     check("its gate", zuntjev_gate_at(buffer, 0), 0);
+    memset(page_bytes, 77, sizeof page_bytes);
+    check("a page of one region, a byte short", page_in(38), -19);
+    check("a page of one region", page_in(39), 39);
+    check("its text", memcmp(page, "   0   2         7         4         7\n", 39), 0);
+    check("no 0 after it", page[39], 77);
 }
 
-/* 7 comes before 9, 10, 11, 15 and 18 where both apply; 9 before 10, 11 and 15. */
+/* 7 comes before 9, 10, 11, 15, 18 and 19 where both apply; 9 before 10, 11 and 15. */
 static void order(void)
 {
     check("build", build(), 0);
@@ -157,6 +179,8 @@ static void order(void)
     check("a short buffer and an unknown literal", reason_in(REASON - 1, 6), -7);
     check("a short buffer and an unknown pen", run_in(REASON - 1, 0, 2), -7);
     check("a run to an unknown pen", run_in(REASON, 0, 2), -18);
+    check("no room for a page", page_in(0), -19);
+    check("nor a whole log", zuntjev_page(state, 133440, undo_log, LOG - 1, cursor, 8, page, 0), -7);
     check("an undo of an unknown literal", undo(6), -9);
     check("the reason of an unknown literal", reason_in(REASON, 6), -9);
     check("an undo of nothing", undo(0), -11);

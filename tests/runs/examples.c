@@ -129,7 +129,7 @@ static void shared_literals(void)
     notify(0, 1);
     run("0 shuts gate 0", 0, 1, REFUSED(18));
     run("and opens gate 1", 1, 2, SOME(1));
-    yard(2), sizes(0, 1, 2, 0), gate(0, 1, 0);
+    yard(2), sizes(0, SOME(1, 2), SOME(0)), gate(0, 1, 0);
     check("build", build(), 0);
     notify(1, 1);
     run("a literal of a size and of a gate", 0, 1, SOME(0));
@@ -170,29 +170,25 @@ static void what_is_noted(void)
     /* initialise notifies what is true in the table */
     check("build", build(), 0);
     table[0] = 2, table[1] = 2;
-    check("initialise hands on 5", zuntjev_initialize(state, ZUNTJEV_STATE_LEN, table, sizeof table, list, sizeof list,
-                                                      records, records_len, cursor, sizeof cursor), 1);
+    check("initialise hands on 5", initialize(), 1);
     run("gates opened by an initialise", 0, 2, SOME(0, 1));
 }
 
 /* "so conflicts and handed-on literals are untouched" */
 static void read_only(void)
 {
-    uint8_t reason[ZUNTJEV_REASON_LEN];
     yard(3), gate(0, 1, 0), gate(0, 1, 2), gate(1, 2, 4);
     check("build", build(), 0);
     check("1 hands on 3", notify(1, 0), 1);
     run("after what was handed on", 0, 2, SOME(0, 2));
     run("refused after it", 0, 7, REFUSED(18));
-    check("the reason of 3", zuntjev_calc_reason(state, ZUNTJEV_STATE_LEN, records, records_len, cursor, sizeof cursor,
-                                                 3, reason, sizeof reason), 1);
-    check("the literal of it", zuntjev_lit_at(reason, 0), 1);
+    check("the reason of 3", reason(3), 1);
+    check("the literal of it", zuntjev_lit_at(buffer, 0), 1);
     check("2 is a conflict", notify(2, 0), ZUNTJEV_CONFLICT);
     run("after a conflict, which stands", 0, 2, SOME(0, 2));
-    check("the conflict's list", zuntjev_calc_last(state, ZUNTJEV_STATE_LEN, records, records_len, cursor,
-                                                   sizeof cursor, reason, sizeof reason), 2);
-    check("its first literal", zuntjev_lit_at(reason, 0), 1);
-    check("its second literal", zuntjev_lit_at(reason, 1), 2);
+    check("the conflict's list", last(), 2);
+    check("its first literal", zuntjev_lit_at(buffer, 0), 1);
+    check("its second literal", zuntjev_lit_at(buffer, 1), 2);
     check("undo", undo(), 0);
     run("after undoing it", 0, 1, SOME(0));
 }
@@ -236,20 +232,15 @@ static void full_yard(void)
 /* 7 comes first, also where a pen is unknown or the two are equal. */
 static void seven(void)
 {
-    static const char *const what[DAMAGES] = {
-        "a buffer short by a byte", "a buffer short by an entry", "no buffer", "a short log", "a short cursor",
-        "a short state", "a damaged record", "a damaged literal in the log", "a cursor past the log",
-        "a wrong number standing", "a gate other than noted", "a bound other than noted", "a state without its mark",
-        "a state of zeros"};
     static const int32_t pens[][2] = {{0, 2}, {2, 2}, {0, 3}, {-1, 0}, {70000, 70000}, {1, 2}};
     yard(3), gate(0, 1, 0), gate(1, 2, 2);
     check("build", build(), 0);
     notify(1, 1), notify(2, 1);
     keep();
-    for (int damage = 0; damage < DAMAGES; damage++)
+    for (int damage = 0; damage < REFUSED_WITH_7; damage++)
         for (size_t i = 0; i < sizeof pens / sizeof pens[0]; i++)
             for (int which = 0; which < 4; which++)
-                check(what[damage], refused((enum damage)damage, which, pens[i][0], pens[i][1]) & state_kept(), 1);
+                check(name_of(damage), refused(damage, which, pens[i][0], pens[i][1]) & state_kept(), 1);
     run("mended, it is answered", 0, 1, SOME(0));
     run("mended, there is no run", 0, 2, REFUSED(18));
     /* a longer buffer is allowed, and what follows the run stays */
@@ -260,7 +251,7 @@ static void seven(void)
     yard(0);
     check("build", build(), 0);
     keep();
-    check("without pens, a buffer short by a byte", refused(NO_ROOM_BY_A_BYTE, 0, 0, 0), 1);
+    check("without pens, a buffer short by a byte", refused(BY_A_BYTE, 0, 0, 0), 1);
     check("a buffer that just suffices then", (long)buffer_len, 8);
 }
 

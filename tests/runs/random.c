@@ -7,6 +7,7 @@
  * The last line is 'N passed, M failed', one for each plan.
  */
 #include "asking.h"
+#include "../host/random.h"
 
 enum gate_is { UNDECIDED, OPEN, SHUT };
 
@@ -111,14 +112,6 @@ static const struct run *best_run(int from, int to)
     return &found[0];
 }
 
-static uint64_t seed;
-
-static int below(int n)
-{
-    seed = seed * 6364136223846793005u + 1442695040888963407u;
-    return (int)(seed >> 33) % n;
-}
-
 /* Up to 64 pens and 128 gates, with so few ways that all can be listed: each pen but the first is joined to an earlier
  * one, mostly to the one before it, in random order of the gates; three gates more join any two pens, and the others
  * lead from a pen to itself. */
@@ -143,7 +136,6 @@ static void random_large_plan(void)
     }
 }
 
-/* Gates mostly have a variable of their own, else share one of the first eight; some literals are negations. */
 static void random_plan(void)
 {
     if (below(200) == 0) {
@@ -153,55 +145,11 @@ static void random_plan(void)
     yard(below(50) == 0 ? 0 : 1 + below(6));
     plan.same_size = below(8) == 0;
     plan.extra_walls = below(8) == 0;
-    int gates = plan.pens == 0 ? 0 : below(4) == 0 ? below(9) : 4 + below(5);
-    for (int g = 0; g < gates; g++)
-        gate(below(plan.pens), below(plan.pens), 2 * (below(3) == 0 ? below(8) : g) + (below(4) == 0));
+    random_gates(plan.pens == 0 ? 0 : below(4) == 0 ? below(9) : 4 + below(5));
     if (below(4) == 0)
         for (int v = 0; v < plan.pens; v++)
             if (below(2) == 0)
-                sizes(v, 1 + below(3), 4 + below(3), 2 * below(10) + below(2));
-}
-
-/* A literal of a gate or of a size, of either sign; -1 where the plan has none at the place that was drawn. Few gates
- * of a large plan are shut, for the sake of long runs. */
-static int32_t random_lit(void)
-{
-    int i = plan.pens > 0 ? below(plan.gates + plan.pens) : 0;
-    if (i < plan.gates)
-        return plan.lit[i] ^ (plan.pens > 6 ? below(32) != 0 : below(2));
-    return plan.sizes[i - plan.gates][1] ? plan.size_lit[i - plan.gates] ^ below(2) : -1;
-}
-
-static int stands(int32_t lit)
-{
-    for (int i = 0; i < standing_count; i++)
-        if (standing[i] / 2 == lit / 2)
-            return 1;
-    return 0;
-}
-
-/* Notifies and undoes. Most literals are only noted; the others are analyzed, may be a conflict and stand all the same,
- * or be refused. */
-static int random_calls(void)
-{
-    int good = 1;
-    for (int left = below(plan.pens > 6 ? 100 : 12); left > 0; left--) {
-        int32_t lit = random_lit();
-        if (standing_count > 0 && below(4) == 0) {
-            good &= undo() == 0;
-        } else if (lit >= 0 && !stands(lit)) {
-            memset(table, 0, sizeof table);
-            for (int i = 0; i < standing_count; i++)
-                table[standing[i] / 2] = (uint8_t)(1 + standing[i] % 2);
-            if (below(4) != 0)
-                good &= notify(lit, below(2) == 0 ? 1 : -3) == ZUNTJEV_NOTED;
-            else
-                notify(lit, 0);
-        }
-    }
-    if (!good && show_plan())
-        puts("    a literal was not noted, or not undone");
-    return good;
+                sizes(v, SOME(1 + below(3), 4 + below(3)), SOME(2 * below(10) + below(2)));
 }
 
 /* No pens of any plan, or of one with so few. */
@@ -242,8 +190,8 @@ static int random_questions(void)
         good &= asked(plan.pens > 0 ? below(plan.pens) : unknown_pen(), unknown, REFUSED(18));
     }
     for (int i = 0; i < 2; i++)
-        good &= refused((enum damage)below(DAMAGES), below(1000), any_pen(), any_pen());
-    good &= refused((enum damage)below(3), 0, unknown_pen(), any_pen());
+        good &= refused(below(REFUSED_WITH_7), below(1000), any_pen(), any_pen());
+    good &= refused(DAMAGES + below(3), 0, unknown_pen(), any_pen());
     return good & state_kept();
 }
 
@@ -251,10 +199,7 @@ static void random_plans(int many)
 {
     for (int i = 0; i < many; i++) {
         random_plan();
-        int32_t built = build();
-        if (built != 0 && show_plan())
-            printf("    building: %d\n", (int)built);
-        int good = built == 0 && random_calls() && random_questions();
+        int good = built() && random_calls(below(plan.pens > 6 ? 100 : 12)) && random_questions();
         passed += good;
         failed += !good;
     }

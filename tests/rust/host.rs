@@ -27,9 +27,14 @@ extern "C" {
         state: *const u8, state_len: usize, log: *const u8, log_len: usize, cursor: *const u8, cursor_len: usize,
         from: i32, to: i32, buffer: *mut u8, buffer_len: usize,
     ) -> i32;
+    fn zuntjev_page(
+        state: *const u8, state_len: usize, log: *const u8, log_len: usize, cursor: *const u8, cursor_len: usize,
+        page: *mut u8, page_len: usize,
+    ) -> i32;
 }
 
 pub const STATE_LEN: usize = 133440;
+pub const LINE_LEN: usize = 39;
 pub const CONFLICT: i32 = -100;
 pub const NOTED: i32 = -101;
 
@@ -130,6 +135,12 @@ impl Host {
         let Host { state: s, log: g, cursor: c, buffer: b, .. } = self;
         let (sp, gp, cp, bp) = (s.as_ptr(), g.as_ptr(), c.as_ptr(), b.as_mut_ptr());
         unsafe { zuntjev_run(sp, s.len(), gp, g.len(), cp, c.len(), from, to, bp, b.len()) }
+    }
+
+    pub fn page(&self, page: &mut [u8]) -> i32 {
+        let Host { state: s, log: g, cursor: c, .. } = self;
+        let (sp, gp, cp, pp) = (s.as_ptr(), g.as_ptr(), c.as_ptr(), page.as_mut_ptr());
+        unsafe { zuntjev_page(sp, s.len(), gp, g.len(), cp, c.len(), pp, page.len()) }
     }
 }
 

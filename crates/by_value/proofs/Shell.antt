@@ -11,7 +11,7 @@ use Rattle.analysis.specs.Placed.{placeOfLit}
 use Rattle.refusals.specs.Refusals.{litNumber}
 use Rattle.graph_division.specs.declared.GraphDivision.{GraphDivision}
 use Rattle.graph_division.specs.declared.Answer.{Answer}
-use Rattle.graph_division.specs.Calls.{called, outcome, withNoted, propagated, undone, Fetched, recordedFor, reasonFetched, lastFetched, runFetched}
+use Rattle.graph_division.specs.Calls.{called, outcome, withNoted, propagated, undone, Fetched, recordedFor, reasonFetched, lastFetched, runFetched, pageFetched}
 use Rattle.graph_division.specs.Initialize.{initialized}
 use Rattle.lent.specs.declared.Done.{Done}
 use Rattle.lent.specs.Lent.{Parts, stateAfter, calledOf, begunAfter, begunOf, propagatedOver, initializedOver, reasonFetchedBy}
@@ -51,6 +51,10 @@ module _ (s : GraphDivision) (c : Cursor) (es : List (List ℕ)) (g : es ≡ s .
   pub run-shell : (y : Fetched) (log b : List ℕ) (from to from′ to′ : ℤ) → from′ ≡ from → to′ ≡ to →
       ((x : GraphDivision) → Parts x (s .plan) es (s .noted) → y ≡ runFetched x c log from′ to′ b) → y ≡ runFetched s c log from to b
   run-shell y log b from to from′ to′ p q h = h s parts ∙ (λ i. runFetched s c log (p i) (q i) b)
+
+  pub page-shell : (y : Fetched) (log b : List ℕ) →
+      ((x : GraphDivision) → Parts x (s .plan) es (s .noted) → y ≡ pageFetched x c log b) → y ≡ pageFetched s c log b
+  page-shell y log b h = h s parts
 
   pub reason-shell : (y : Fetched) (log b : List ℕ) (lit lit′ : ℤ) (l p : ℕ) (r : Reason) → lit′ ≡ lit → l ≡ litNumber lit′ → p ≡ placeOfLit (s .plan) l → r ≡ reasonAt (s .reasons) p →
       ((x : GraphDivision) → Parts x (s .plan) es (s .noted) → y ≡ reasonFetchedBy x c log lit′ r b) → y ≡ reasonFetched s c log lit b

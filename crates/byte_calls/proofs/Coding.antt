@@ -8,7 +8,7 @@ use mir.Syntax.{w32}
 use mir.Val.{toZ, ofZ}
 use Rattle.base.proofs.Range.{reads-back}
 use Rattle.graph_division.specs.declared.Answer.{Answer}
-use Rattle.graph_division.specs.declared.Answer.the-variants.{Consistent, Conflict, Noted, Undone, Reason, Run, Refused}
+use Rattle.graph_division.specs.declared.Answer.the-variants.{Consistent, Conflict, Noted, Undone, Reason, Run, Page, Refused}
 use Rattle.byte_calls.specs.Codes.{fitted, answerCode}
 use Rattle.byte_calls.proofs.Filling.{cap-most}
 
@@ -37,6 +37,7 @@ code-is-back Noted = reads-back (negsuc 100) (omega arith)
 code-is-back Undone = reads-back (pos 0) (omega arith)
 code-is-back (Reason n) = pos-back (fitted n) (fitted-most n)
 code-is-back (Run n) = pos-back (fitted n) (fitted-most n)
+code-is-back (Page n) = pos-back (fitted n) (fitted-most n)
 code-is-back (Refused n) = neg-back (fitted n) (fitted-most n)
 
 pub code-back : (a : Answer) (z : ℤ) → z ≡ answerCode a → toZ w32 (ofZ w32 z) ≡ answerCode a

@@ -13,7 +13,7 @@ use Rattle.base.proofs.Loop.{pick-yes, pick-no, tested}
 use Rattle.undo_log.specs.declared.Cursor.{Cursor}
 use Rattle.graph_division.specs.declared.GraphDivision.{GraphDivision}
 use Rattle.graph_division.specs.declared.Answer.{Answer}
-use Rattle.graph_division.specs.declared.Answer.the-variants.{Consistent, Conflict, Noted, Undone, Reason, Run, Refused}
+use Rattle.graph_division.specs.declared.Answer.the-variants.{Consistent, Conflict, Noted, Undone, Reason, Run, Page, Refused}
 use Rattle.graph_division.specs.Calls.{Called}
 use Rattle.lent.specs.declared.Done.{Done}
 use Rattle.lent.specs.Lent.{stateOf, stateAfter, calledOf, withInitialized, begunAfter, begunOf}
@@ -50,6 +50,7 @@ refused-open Noted e = refl
 refused-open Undone e = refl
 refused-open (Reason len) e = refl
 refused-open (Run len) e = refl
+refused-open (Page len) e = refl
 refused-open (Refused number) e = refl
 
 -- an initialise on what is decoded, and what it leaves

@@ -30,7 +30,7 @@ use Rattle.graph_division.specs.Answers.{isRefused}
 use Rattle.byte_calls.specs.Codes.{answerCode, givenBy}
 use Rattle.byte_calls.specs.Layout.{Decoded, decoded, decodedIn, inUse, inUseOver, planIn, endsIn, wordsIn, reasonsIn, stateIn, cursorIn, usedEntries, recordsIn, logIn, listIn, bufferIn}
 use Rattle.byte_calls.specs.Stores.{BytesKept, putCursor, putList, putLog}
-use Rattle.byte_calls.specs.Host.{Left, leftWith, leftBy, leftOf, StateAfter, AfterOf, propagatedIn, hostPropagated, tooShort, short, Back, back, backBy, undoneIn, hostUndone, givenIn, hostReason, hostLast, hostRun, hostRun}
+use Rattle.byte_calls.specs.Host.{Left, leftWith, leftBy, leftOf, StateAfter, AfterOf, propagatedIn, hostPropagated, tooShort, short, Back, back, backBy, undoneIn, hostUndone, givenIn, hostReason, hostLast, hostRun, pageIn, hostPage}
 use Rattle.byte_calls.proofs.Coding.{code-back}
 use Rattle.byte_calls.proofs.Filling.{capped-most, capped-less, room-is}
 use Rattle.byte_calls.proofs.Keeping.{kept-same}
@@ -253,3 +253,12 @@ module _ (state log cursor : List ℕ) where
         x ≡ givenIn (runFetched (stateIn state) (cursorIn cursor) (logIn (cursorIn cursor) log) from to (bufferIn buffer)) buffer → x ≡ hostRun state log cursor from to buffer
     unfolding hostRun
     long-run buffer x e h = h ∙ sym (pick-no _ _ e)
+
+  pub short-page : (buffer : List ℕ) → tooShort state cursor ≡ true → back short buffer ≡ hostPage state log cursor buffer
+  unfolding hostPage
+  short-page buffer e = sym (pick-yes _ _ e)
+
+  pub long-page : (buffer : List ℕ) (x : Back) → tooShort state cursor ≡ false → x ≡ pageIn state log cursor buffer →
+      x ≡ hostPage state log cursor buffer
+  unfolding hostPage
+  long-page buffer x e h = h ∙ sym (pick-no _ _ e)

@@ -12,12 +12,12 @@ use Rattle.undo_log.specs.declared.Cursor.{Cursor}
 use Rattle.graph_division.specs.declared.GraphDivision.{GraphDivision}
 use Rattle.graph_division.specs.declared.Outcome.{Outcome}
 use Rattle.graph_division.specs.declared.Answer.{Answer}
-use Rattle.graph_division.specs.Calls.{outcome, withNoted, undone, Fetched, reasonFetched, lastFetched, runFetched}
+use Rattle.graph_division.specs.Calls.{outcome, withNoted, undone, Fetched, fetched, reasonFetched, lastFetched, runFetched, pageFetched}
 use Rattle.graph_division.specs.Answers.{isRefused}
 use Rattle.byte_calls.specs.Codes.{answerCode}
 use Rattle.byte_calls.specs.Layout.{stateIn}
 use Rattle.byte_calls.specs.Stores.{BytesKept, putCursor, putNoted}
-use Rattle.byte_calls.specs.Host.{Back, back, backOf, backBy, givenIn, StateAfter, AfterOf}
+use Rattle.byte_calls.specs.Host.{Back, back, backOf, backBy, givenIn, pageBack, StateAfter, AfterOf}
 use Rattle.byte_calls.proofs.Coding.{code-back}
 use Rattle.byte_calls.proofs.Storing.{noted-stored}
 use Rattle.byte_calls.proofs.Keeping.{kept-same}
@@ -58,6 +58,22 @@ given-back y buffer buffer′ z e =
     let q : z ≡ answerCode (y .answer) = ap (λ (x : Back). x .code) e ∙ given-code y buffer in
     ap (λ (r : ℤ). back r buffer′) (code-back (y .answer) z q ∙ sym q) ∙ e
 
+-- a page's bytes are the buffer's own
+pub page-back : (a : Answer) (buffer : List ℕ) (y : Fetched) (z : ℤ) → z ≡ answerCode a → fetched a buffer ≡ y →
+    back (toZ w32 (ofZ w32 z)) buffer ≡ pageBack y
+unfolding pageBack
+page-back a buffer y z e h = ap (λ (r : ℤ). back r buffer) (code-back a z e) ∙ ap pageBack h
+
+page-code : (y : Fetched) → pageBack y .code ≡ answerCode (y .answer)
+unfolding pageBack
+page-code y = refl
+
+pub page-again : (y : Fetched) (buffer : List ℕ) (z : ℤ) → back z buffer ≡ pageBack y →
+    back (toZ w32 (ofZ w32 z)) buffer ≡ pageBack y
+page-again y buffer z e =
+    let q : z ≡ answerCode (y .answer) = ap (λ (x : Back). x .code) e ∙ page-code y in
+    ap (λ (r : ℤ). back r buffer) (code-back (y .answer) z q ∙ sym q) ∙ e
+
 pub undo-after : (y z : Outcome) (b b′ : List ℕ) → y ≡ z → AfterOf false y b b′ → AfterOf false z b b′
 undo-after y z b b′ e h = subst (λ (y : Outcome). StateAfter (isRefused (y .answer)) (y .state) b b′) e h
 
@@ -77,3 +93,7 @@ last-read s p r o = λ i. lastFetched s (p i) (r i) (o i)
 pub run-read : (s : GraphDivision) {c d : Cursor} {records log out b : List ℕ} {from to p q : ℤ} → c ≡ d → records ≡ log → from ≡ p → to ≡ q → out ≡ b →
     runFetched s c records from to out ≡ runFetched s d log p q b
 run-read s e r f t o = λ i. runFetched s (e i) (r i) (f i) (t i) (o i)
+
+pub page-read : (s : GraphDivision) (b : List ℕ) {c d : Cursor} {records log : List ℕ} → c ≡ d → records ≡ log →
+    pageFetched s c records b ≡ pageFetched s d log b
+page-read s b p r = λ i. pageFetched s (p i) (r i) b

@@ -12,7 +12,7 @@ use Rattle.undo_log.specs.declared.Cursor.{Cursor}
 use Rattle.graph_division.specs.declared.Answer.{Answer}
 use Rattle.graph_division.specs.declared.GraphDivision.{GraphDivision}
 use Rattle.graph_division.specs.declared.Outcome.{Outcome}
-use Rattle.graph_division.specs.Calls.{Called, propagated, undone, Fetched, reasonFetched, lastFetched, runFetched}
+use Rattle.graph_division.specs.Calls.{Called, propagated, undone, Fetched, reasonFetched, lastFetched, runFetched, pageFetched}
 use Rattle.graph_division.specs.Initialize.{initialized}
 use Rattle.byte_calls.specs.Bytes.{wordAt}
 use Rattle.graph_division.specs.Answers.{isRefused}
@@ -105,6 +105,17 @@ hostRun state log cursor from to buffer =
     pick (tooShort state cursor) (back short buffer)
     (givenIn (runFetched (stateIn state) (cursorIn cursor) (logIn (cursorIn cursor) log) from to (bufferIn buffer))
     buffer)
+
+-- `calls::page`: the number of bytes, and the buffer with the page at its start
+unfoldable pub pageBack : Fetched → Back
+pageBack y = back (answerCode (y .answer)) (y .buffer)
+
+unfoldable pub pageIn : List ℕ → List ℕ → List ℕ → List ℕ → Back
+pageIn state log cursor buffer =
+    pageBack (pageFetched (stateIn state) (cursorIn cursor) (logIn (cursorIn cursor) log) buffer)
+
+unfoldable pub hostPage : List ℕ → List ℕ → List ℕ → List ℕ → Back
+hostPage state log cursor buffer = pick (tooShort state cursor) (back short buffer) (pageIn state log cursor buffer)
 
 -- The state's bytes after a call: as they were where it is too short or refused, else those of the outcome's state. A list last left is
 -- shorter than 2 to the 32. What follows the layout stays.

@@ -5,7 +5,7 @@ ghost use mathlib.Core.Path.{_≡_};
 ghost use mathlib.Core.Bool.{true, false};
 ghost use Rattle.byte_calls.specs.Host.{leftWith, back, tooShort, hostInitialized, initializedIn};
 ghost use Rattle.byte_calls.specs.Host.{hostPropagated, propagatedIn, hostUndone, undoneIn, hostReason};
-ghost use Rattle.byte_calls.specs.Host.{hostLast, hostRun, buildCode};
+ghost use Rattle.byte_calls.specs.Host.{hostLast, hostRun, hostPage, buildCode};
 ghost use Rattle.byte_calls.specs.After.{Leaves};
 ghost use Rattle.byte_calls.specs.Build.{BuiltIn};
 ghost use Rattle.byte_calls.specs.Numbers.{numbersIn};
@@ -134,4 +134,15 @@ pub fn run(state: &[u8], log: &[u8], cursor: &[u8], from: i32, to: i32, buffer: 
         return -7;
     }
     crate::run::run(state, log, cursor, from, to, buffer)
+}
+
+// The page of the decided regions goes to the buffer, a line of 39 bytes for each.
+pub fn page(state: &[u8], log: &[u8], cursor: &[u8], buffer: &mut [u8]) -> i32
+    ensures { λ r. ⌜ back r (now (buffer .exit)) ≡
+        hostPage (now (state .entry)) (now (log .entry)) (now (cursor .entry)) (now (buffer .entry)) ⌝ }
+{
+    if too_short(state, cursor) {
+        return -7;
+    }
+    crate::page::page(state, log, cursor, buffer)
 }

@@ -41,11 +41,12 @@ pub(crate) fn code_of(answer: Answer) -> i32
         Answer::Undone => 0,
         Answer::Reason { len } => count_code(len),
         Answer::Run { len } => count_code(len),
+        Answer::Page { len } => count_code(len),
         Answer::Refused { number } => refusal_code(number),
     }
 }
 
-// How many literals, or edges of a run, the answer says are in the list or the buffer.
+// How many literals, edges of a run, or bytes of a page, the answer says are in the list or the buffer.
 pub(crate) fn given_by(answer: Answer) -> usize
     ensures { λ r. ⌜ r ≡ givenBy answer ⌝ }
 {
@@ -56,6 +57,7 @@ pub(crate) fn given_by(answer: Answer) -> usize
         Answer::Undone => 0,
         Answer::Reason { len } => len,
         Answer::Run { len } => len,
+        Answer::Page { len } => len,
         Answer::Refused { number: _ } => 0,
     }
 }

@@ -9,5 +9,6 @@ mod decode;
 mod fetch;
 mod initialize;
 mod numbers;
+mod page;
 mod run;
 mod store;

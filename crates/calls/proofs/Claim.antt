@@ -20,7 +20,7 @@ use Rattle.division.specs.Proposed.{Full}
 use Rattle.division.proofs.Whole.{exactly, nothing-left}
 use Rattle.calls.specs.Table.{has, knows}
 use Rattle.calls.specs.Look.{Looked, gone}
-use Rattle.calls.specs.Calls.{World, built, Query, reasonFor, lastLeft, Call, propagate, ask, Answer, consistent, conflicting, refused, reason, foundRun, accepted, Outcome, refuse, noting, settledBy, giveReason, answerTo, tell, onAsk, call, after, run, answerList}
+use Rattle.calls.specs.Calls.{World, built, Query, reasonFor, lastLeft, Call, propagate, ask, Answer, consistent, conflicting, refused, reason, accepted, Outcome, refuse, noting, settledBy, giveReason, answerTo, tell, onAsk, call, after, run, answerList}
 use Rattle.calls.specs.Claim.{counted, Covers, AllQuiet, answered, Condition3}
 use Rattle.calls.proofs.View.{Saw, saw, Did, away, added, agreed, clashed, did}
 use Rattle.calls.proofs.Looks.{clash-not-fine, saw-fine, looked-fine}

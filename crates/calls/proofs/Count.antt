@@ -29,7 +29,7 @@ use Rattle.calls.proofs.View.{Saw, saw, sawStop, sawConflict, sawFalse,
 use Rattle.calls.proofs.Looks.{halted, hand-in, offer-in}
 use Rattle.calls.proofs.Stands.{add-consistent, or-left, fine-on, clash-on, not-halted, run-consistent}
 use Rattle.calls.proofs.Fetchable.{good, is-known}
-use Rattle.calls.proofs.Order.{swept-in}
+use Rattle.calls.proofs.Rising.{swept-in}
 use Rattle.calls.proofs.Marks.{unmarked, marked-then, marked-set, enter-same, enter-long, hand-marked, looked-marked}
 use Rattle.calls.specs.Order.{Distinct}
 

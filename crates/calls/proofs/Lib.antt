@@ -4,8 +4,10 @@ pub mod Stands
 pub mod Recent
 pub mod Claim
 pub mod Known
+pub mod Page
 pub mod Queries
 pub mod Fetchable
+pub mod Rising
 pub mod Order
 pub mod Room
 pub mod Marks

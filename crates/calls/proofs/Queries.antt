@@ -1,7 +1,8 @@
--- Each query is refused with the first number of its rows that applies, or gives a list or a run where none does.
-use Prim.Native.Nat.{ℕ, _<_}
+-- Each query is refused with the first number of its rows that applies, or gives a list, a run or a page where none
+-- does.
+use Prim.Native.Nat.{ℕ, _*_, _<_}
 use native.Mathlib.Omega.{arith}
-use mathlib.Core.Path.{_≡_, refl, sym, _∙_, ap}
+use mathlib.Core.Path.{_≡_, refl, sym, _∙_, ap, subst}
 use mathlib.Core.Bool.{Bool, true, false, not, true≢false, false≢true}
 use mathlib.Core.List.{List, [], _∷_}
 use lib.Dec.{eqb, ltb}
@@ -9,7 +10,7 @@ use lib.ListN.{length}
 use borrow.Author.Tests.{ltb-true, ltb-false}
 use Rattle.base.proofs.Loop.{pick-ind, tested}
 use Rattle.division.specs.Plan.{Plan, Proper}
-use Rattle.division.specs.State.{potential}
+use Rattle.division.specs.State.{State, potential}
 use Rattle.division.specs.Reasons.{Reason}
 use Rattle.division.specs.Analysis.{Proposal}
 use Rattle.division.specs.Noting.{noteAll}
@@ -17,12 +18,15 @@ use Rattle.division.specs.Runs.{reasonOf}
 use Rattle.graph.specs.Search.{Graph}
 use Rattle.runs.specs.Walk.{bestRun}
 use Rattle.runs.proofs.Given.{given-best, none-joined}
+use Rattle.pages.specs.Lines.{numRegions}
 use Rattle.calls.specs.Look.{gone}
-use Rattle.calls.specs.Calls.{World, Query, reasonFor, lastLeft, runBetween, giveReason, giveRun, answerTo}
-use Rattle.calls.specs.Calls.{Answer, consistent, conflicting, noted, undone, refused, reason, foundRun}
+use Rattle.calls.specs.Calls.{World, Query, reasonFor, lastLeft, runBetween, page}
+use Rattle.calls.specs.Calls.{giveReason, giveRun, regionFigures, givePage, answerTo, Answer, consistent}
+use Rattle.calls.specs.Calls.{conflicting, noted, undone, refused, reason, foundRun, printedPage}
 use Rattle.calls.specs.Refusals.{Known, AppliesTo}
 use Rattle.calls.proofs.Known.{known, unknown}
 use Rattle.calls.proofs.View.{not-not}
+use Rattle.calls.proofs.Page.{lowest-list, regions-counted}
 
 pub not-false : (b : Bool) → not b ≡ true → b ≡ false
 not-false true e = absurd (false≢true e)
@@ -49,6 +53,7 @@ answerKind undone = 3
 answerKind (refused n) = 4
 answerKind (reason ls) = 5
 answerKind (foundRun gs) = 6
+answerKind (printedPage bytes) = 7
 
 abbrev pub isConflict : Answer → Bool
 isConflict a = eqb (answerKind a) 1
@@ -59,16 +64,20 @@ isReason a = eqb (answerKind a) 5
 abbrev pub isFound : Answer → Bool
 isFound a = eqb (answerKind a) 6
 
-unfoldable pub isRun : Query → Bool
-isRun (reasonFor l) = false
-isRun lastLeft = false
-isRun (runBetween p q) = true
+-- what is asked for is found in the plan's graph: a run, or the regions of a page
+unfoldable pub ofGraph : Query → Bool
+ofGraph (reasonFor l) = false
+ofGraph lastLeft = false
+ofGraph (runBetween p q) = true
+ofGraph (page len) = true
 
 -- how a query is judged
 pub data Answered (d : Plan) (w : World) (q : Query) (a : Answer) : Type 0 where
   denied : (n : ℕ) → a ≡ refused n → AppliesTo d w q n → ((m : ℕ) → m < n → AppliesTo d w q m → ⊥) → Answered d w q a
   given : (list : List ℕ) → a ≡ reason list → ((n : ℕ) → AppliesTo d w q n → ⊥) → Answered d w q a
-  found : (gs : List ℕ) → isRun q ≡ true → a ≡ foundRun gs → ((n : ℕ) → AppliesTo d w q n → ⊥) → Answered d w q a
+  found : (gs : List ℕ) → ofGraph q ≡ true → a ≡ foundRun gs → ((n : ℕ) → AppliesTo d w q n → ⊥) → Answered d w q a
+  printed : (bytes : List ℕ) → ofGraph q ≡ true → a ≡ printedPage bytes → ((n : ℕ) → AppliesTo d w q n → ⊥) →
+      Answered d w q a
 
 module _ (d : Plan) (w : World) where
   -- 7 comes first
@@ -79,6 +88,7 @@ module _ (d : Plan) (w : World) where
   query-late (AppliesTo.noRun p q n) = omega arith
   query-late (AppliesTo.unknownFrom p q n) = omega arith
   query-late (AppliesTo.unknownTo p q n) = omega arith
+  query-late (AppliesTo.pageShort len rs l h) = omega arith
 
   nil-cons : {x : Reason} {k : List Reason} → [] ≡ x ∷ k → ⊥
   nil-cons q = let z : _≡_ {A = ℕ} 0 _ = ap length q in omega arith
@@ -126,13 +136,37 @@ module _ (d : Plan) (w : World) where
     run-applies gs rest x (AppliesTo.unknownTo _ _ n) = n (given-best e (d .edges) (d .vertices) (pr .fine) p q gs rest x .0 .to)
 
     run-judged : (x : List (List ℕ)) → bestRun e (d .edges) (d .vertices) p q ≡ x → Answered d w (runBetween p q) (giveRun x)
-    unfolding giveRun isRun
+    unfolding giveRun ofGraph
     run-judged [] x = denied 18 refl (run-denied x) (λ m h y. let z = only18 y in omega arith)
     run-judged (gs ∷ rest) x = found gs refl refl (λ n y. run-applies gs rest x y)
 
-  -- a run is looked for on a proper plan
-  pub answer-judged : (q : Query) → (isRun q ≡ true → Proper d) → Answered d w q (answerTo d w q)
-  unfolding answerTo giveReason isRun
+  -- of a page only 19, where the buffer is too short for the regions that are counted
+  module _ (pr : Proper d) (len : ℕ) where
+    abbrev s : State
+    s = noteAll d (w .standing)
+
+    abbrev size : ℕ
+    size = 39 * numRegions (regionFigures d s .label) (d .vertices)
+
+    page-denied : len < size → AppliesTo d w (page len) 19
+    page-denied h =
+        let z = regions-counted d pr s _ (lowest-list d pr s) in
+        AppliesTo.pageShort len _ (lowest-list d pr s) (subst (λ n. len < 39 * n) z h)
+
+    page-applies : {m : ℕ} → AppliesTo d w (page len) m → (m ≡ 19) × (len < size)
+    page-applies (AppliesTo.pageShort _ rs l h) =
+        (refl, subst (λ n. len < 39 * n) (sym (regions-counted d pr s rs l)) h)
+
+    page-judged : Answered d w (page len) (givePage (regionFigures d s) (d .vertices) len)
+    unfolding givePage ofGraph
+    page-judged =
+        pick-ind (Answered d w (page len)) _ _ _
+        (λ e. denied 19 refl (page-denied (ltb-true _ _ e)) (λ m h x. let z = page-applies x .0 in omega arith))
+        (λ e. printed _ refl refl (λ n x. omega (arith, ltb-false len size e, page-applies x .1)))
+
+  -- a run and a page are looked for on a proper plan
+  pub answer-judged : (q : Query) → (ofGraph q ≡ true → Proper d) → Answered d w q (answerTo d w q)
+  unfolding answerTo giveReason ofGraph
   answer-judged (reasonFor l) pr =
       pick-ind J _ _ _ (λ k. denied 9 refl (AppliesTo.unknownReason l (unknown d l (not-false _ k))) (λ m h x. below9 h x))
       (λ k. by (known d l (not-not _ k)) (reasonOf l (w .reasons)) refl)
@@ -147,3 +181,4 @@ module _ (d : Plan) (w : World) where
           (λ e. given _ refl (λ n x. true≢false (sym (only16 k q x .1) ∙ e)))
   answer-judged lastLeft pr = given _ refl (λ n x. elim x [ ])
   answer-judged (runBetween p q) pr = run-judged (pr refl) p q _ refl
+  answer-judged (page len) pr = page-judged (pr refl) len

@@ -5,6 +5,7 @@ use mathlib.Core.Logic.{_⊎_, ⊎-elim}
 use mathlib.Core.Bool.{Bool, true, false, false≢true}
 use mathlib.Core.List.{List, [], _∷_, _++_, map, append-assoc, List·Memᴰ·head, List·Memᴰ·tail, List·Memᴰ·not-nil, List·Memᴰ·cases-cons, List·Memᴰ·append-cases}
 use Rattle.base.specs.Lists.{Every}
+use Rattle.base.proofs.Loop.{pick-ind}
 use Rattle.sat.specs.Literal.{Holds}
 use Rattle.division.specs.Plan.{Plain, Plan, Proper}
 use Rattle.division.specs.Division.{Valid}
@@ -14,8 +15,11 @@ use Rattle.division.specs.Noting.{In, Consistent}
 use Rattle.division.specs.Runs.{analysis, Justifies, reasonOf, Run, start, note, look}
 use Rattle.division.proofs.Whole.{conflicts, run-fetched, reason-there, reason-newer}
 use Rattle.calls.specs.Look.{fine, clash, Looked, looked}
-use Rattle.calls.specs.Calls.{World, Call, Answer, conflicting, Outcome, refuse, noting, adding, settledBy, Query, reasonFor, lastLeft, runBetween, giveRun, answerTo, tell, Going, joinBy, lastBy, finishBy, entry, call}
-use Rattle.calls.proofs.Queries.{answerKind, isConflict, isRun, Answered, denied, given, found, answer-judged}
+use Rattle.calls.specs.Calls.{World, Call, Answer, conflicting, Outcome, refuse, noting, adding, settledBy}
+use Rattle.calls.specs.Calls.{Query, reasonFor, lastLeft, runBetween, page, giveRun, givePage, answerTo, tell}
+use Rattle.calls.specs.Calls.{Going, joinBy, lastBy, finishBy, entry, call}
+use Rattle.calls.proofs.Queries.{answerKind, isConflict, ofGraph, answer-judged}
+use Rattle.calls.proofs.Queries.{Answered, denied, given, found, printed}
 use Rattle.calls.proofs.View.{Saw, saw, Steps, over, more, ends, halts, Did, away, added, agreed, clashed, took, asked, began, beganLast, beganClash, did}
 use Rattle.calls.proofs.Looks.{halted, saw-handed, saw-records, saw-clash, clash-not-fine}
 use Rattle.calls.proofs.Stands.{add-consistent, fine-on, clash-on, not-halted, steps-consistent, call-consistent}
@@ -115,12 +119,14 @@ unfolding answerKind
 quiet-answered (denied n e x f) = ap isConflict e
 quiet-answered (given list e f) = ap isConflict e
 quiet-answered (found gs r e f) = ap isConflict e
+quiet-answered (printed bytes r e f) = ap isConflict e
 
 pub answer-quiet : (d : Plan) (w : World) (q : Query) → isConflict (answerTo d w q) ≡ false
-unfolding answerTo isRun
+unfolding answerTo givePage ofGraph answerKind
 answer-quiet d w (reasonFor l) = quiet-answered (answer-judged d w (reasonFor l) (λ e. absurd (false≢true e)))
 answer-quiet d w lastLeft = quiet-answered (answer-judged d w lastLeft (λ e. absurd (false≢true e)))
 answer-quiet d w (runBetween p q) = run-quiet _
+answer-quiet d w (page len) = pick-ind (λ (a : Answer). isConflict a ≡ false) _ _ _ (λ _. refl) (λ _. refl)
 
 -- the list that a conflict leaves
 did-conflict : (d : Plan) (k : Proper d) (pl : Plain d) (w : World) → Consistent (w .standing) → {c : Call} {o : Outcome} → Did d w c o → isConflict (o .answer) ≡ true →

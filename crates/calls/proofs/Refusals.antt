@@ -18,7 +18,10 @@ use Rattle.division.specs.Analysis.{Verdict, going, conflict, zeroSize}
 use Rattle.division.proofs.Verdicts.{verdict-zero, zero-verdict}
 use Rattle.calls.specs.Table.{codeOf, coded, currentIn, someCurrent, tooHigh, badTable, has, variables, falseIn, entered}
 use Rattle.calls.specs.Look.{fine, clash, stopped, Looked, looked, lookedBy, offered, offers, firstFalse, stop, clashes, Judgement}
-use Rattle.calls.specs.Calls.{consistent, conflicting, noted, undone, refused, reason, foundRun, World, taken, Call, onPropagate, onUndo, Query, Answer, settled, takeBack, tell, onAsk, refuse, propagate, accepted, undo, ask, Outcome, settledBy, Going, propagateAll, oneBy, entry, joinBy, finishBy, lastBy, initialize, onInitialize, call}
+use Rattle.calls.specs.Calls.{World, taken, Call, initialize, propagate, undo, ask, Query, Answer, consistent}
+use Rattle.calls.specs.Calls.{conflicting, noted, undone, refused, reason, foundRun, printedPage, accepted}
+use Rattle.calls.specs.Calls.{Outcome, onPropagate, settled, settledBy, onUndo, takeBack, onAsk, tell, refuse}
+use Rattle.calls.specs.Calls.{Going, propagateAll, oneBy, entry, joinBy, finishBy, lastBy, onInitialize, call}
 use Rattle.calls.specs.Refusals.{BadTable, short, high, Known, Stands, ZeroAt, Stops, at13, at14, Stage, roomOf}
 use Rattle.calls.specs.Refusals.{AppliesTo, Applies, Works, First}
 use Rattle.calls.proofs.Looks.{stop-not-fine, stop-not-clash}
@@ -26,7 +29,8 @@ use Rattle.calls.proofs.Known.{known, unknown}
 use Rattle.calls.proofs.Stands.{or-left}
 use Rattle.calls.proofs.View.{not-not, or-right, stop-stays, clash-stays}
 use Rattle.calls.proofs.Claim.{has-in, in-has}
-use Rattle.calls.proofs.Queries.{not-false, isRun, Answered, denied, given, found, query-late, answer-judged}
+use Rattle.calls.proofs.Queries.{not-false, ofGraph, query-late, answer-judged}
+use Rattle.calls.proofs.Queries.{Answered, denied, given, found, printed}
 
 -- 7
 high-at : (t : List ℕ) → tooHigh t ≡ true → (i : ℕ) × (i < length t) × (4 < getD t i 0)
@@ -132,13 +136,14 @@ refused-or undone = inr refl
 refused-or (refused n) = inl (n, refl)
 refused-or (reason ls) = inr refl
 refused-or (foundRun gs) = inr refl
+refused-or (printedPage bytes) = inr refl
 
--- a run is asked for, with room
-unfoldable pub asksRun : Call → Bool
-asksRun (initialize room t) = false
-asksRun (propagate room t l pending) = false
-asksRun (undo room l) = false
-asksRun (ask room q) = room && isRun q
+-- a run or a page is asked for, with room
+unfoldable pub asksGraph : Call → Bool
+asksGraph (initialize room t) = false
+asksGraph (propagate room t l pending) = false
+asksGraph (undo room l) = false
+asksGraph (ask room q) = room && ofGraph q
 
 -- how a call is judged
 data Judged (d : Plan) (w : World) (c : Call) (a : Answer) : Type 0 where
@@ -308,17 +313,20 @@ module _ (d : Plan) (w : World) where
   to-ask (Applies.noRoom c e) = inl (refl, e)
   to-ask (Applies.ofQuery room q n x) = inr x
 
-  judge-ask : (room : Bool) (q : Query) → (asksRun (ask room q) ≡ true → Proper d) → Judged d w (ask room q) (onAsk d w room q .answer)
-  unfolding onAsk tell accepted roomOf asksRun
+  judge-ask : (room : Bool) (q : Query) → (asksGraph (ask room q) ≡ true → Proper d) →
+      Judged d w (ask room q) (onAsk d w room q .answer)
+  unfolding onAsk tell accepted roomOf asksGraph
   judge-ask room q pr =
       pick-ind (Judged d w (ask room q)) _ _ _
       (λ e. turned 7 refl (record { applies = Applies.noRoom _ (not-false _ e); least = λ m h x. ⊎-elim (λ z. let y = z .0 in omega arith) (λ z. let y = query-late d w z in omega arith) (to-ask x) }))
-      (λ e. by (λ r. true≢false (sym (not-not _ e) ∙ r)) (answer-judged d w q (λ r. pr (ap (λ (x : Bool). x && isRun q) (not-not room e) ∙ r))))
+      (λ e. by (λ r. true≢false (sym (not-not _ e) ∙ r))
+      (answer-judged d w q (λ r. pr (ap (λ (x : Bool). x && ofGraph q) (not-not room e) ∙ r))))
     where
       by : {a : Answer} → (room ≡ false → ⊥) → Answered d w q a → Judged d w (ask room q) a
       by no7 (denied n e x f) = turned n e (record { applies = Applies.ofQuery room q n x; least = λ m h y. ⊎-elim (λ z. no7 (z .1)) (λ z. f m h z) (to-ask y) })
       by no7 (given list e f) = passed (ap accepted e) (λ n y. ⊎-elim (λ z. no7 (z .1)) (λ z. f n z) (to-ask y))
       by no7 (found gs r e f) = passed (ap accepted e) (λ n y. ⊎-elim (λ z. no7 (z .1)) (λ z. f n z) (to-ask y))
+      by no7 (printed bytes r e f) = passed (ap accepted e) (λ n y. ⊎-elim (λ z. no7 (z .1)) (λ z. f n z) (to-ask y))
 
 module _ (d : Plan) (w : World) (t : List ℕ) where
   -- what applies to the work of an initialize
@@ -506,15 +514,17 @@ module _ (d : Plan) (w : World) (t : List ℕ) where
       })
       by a b (inr e) = passed e (λ n x. not-refused e (work-answer n (only-work a b n (to-initialize x))))
 
-judge : (d : Plan) (w : World) (c : Call) → (asksRun c ≡ true → Proper d) → Judged d w c (call d c w .answer)
+judge : (d : Plan) (w : World) (c : Call) → (asksGraph c ≡ true → Proper d) → Judged d w c (call d c w .answer)
 unfolding call
 judge d w (initialize room t) pr = judge-initialize d w t room
 judge d w (propagate room t l pending) pr = judge-propagate d w room t l pending
 judge d w (undo room l) pr = judge-undo d w room l
 judge d w (ask room q) pr = judge-ask d w room q pr
 
--- a call is refused with a number exactly when it is the first of the table that applies; a run is looked for on a proper plan
-pub refusals : (d : Plan) (w : World) (c : Call) → (asksRun c ≡ true → Proper d) → (n : ℕ) → (call d c w .answer ≡ refused n) ↔ First d w c n
+-- a call is refused with a number exactly when it is the first of the table that applies; a run and a page are looked
+-- for on a proper plan
+pub refusals : (d : Plan) (w : World) (c : Call) → (asksGraph c ≡ true → Proper d) → (n : ℕ) →
+    (call d c w .answer ≡ refused n) ↔ First d w c n
 refusals d w c pr n = (λ e. to e (judge d w c pr), λ f. from f (judge d w c pr))
   where
     to : {a : Answer} → a ≡ refused n → Judged d w c a → First d w c n
@@ -529,7 +539,8 @@ refusals d w c pr n = (λ e. to e (judge d w c pr), λ f. from f (judge d w c pr
     from f (passed q g) = absurd (g n (f .applies))
 
 -- and accepted exactly when none applies
-pub acceptances : (d : Plan) (w : World) (c : Call) → (asksRun c ≡ true → Proper d) → (accepted (call d c w .answer) ≡ true) ↔ ((n : ℕ) → Applies d w c n → ⊥)
+pub acceptances : (d : Plan) (w : World) (c : Call) → (asksGraph c ≡ true → Proper d) →
+    (accepted (call d c w .answer) ≡ true) ↔ ((n : ℕ) → Applies d w c n → ⊥)
 unfolding accepted
 acceptances d w c pr = (λ e. to e (judge d w c pr), λ f. from f (judge d w c pr))
   where

@@ -23,7 +23,7 @@ use Rattle.calls.specs.Slots.{slots, occurs, records}
 use Rattle.calls.proofs.Stands.{not-halted, fine-on, clash-on}
 use Rattle.calls.proofs.Looks.{halted}
 use Rattle.calls.proofs.Refusals.{not-stands}
-use Rattle.calls.proofs.Order.{swept-every}
+use Rattle.calls.proofs.Rising.{swept-every}
 use Rattle.calls.proofs.View.{Steps, Did, did}
 use Rattle.calls.proofs.Known.{known}
 

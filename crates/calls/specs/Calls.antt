@@ -1,18 +1,20 @@
 -- The calls, on a world that holds what stands, what is recorded, the list last left, and whether an initialize was consistent.
-use Prim.Native.Nat.{ℕ}
+use Prim.Native.Nat.{ℕ, _*_}
 use mathlib.Core.Bool.{Bool, true, false, not, _||_}
 use mathlib.Core.List.{List, [], _∷_, _++_}
-use lib.Dec.{eqb}
+use lib.Dec.{eqb, ltb}
 use Rattle.base.specs.Iter.{pick}
 use Rattle.sat.specs.Literal.{negate}
 use Rattle.division.specs.Plan.{Plan}
-use Rattle.division.specs.State.{potential}
+use Rattle.division.specs.State.{State, potential}
 use Rattle.division.specs.Reasons.{Reason}
 use Rattle.division.specs.Conflicts.{conflictList}
 use Rattle.division.specs.Analysis.{Verdict, going, conflict, zeroSize, Proposal, Out}
 use Rattle.division.specs.Noting.{noteAll}
+use Rattle.division.specs.Views.{viewOf}
 use Rattle.division.specs.Runs.{analysis, fetched, reasonOf}
 use Rattle.runs.specs.Walk.{bestRun}
+use Rattle.pages.specs.Lines.{Figures, pageText, numRegions}
 use Rattle.calls.specs.Table.{knows, entered, badTable, has}
 use Rattle.calls.specs.Look.{Judgement, fine, clash, stopped, Looked, looked, gone}
 
@@ -27,12 +29,13 @@ pub record World : Type 0 where
 unfoldable pub built : World
 built = record { standing = []; reasons = []; last = []; done = false }
 
--- what a call that changes nothing asks for: the reason of a literal, the list last left, or, document 02, request 1,
--- the run of edges from vertex p to vertex q
+-- what a call that changes nothing asks for: the reason of a literal, the list last left, and of document 02 the run of
+-- edges from vertex p to vertex q (request 1) and the page, into a buffer of so many bytes (request 3)
 pub data Query : Type 0 where
   reasonFor : (l : ℕ) → Query
   lastLeft : Query
   runBetween : (p q : ℕ) → Query
+  page : (len : ℕ) → Query
 
 -- room: all other buffers that the call is lent pass refusal 7's tests
 pub data Call : Type 0 where
@@ -50,6 +53,8 @@ pub data Answer : Type 0 where
   reason : (ls : List ℕ) → Answer
   -- the numbers of a run's edges, in order from the first vertex
   foundRun : (gs : List ℕ) → Answer
+  -- the bytes of the page
+  printedPage : (bytes : List ℕ) → Answer
 
 unfoldable pub accepted : Answer → Bool
 accepted consistent = true
@@ -59,8 +64,9 @@ accepted undone = true
 accepted (refused n) = false
 accepted (reason ls) = true
 accepted (foundRun gs) = true
+accepted (printedPage bytes) = true
 
--- the list that an answer gives: a reason's or a run's, else none
+-- the list that an answer gives: a reason's, a run's or a page's, else none
 unfoldable pub answerList : Answer → List ℕ
 answerList consistent = []
 answerList conflicting = []
@@ -69,6 +75,7 @@ answerList undone = []
 answerList (refused n) = []
 answerList (reason ls) = ls
 answerList (foundRun gs) = gs
+answerList (printedPage bytes) = bytes
 
 -- the table that a call is lent; one that is lent none has the empty one
 unfoldable pub tableOf : Call → List ℕ
@@ -129,12 +136,21 @@ unfoldable pub giveRun : List (List ℕ) → Answer
 giveRun [] = refused 18
 giveRun (gs ∷ rest) = foundRun gs
 
+-- document 02, request 3: the decided regions of a state, with their weights and bounds
+unfoldable pub regionFigures : Plan → State → Figures
+regionFigures d s = let v = viewOf d s in record { label = v .did; weight = v .dw; lower = v .low; upper = v .up }
+
+-- their page, or 19 "when the page buffer is under 39 bytes a region"
+unfoldable pub givePage : Figures → ℕ → ℕ → Answer
+givePage t n len = pick (ltb len (39 * numRegions (t .label) n)) (refused 19) (printedPage (pageText t n))
+
 -- what a query is answered: no world comes out of it. A run is that of the edges not disconnected where these literals
--- stand.
+-- stand, a page that of the regions then.
 unfoldable pub answerTo : Plan → World → Query → Answer
 answerTo d w (reasonFor l) = pick (not (knows d l)) (refused 9) (giveReason d w (reasonOf l (w .reasons)))
 answerTo d w lastLeft = reason (w .last)
 answerTo d w (runBetween p q) = giveRun (bestRun (potential d (noteAll d (w .standing))) (d .edges) (d .vertices) p q)
+answerTo d w (page len) = givePage (regionFigures d (noteAll d (w .standing))) (d .vertices) len
 
 -- an answer where the world stays as it is
 unfoldable pub tell : World → Answer → Outcome

@@ -8,7 +8,7 @@ use Rattle.base.specs.Lists.{tab}
 use Rattle.division.specs.Plan.{Plan}
 use Rattle.calls.specs.Table.{unsetIn, enter, variables}
 use Rattle.calls.specs.Calls.{World, built, initialize, propagate, undo, reasonFor, lastLeft, ask, Answer}
-use Rattle.calls.specs.Calls.{consistent, conflicting, noted, undone, refused, reason, foundRun, accepted}
+use Rattle.calls.specs.Calls.{consistent, conflicting, noted, undone, refused, reason, foundRun, printedPage, accepted}
 use Rattle.calls.specs.Calls.{Outcome, call}
 
 pub data Line : Type 0 where
@@ -28,7 +28,7 @@ pub record Desk : Type 0 where
   pub printed : List (List ℕ)
 
 -- C is 0 and the handed-on literals, X is 1, L is 2, R is 3 and the list, E is 4 and the number. No line asks for a
--- run.
+-- run or a page.
 unfoldable pub print : Answer → List ℕ → List ℕ
 print consistent hs = 0 ∷ hs
 print conflicting hs = 1 ∷ []
@@ -37,6 +37,7 @@ print undone hs = 0 ∷ []
 print (refused n) hs = 4 ∷ (n ∷ [])
 print (reason ls) hs = 3 ∷ ls
 print (foundRun gs) hs = 3 ∷ gs
+print (printedPage bytes) hs = 3 ∷ bytes
 
 unfoldable pub printing : Outcome → List ℕ → Desk → Desk
 printing o t a = record { world = o .world; table = t; printed = print (o .answer) (o .handed) ∷ a .printed }

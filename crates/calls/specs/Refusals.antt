@@ -1,6 +1,6 @@
--- Document 01, "Verdicts turned away": when each number from 7 to 16, and 18 of document 02, applies to a call in a
--- world. The numbers 1 to 6 are the builder's and 17 is the reader's.
-use Prim.Native.Nat.{ℕ, suc, _<_}
+-- Document 01, "Verdicts turned away": when each number from 7 to 16, and 18 and 19 of document 02, applies to a call
+-- in a world. The numbers 1 to 6 are the builder's and 17 is the reader's.
+use Prim.Native.Nat.{ℕ, suc, _*_, _<_}
 use mathlib.Core.Path.{_≡_}
 use mathlib.Core.Logic.{_⊎_}
 use mathlib.Core.Bool.{Bool, true, false}
@@ -19,7 +19,9 @@ use Rattle.division.specs.Runs.{analysis, reasonOf}
 use Rattle.runs.specs.Run.{Run}
 use Rattle.calls.specs.Table.{codeOf, variables, entered}
 use Rattle.calls.specs.Look.{fine, looked, offers, firstFalse, falseList, gone}
-use Rattle.calls.specs.Calls.{World, Query, reasonFor, runBetween, Call, initialize, propagate, undo, ask, Going, joinBy, entry}
+use Rattle.calls.specs.Calls.{World, Query, reasonFor, runBetween, page, Call, initialize}
+use Rattle.calls.specs.Calls.{propagate, undo, ask, Going, joinBy, entry}
+use Rattle.calls.specs.Page.{Listing, Lowest}
 
 unfoldable pub roomOf : Call → Bool
 roomOf (initialize room t) = room
@@ -77,6 +79,9 @@ pub data AppliesTo (d : Plan) (w : World) : Query → ℕ → Type 0 where
   -- "or one pen is unknown"
   unknownFrom : (p q : ℕ) → (p < d .vertices → ⊥) → AppliesTo d w (runBetween p q) 18
   unknownTo : (p q : ℕ) → (q < d .vertices → ⊥) → AppliesTo d w (runBetween p q) 18
+  -- 19: "when the page buffer is under 39 bytes a region"
+  pageShort : (len : ℕ) (rs : List ℕ) → Listing (Lowest d (noteAll d (w .standing))) rs → len < 39 * length rs →
+      AppliesTo d w (page len) 19
 
 -- and of any call
 pub data Applies (d : Plan) (w : World) : Call → ℕ → Type 0 where

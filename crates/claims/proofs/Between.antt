@@ -2,12 +2,12 @@
 use Prim.Native.Nat.{ℕ, _+_, _*_, _<_, _≤_}
 use native.Mathlib.Omega.{arith}
 use mathlib.Core.Path.{_≡_, refl, sym, _∙_, ap, subst}
-use mathlib.Core.Bool.{Bool, true, false, not, true≢false, false≢true}
+use mathlib.Core.Bool.{true, false, not, false≢true}
 use mathlib.Core.List.{List, [], _∷_}
 use lib.Dec.{ltb}
 use lib.IntN.{ℤ, pos, negsuc}
 use lib.ListN.{length}
-use lib.Seq.{sets, length-sets}
+use lib.Seq.{sets}
 use borrow.Author.Tests.{le-leb, ltb-true, ltb-false}
 use Rattle.base.specs.Range.{inRange, toNat}
 use Rattle.base.proofs.Loop.{pick-yes, pick-no, tested}
@@ -18,23 +18,23 @@ use Rattle.graph.specs.Search.{Graph}
 use Rattle.division.specs.Plan.{Plan, Proper}
 use Rattle.division.specs.State.{potential}
 use Rattle.division.specs.Noting.{noteAll}
-use Rattle.runs.specs.Run.{Run, Best}
+use Rattle.runs.specs.Run.{Run}
 use Rattle.runs.specs.Walk.{bestRun, vertexGiven}
-use Rattle.runs.proofs.Given.{IsBest, given-best, none-joined, equal-given}
+use Rattle.runs.proofs.Given.{given-best, none-joined, equal-given}
 use Rattle.calls.specs.Calls as calls
-use Rattle.calls.specs.Calls.{World}
 use Rattle.calls.specs.Refusals.{roomOf}
 use Rattle.calls.proofs.Queries.{not-false}
 use Rattle.graph_division.specs.declared.Answer.{Answer}
 use Rattle.graph_division.specs.declared.Answer.the-variants as answer
 use Rattle.graph_division.specs.Answers.{numberOf}
-use Rattle.graph_division.specs.Outcomes.{answerFor, answerOf}
-use Rattle.graph_division.specs.Runs.{runBetween, Request, ask, lentList, Kept, logFor, Reply, repliedFetched, reply, after, callOf, callsOf, roomFor, queryOf, bufferShort}
-use Rattle.claims.specs.Whole.{Whole, writtenBy}
-use Rattle.claims.specs.Conditions.{counted, replyTo, callFor, Condition1}
-use Rattle.claims.specs.Runs.{graphAfter, Unknown, NoRun, unknownFrom, unknownTo, allShut, GivesRun, RunsBetween}
+use Rattle.graph_division.specs.Outcomes.{answerFor}
+use Rattle.graph_division.specs.Runs.{runBetween, Request, ask, Kept, logFor, reply, after, callOf, roomFor, queryOf, bufferShort}
+use Rattle.claims.specs.Whole.{writtenBy}
+use Rattle.claims.specs.Conditions.{callFor, outcomeTo}
+use Rattle.claims.specs.Runs.{graphAfter, NoRun, unknownFrom, unknownTo, allShut, GivesRun, RunsBetween}
 use Rattle.claims.proofs.Replying.{At, after-at}
 use Rattle.claims.proofs.Lists as lists
+use Rattle.claims.proofs.Asking.{asked-answer, answer-is, buffer-is, asked-quiet}
 
 -- ---- numbers from outside
 number-is : (v : ℤ) → inRange (pos 63) v ≡ true → v ≡ pos (toNat v)
@@ -60,9 +60,6 @@ heads : {a b : List ℕ} {l m : List (List ℕ)} → a ∷ l ≡ b ∷ m → a �
 heads q = cc
 
 module _ (d : Plan) (start : Kept) (a : At d start calls.built) (pr : Proper d) where
-  abbrev world : List Request → World
-  world before = calls.run d (callsOf start before)
-
   module _ (before : List Request) (from to : ℤ) (b rest : List ℕ) where
     abbrev k : Kept
     k = after start before
@@ -78,31 +75,18 @@ module _ (d : Plan) (start : Kept) (a : At d start calls.built) (pr : Proper d) 
 
     module _ (room : roomOf (callFor start before (ask (runBetween from to) b rest)) ≡ true) where
       -- what the definition answers
-      told : calls.call d (callOf k q) (world before) .answer ≡ calls.giveRun best
-      unfolding callOf queryOf roomOf calls.call calls.onAsk calls.tell calls.answerTo
+      told : outcomeTo d start before q .answer ≡ calls.giveRun best
+      unfolding queryOf calls.answerTo
       told =
-          pick-no _ _ (ap not room)
+          asked-answer d start a before (runBetween from to) b rest room
           ∙ ap (λ (ls : List ℕ). calls.giveRun (bestRun (potential d (noteAll d ls)) (d .edges) (d .vertices) (vertexGiven from) (vertexGiven to)))
           (lists.standing-after d start a pr before)
 
-      whole : Whole k q (calls.call d (callOf k q) (world before))
-      whole = lists.condition-1 d start a .answers before q
+      said : (x : calls.Answer) → outcomeTo d start before q .answer ≡ x → reply k q .answer ≡ answerFor x 0
+      said = answer-is d start a before (runBetween from to) b rest
 
-      none-handed : calls.call d (callOf k q) (world before) .handed ≡ []
-      unfolding callOf calls.call calls.onAsk calls.tell
-      none-handed = refl
-
-      answer-is : (x : calls.Answer) → calls.call d (callOf k q) (world before) .answer ≡ x → reply k q .answer ≡ answerFor x 0
-      unfolding answerOf
-      answer-is x h =
-          whole .answer ∙ ap (λ (y : calls.Answer). answerFor y (length (calls.call d (callOf k q) (world before) .handed))) h
-          ∙ ap (λ (l : List ℕ). answerFor x (length l)) none-handed
-
-      buffer-is : (x : calls.Answer) → calls.call d (callOf k q) (world before) .answer ≡ x → reply k q .list ≡ sets b 0 (writtenBy x [])
-      unfolding lentList
-      buffer-is x h =
-          whole .list ∙ ap (λ (y : calls.Answer). sets b 0 (writtenBy y (calls.call d (callOf k q) (world before) .handed))) h
-          ∙ ap (λ (l : List ℕ). sets b 0 (writtenBy x l)) none-handed
+      wrote : (x : calls.Answer) → outcomeTo d start before q .answer ≡ x → reply k q .list ≡ sets b 0 (writtenBy x [])
+      wrote = buffer-is d start a before (runBetween from to) b rest
 
       -- the buffer is as long as 7 asks
       buffer-long : edgesOf (k .state .plan) + 2 * verticesOf (k .state .plan) + 4 ≤ length b
@@ -143,8 +127,8 @@ module _ (d : Plan) (start : Kept) (a : At d start calls.built) (pr : Proper d) 
             to-is = given-vertex to (d .vertices) (pr .fine .vertices) (i .to);
             edges = gs;
             best = i .best;
-            answer = answer-is (calls.foundRun gs) h;
-            buffer = buffer-is (calls.foundRun gs) h;
+            answer = said (calls.foundRun gs) h;
+            buffer = wrote (calls.foundRun gs) h;
             few = i .few;
             fits = omega (arith, i .few, buffer-long, vertices-are);
           }
@@ -172,9 +156,9 @@ module _ (d : Plan) (start : Kept) (a : At d start calls.built) (pr : Proper d) 
 
       refused-by : (x : List (List ℕ)) → best ≡ x → (numberOf (reply k q .answer) ≡ 18 → NoRun d e from to) × (NoRun d e from to → numberOf (reply k q .answer) ≡ 18)
       unfolding answerFor numberOf calls.giveRun
-      refused-by [] x = (λ _. no-run x, λ _. ap numberOf (answer-is (calls.refused 18) (told ∙ ap calls.giveRun x)))
+      refused-by [] x = (λ _. no-run x, λ _. ap numberOf (said (calls.refused 18) (told ∙ ap calls.giveRun x)))
       refused-by (gs ∷ more) x = (
-        λ h. let z : _≡_ {A = ℕ} 0 18 = sym (ap numberOf (answer-is (calls.foundRun gs) (told ∙ ap calls.giveRun x))) ∙ h in absurd (omega arith),
+        λ h. let z : _≡_ {A = ℕ} 0 18 = sym (ap numberOf (said (calls.foundRun gs) (told ∙ ap calls.giveRun x))) ∙ h in absurd (omega arith),
         λ n. absurd (run-there n gs more x),
       )
 
@@ -188,13 +172,12 @@ module _ (d : Plan) (start : Kept) (a : At d start calls.built) (pr : Proper d) 
     unfolding answerFor writtenBy calls.giveRun
     equal-run =
         let x = told before (pos p) (pos p) b rest room ∙ ap calls.giveRun at-once in
-        (answer-is before (pos p) (pos p) b rest room (calls.foundRun []) x, buffer-is before (pos p) (pos p) b rest room (calls.foundRun []) x)
+        (said before (pos p) (pos p) b rest room (calls.foundRun []) x, wrote before (pos p) (pos p) b rest room (calls.foundRun []) x)
 
   pub runs-between : RunsBetween start d
-  unfolding reply repliedFetched
   runs-between = record {
     given = λ before from to b rest room n. given-by before from to b rest room _ refl n;
     refused = λ before from to b rest room. refused-by before from to b rest room _ refl;
     equal = equal-run;
-    quiet = λ before from to b rest. (refl, refl, refl);
+    quiet = λ before from to b rest. asked-quiet d start a before (runBetween from to) b rest;
   }

@@ -22,10 +22,12 @@ use Rattle.claims.specs.Whole.{writtenOf}
 use Rattle.claims.specs.Conditions.{builtStart, builtPlan, replyTo, outcomeTo, Condition1, Condition2, Condition3}
 use Rattle.claims.specs.Runs.{RunsBetween}
 use Rattle.claims.specs.Crossed.{CrossedConflicts}
+use Rattle.claims.specs.Pages.{Pages}
 use Rattle.claims.proofs.Replying.{At}
 use Rattle.claims.proofs.Lists as lists
 use Rattle.claims.proofs.Between as between
 use Rattle.claims.proofs.Crossed as crossed
+use Rattle.claims.proofs.Pages as paged
 
 module _ (vs : List ℤ) (n : ℕ) (es : List ℤ) (m : ℕ) (sameSize extraWalls : Bool) (z : built vs n es m sameSize extraWalls .refusal ≡ 0) where
   at-start : At (builtPlan vs n es m sameSize extraWalls) (builtStart vs n es m sameSize extraWalls) calls.built
@@ -57,19 +59,26 @@ module _ (vs : List ℤ) (n : ℕ) (es : List ℤ) (m : ℕ) (sameSize extraWall
   pub crossed-conflicts : CrossedConflicts (builtStart vs n es m sameSize extraWalls) (builtPlan vs n es m sameSize extraWalls)
   crossed-conflicts = crossed.crossed-conflicts _ _ at-start proper-built
 
+  -- document 02, request 3
+  pub pages : Pages (builtStart vs n es m sameSize extraWalls) (builtPlan vs n es m sameSize extraWalls)
+  pages = paged.pages _ _ at-start proper-built
+
   -- "Verdicts turned away": a call's refusal has a number of that table
   pub refusal-range : (before : List Request) (q : Request) (m′ : ℕ) →
-      replyTo (builtStart vs n es m sameSize extraWalls) before q .answer ≡ Refused m′ → (0 < m′) × (m′ ≤ 18)
+      replyTo (builtStart vs n es m sameSize extraWalls) before q .answer ≡ Refused m′ → (0 < m′) × (m′ ≤ 19)
   refusal-range = lists.refusal-range _ _ at-start
 
-  -- what a call writes, literals handed on, a list fetched or the edges of a run, is the plan's: "Literals run from 0 to 8191."
+  -- what a call writes, literals handed on, a list fetched or the edges of a run, is the plan's: "Literals run from 0 to
+  -- 8191." A page's are bytes.
   pub written-small : (before : List Request) (q : Request) (l : ℕ) →
       let o = outcomeTo (builtPlan vs n es m sameSize extraWalls) (builtStart vs n es m sameSize extraWalls) before q in
       In (writtenOf o) l → l ≤ 8191
   unfolding built
   written-small before q l i =
       let p = new-proper vs n es m sameSize extraWalls z .0 in
-      ⊎-elim (λ k. known-small _ _ p l (known-is _ _ p l ∙ k)) (λ (h : l < builtPlan vs n es m sameSize extraWalls .edges). omega (arith, h, proper-built .fine .fits))
+      ⊎-elim (λ k. known-small _ _ p l (known-is _ _ p l ∙ k))
+      (λ other. ⊎-elim (λ (h : l < builtPlan vs n es m sameSize extraWalls .edges). omega (arith, h, proper-built .fine .fits))
+      (λ (h : l < 256). omega (arith, h)) other)
       (lists.written-known _ _ at-start proper-built before q l i)
 
 -- "Both options off, on any plan that builds"

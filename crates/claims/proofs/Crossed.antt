@@ -10,7 +10,7 @@ use Rattle.division.specs.Crossed.{CrossedPair}
 use Rattle.calls.specs.Calls as calls
 use Rattle.calls.specs.Refusals.{Stops, AppliesTo, Applies}
 use Rattle.calls.specs.Crossed.{CrossedAnswer}
-use Rattle.calls.proofs.Queries.{isRun}
+use Rattle.calls.proofs.Queries.{ofGraph}
 use Rattle.calls.proofs.Claim.{last-given}
 use Rattle.calls.proofs.Crossed.{crossed-answer}
 use Rattle.graph_division.specs.declared.Answer.the-variants.{Conflict}
@@ -30,6 +30,7 @@ query-not (AppliesTo.pathGone l r e g) z = omega arith
 query-not (AppliesTo.noRun p q n) z = omega arith
 query-not (AppliesTo.unknownFrom p q n) z = omega arith
 query-not (AppliesTo.unknownTo p q n) z = omega arith
+query-not (AppliesTo.pageShort len rs l h) z = omega arith
 
 stops-not : {d : Plan} {ls t : List ℕ} {n : ℕ} → Stops d ls t n → n ≡ 12 → ⊥
 stops-not (Stops.at13 x) z = omega arith
@@ -64,7 +65,7 @@ module _ (D : Plan) (start : Kept) (a : At D start calls.built) (proper : Proper
 
     listed : (b rest : List ℕ) → accepted (askedThen start before q lastLeft b rest .answer) ≡ true →
         CrossedPair D ms (literalsOf (askedThen start before q lastLeft b rest))
-    unfolding callOf queryOf isRun
+    unfolding callOf queryOf ofGraph
     listed b rest e =
         let k = after start before in
         let na = next-at D k (worldAfter D start before) (lists.at D start a before) q in

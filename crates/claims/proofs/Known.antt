@@ -2,22 +2,22 @@
 -- that a fetch gives has none but the plan's literals.
 use mathlib.Core.Path.{_≡_, refl, sym, ap, subst, _∙_}
 use mathlib.Core.Logic.{_⊎_, ⊎-elim}
-use mathlib.Core.Bool.{Bool, true, false, not, _&&_, _||_, true≢false, false≢true}
+use mathlib.Core.Bool.{true, false, _&&_, _||_}
 use mathlib.Core.List.{List, [], _∷_, _++_, List·Memᴰ·head, List·Memᴰ·tail, List·Memᴰ·not-nil}
 use Prim.Native.Nat.{ℕ, pred, _/_}
+use native.Mathlib.Omega.{arith}
 use lib.Dec.{eqb}
 use Rattle.base.specs.Lists.{Every, none, more, some}
 use Rattle.base.proofs.Lists.{every-map, every-append}
-use Rattle.base.proofs.Loop.{pick-no, pick-ind}
+use Rattle.base.proofs.Loop.{pick-no}
 use Rattle.base.proofs.Tests.{and-left}
 use Rattle.sat.specs.Literal.{negate}
 use Rattle.sat.proofs.Literal.{variable-negate}
 use Rattle.division.specs.Plan.{Plan, Proper}
-use Rattle.division.specs.State.{State, potential}
+use Rattle.division.specs.State.{State}
 use Rattle.division.specs.Reasons.{Reason}
 use Rattle.division.specs.Analysis.{Proposal, Each, nothing, also}
 use Rattle.division.specs.Noting.{noteAll, In, Consistent}
-use Rattle.runs.specs.Walk.{bestRun}
 use Rattle.division.specs.Runs.{analysis, fetched, reasonOf, Justifies, look, start}
 use Rattle.division.specs.Noted.{Noted}
 use Rattle.division.proofs.Noting.{noted-all}
@@ -26,16 +26,18 @@ use Rattle.division.specs.Proposed.{Proposes, ruleInGroup, ruleBetween, ruleToo
 use Rattle.division.proofs.Whole.{each-found, reason-there, reasons, conflicts}
 use Rattle.calls.specs.Table.{knows, trueIn, entered}
 use Rattle.calls.specs.Look.{Looked, looked, listFor, falseList, stop, clashes, offered}
-use Rattle.calls.specs.Calls.{World, built, Query, reasonFor, lastLeft, runBetween, Call, ask, Answer, consistent, reason, Outcome, refuse, taken, adding, noting, settledBy, giveRun, answerTo, tell, onAsk, Going, joinBy, lastBy, finishBy, entry, call, after, run, answerList}
+use Rattle.calls.specs.Calls.{World, built, Query, reasonFor, lastLeft, runBetween, page, Call, ask, consistent, reason, Outcome, refuse, taken}
+use Rattle.calls.specs.Calls.{adding, noting, settledBy, tell, onAsk, Going, joinBy, lastBy, finishBy, entry, call, after, run}
 use Rattle.calls.specs.Truths.{recordedIn}
 use Rattle.calls.proofs.Claim.{last-given}
-use Rattle.calls.proofs.Queries.{answerKind, isReason}
-use Rattle.calls.proofs.Order.{swept-every}
+use Rattle.calls.proofs.Queries.{answerKind}
+use Rattle.calls.proofs.Rising.{swept-every}
 use Rattle.calls.proofs.Fetchable.{each-append, each-map, good, run-explained, is-known}
 use Rattle.calls.proofs.Looks.{first-in, offer-in, halted, saw-records}
 use Rattle.calls.proofs.Stands.{add-consistent, call-consistent, not-halted, clash-on, fine-on}
 use Rattle.calls.proofs.Truths.{fetched-walked}
 use Rattle.calls.proofs.View.{Saw, sawStop, sawConflict, sawFalse, sawFine, saw, Steps, Did, did}
+use Rattle.claims.proofs.Asked.{givenKind, call-asked}
 
 -- the negation of a literal is known where it is
 known-negated : (d : Plan) (l : ℕ) → knows d (negate l) ≡ knows d l
@@ -169,41 +171,20 @@ module _ (d : Plan) (k : Proper d) where
     abbrev w : World
     w = run d before
 
-    -- a run is no reason
-    run-no-reason : (x : List (List ℕ)) (ls : List ℕ) → isReason (giveRun x) ≡ true → ⊥
-    unfolding giveRun answerKind
-    run-no-reason [] ls e = false≢true e
-    run-no-reason (gs ∷ rest) ls e = false≢true e
-
-    run-given : (room : Bool) (p q : ℕ) {ls : List ℕ} → call d (ask room (runBetween p q)) w .answer ≡ reason ls →
-        isReason (giveRun (bestRun (potential d (noteAll d (w .standing))) (d .edges) (d .vertices) p q)) ≡ true
-    unfolding call onAsk tell answerTo answerKind
-    run-given room p q e =
-        pick-ind (λ (a : Answer). isReason a ≡ true → isReason (giveRun (bestRun (potential d (noteAll d (w .standing))) (d .edges) (d .vertices) p q)) ≡ true) (not room) _ _
-        (λ _ z. absurd (false≢true z)) (λ _ z. z) (ap isReason e)
-
-    asked-known : (room : Bool) (q : Query) (ls : List ℕ) → call d (ask room q) w .answer ≡ reason ls → Every Known ls
-    asked-known room (reasonFor l) ls e =
+    asked-known : (q : Query) (ls : List ℕ) → givenKind q ≡ 5 → call d (ask true q) w .answer ≡ reason ls → Every Known ls
+    unfolding givenKind
+    asked-known (reasonFor l) ls z e =
         let x = run-known before in
-        let (r, f, g) = fetched-walked d k before room l ls e in
+        let (r, f, g) = fetched-walked d k before true l ls e in
         let h = each-found l r (w .reasons) (x .reasons) f in
         every-map (λ y z. ⊎-elim (λ i. in-every (w .standing) (x .standing) y i) (λ i. in-every (recordedIn d r) h y i) z) g
-    asked-known room lastLeft ls e = subst (Every Known) (last-given d w room ls e) (run-known before .last)
-    asked-known room (runBetween p q) ls e = absurd (run-no-reason _ ls (run-given room p q e))
+    asked-known lastLeft ls z e = subst (Every Known) (last-given d w true ls e) (run-known before .last)
+    asked-known (runBetween p q) ls z e = absurd (omega arith)
+    asked-known (page len) ls z e = absurd (omega arith)
 
     -- no other call gives one
-    did-reason : {c : Call} {o : Outcome} → Did d w c o → (ls : List ℕ) → o .answer ≡ reason ls → Every Known ls
-    unfolding answerKind refuse settledBy tell lastBy finishBy call onAsk
-    did-reason (Did.away c n) ls e = absurd (false≢true (ap isReason e))
-    did-reason (Did.added room t l p f t′ kn) ls e = absurd (false≢true (ap isReason e))
-    did-reason (Did.agreed room t l p pf o u f q bt kn) ls e = absurd (false≢true (ap isReason e))
-    did-reason (Did.clashed room t l p pf o u f q bt kn) ls e = absurd (false≢true (ap isReason e))
-    did-reason (Did.took room l y ys u) ls e = absurd (false≢true (ap isReason e))
-    did-reason (Did.asked room q) ls e = asked-known true q ls (pick-no _ _ refl ∙ e)
-    did-reason (Did.began room t a s j v bt) ls e = absurd (false≢true (ap isReason e))
-    did-reason (Did.beganLast room t a s j c v bt) ls e = absurd (false≢true (ap isReason e))
-    did-reason (Did.beganClash room t a s j bt) ls e = absurd (false≢true (ap isReason e))
-
     pub reason-known : (c : Call) (ls : List ℕ) → call d c w .answer ≡ reason ls → (x : ℕ) → In ls x → knows d x ≡ true
-    unfolding Known
-    reason-known c ls e = in-every ls (did-reason (did d w c) ls e)
+    unfolding Known answerKind call onAsk tell
+    reason-known c ls e =
+        let a = call-asked d w c (reason ls) e (omega arith) in
+        in-every ls (asked-known (a .query) ls (a .kind) (pick-no _ _ refl ∙ a .answer))

@@ -2,9 +2,13 @@ pub mod Replying
 pub mod Refusing
 pub mod Past
 pub mod OneAnswer
+pub mod Asked
 pub mod Known
 pub mod Runs
+pub mod Printed
 pub mod Lists
+pub mod Asking
 pub mod Between
 pub mod Crossed
+pub mod Pages
 pub mod Built

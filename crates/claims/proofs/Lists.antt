@@ -31,7 +31,7 @@ use Rattle.calls.specs.Truths.{Walked, Backed}
 use Rattle.calls.specs.Claim as claim
 use Rattle.calls.specs.Claim.{Covers}
 use Rattle.calls.proofs.Marks.{call-marked}
-use Rattle.calls.proofs.Queries.{isRun}
+use Rattle.calls.proofs.Queries.{ofGraph}
 use Rattle.calls.proofs.Refusals.{refusals, acceptances}
 use Rattle.calls.proofs.Claim.{last-given, condition-3}
 use Rattle.calls.proofs.Count.{known-below}
@@ -41,7 +41,7 @@ use Rattle.calls.proofs.View.{Did, away, added, agreed, clashed, took, asked, b
 use Rattle.calls.proofs.Stands.{stands-from-calls, run-consistent, call-consistent}
 use Rattle.calls.proofs.Truths.{conflict-backed, fetched-walked, recorded-stood}
 use Rattle.graph_division.specs.declared.Answer.{Answer}
-use Rattle.graph_division.specs.declared.Answer.the-variants.{Consistent, Conflict, Noted, Undone, Reason, Run, Refused}
+use Rattle.graph_division.specs.declared.Answer.the-variants.{Consistent, Conflict, Noted, Undone, Reason, Run, Page, Refused}
 use Rattle.graph_division.specs.Answers.{numberOf, isConsistent}
 use Rattle.graph_division.specs.Runs.{Query, reasonFor, lastLeft, Request, initialize, propagate, undo, ask, tableOf, roomFor, queryOf, Kept, logFor, Reply, reply, keeping, after, callOf, callsOf}
 use Rattle.claims.specs.Whole.{literalsOf, writtenBy, writtenOf}
@@ -53,6 +53,7 @@ use Rattle.claims.proofs.Refusing.{refused-unchanged}
 use Rattle.claims.proofs.Replying.{conflict-back, refused-range, refused-is, accepted-is, consistent-is, At, at-proper, reply-at, next-at, after-at}
 use Rattle.claims.proofs.Known.{reason-known}
 use Rattle.claims.proofs.Runs.{found-edges}
+use Rattle.claims.proofs.Printed.{printed-bytes}
 use Rattle.claims.proofs.OneAnswer.{table-same, ask-told, one-answer, consistent-literals, reason-literals}
 
 -- ---- a literal that the table shows as handed on is one of those that the definition hands on
@@ -138,13 +139,15 @@ refused-number Noted n h e = absurd (omega arith)
 refused-number Undone n h e = absurd (omega arith)
 refused-number (Reason m) n h e = absurd (omega arith)
 refused-number (Run m) n h e = absurd (omega arith)
+refused-number (Page m) n h e = absurd (omega arith)
 refused-number (Refused m) n h e = ap Refused e
 
--- ---- what is written is what is handed on, or the reason's, or the run's
+-- ---- what is written is what is handed on, or the reason's, the run's or the page's
 data WrittenIn (a : calls.Answer) (h : List ℕ) (l : ℕ) : Type 0 where
   byHand : In h l → WrittenIn a h l
   byReason : (ls : List ℕ) → a ≡ calls.reason ls → In ls l → WrittenIn a h l
   byRun : (gs : List ℕ) → a ≡ calls.foundRun gs → In gs l → WrittenIn a h l
+  byPage : (bs : List ℕ) → a ≡ calls.printedPage bs → In bs l → WrittenIn a h l
 
 written-in : (a : calls.Answer) (h : List ℕ) (l : ℕ) → In (writtenBy a h) l → WrittenIn a h l
 unfolding writtenBy
@@ -155,6 +158,7 @@ written-in calls.undone h l m = byHand m
 written-in (calls.refused n) h l m = byHand m
 written-in (calls.reason ls) h l m = byReason ls refl m
 written-in (calls.foundRun gs) h l m = byRun gs refl m
+written-in (calls.printedPage bs) h l m = byPage bs refl m
 
 -- ---- the requests as calls
 counts-same : (d : Plan) (k : Kept) (q : Request) (ls : List ℕ) → counts d q ls ≡ claim.counts d (callOf k q) ls
@@ -200,7 +204,7 @@ module _ (D : Plan) where
   all-quiet k w a (next {q = q} x xs) = claim.next (quiet k w a x) (all-quiet (keeping (reply k q)) _ (next-at D k w a q) xs)
 
   -- ---- a fetch that is accepted gives what the definition's does
-  pub ask-back : (k : Kept) (w : World) → At D k w → (q : Query) (b rest : List ℕ) → isRun (queryOf q (length b)) ≡ false → accepted (reply k (ask q b rest) .answer) ≡ true →
+  pub ask-back : (k : Kept) (w : World) → At D k w → (q : Query) (b rest : List ℕ) → ofGraph (queryOf q (length b)) ≡ false → accepted (reply k (ask q b rest) .answer) ≡ true →
       calls.call D (callOf k (ask q b rest)) w .answer ≡ calls.reason (literalsOf (reply k (ask q b rest)))
   unfolding callOf
   ask-back k w a q b rest r e =
@@ -228,7 +232,7 @@ module _ (D : Plan) where
     accepted-as before q = ap accepted (answer-of before q) ∙ accepted-is D (at-proper D start calls.built a) (world before) (callOf (after start before) q)
 
     -- a refusal's number is one of the table's
-    pub refusal-range : (before : List Request) (q : Request) (m : ℕ) → reply (after start before) q .answer ≡ Refused m → (0 < m) × (m ≤ 18)
+    pub refusal-range : (before : List Request) (q : Request) (m : ℕ) → reply (after start before) q .answer ≡ Refused m → (0 < m) × (m ≤ 19)
     refusal-range before q m e = refused-range D (at-proper D start calls.built a) (world before) (callOf (after start before) q) m (sym (answer-of before q) ∙ e)
 
     pub condition-1 : Condition1 start D
@@ -270,17 +274,22 @@ module _ (D : Plan) where
           let y : Explains D (noteAll D (v .standing)) l r = each-found l r (x .recent) (run-explained D proper (x .run) (v .standing) g (λ _ z. z)) e in
           is-known D proper (noteAll D (v .standing)) l r y
 
-      -- and so is every literal that a call writes, and every edge
-      pub written-known : (before : List Request) (q : Request) (l : ℕ) → In (writtenOf (outcome before q)) l → (knows D l ≡ true) ⊎ (l < D .edges)
+      -- and so is every literal that a call writes, and every edge; a page is of bytes
+      pub written-known : (before : List Request) (q : Request) (l : ℕ) → In (writtenOf (outcome before q)) l →
+          (knows D l ≡ true) ⊎ ((l < D .edges) ⊎ (l < 256))
       written-known before q l m = by (written-in (o .answer) (o .handed) l m)
         where
           o : calls.Outcome
           o = outcome before q
 
-          by : WrittenIn (o .answer) (o .handed) l → (knows D l ≡ true) ⊎ (l < D .edges)
+          c : calls.Call
+          c = callOf (after start before) q
+
+          by : WrittenIn (o .answer) (o .handed) l → (knows D l ≡ true) ⊎ ((l < D .edges) ⊎ (l < 256))
           by (byHand i) = inl (handed-known before q l i)
-          by (byReason ls e i) = inl (reason-known D proper (callsOf start before) (callOf (after start before) q) ls e l i)
-          by (byRun gs e i) = inr (found-edges D proper (world before) (callOf (after start before) q) gs e l i)
+          by (byReason ls e i) = inl (reason-known D proper (callsOf start before) c ls e l i)
+          by (byRun gs e i) = inr (inl (found-edges D proper (world before) c gs e l i))
+          by (byPage bs e i) = inr (inr (printed-bytes D (world before) c bs e l i))
 
       handed-shown : (before : List Request) (q : Request) (l : ℕ) → In (outcome before q .handed) l → HandsOn (after start before) q l
       handed-shown before q l m =
@@ -319,7 +328,7 @@ module _ (D : Plan) where
             )
 
       pub condition-2 : Condition2 start D
-      unfolding callOf queryOf isRun
+      unfolding callOf queryOf ofGraph
       condition-2 = record {
         handed = λ before q e.
             consistent-literals D (after start before) (world before) (at before) q (consistent-is (outcome before q) .0 (ap isConsistent (sym (answer-of before q)) ∙ e));
@@ -380,7 +389,7 @@ module _ (D : Plan) where
               )
 
         pub condition-three : Condition3 start D
-        unfolding callOf queryOf calls.call isRun
+        unfolding callOf queryOf calls.call ofGraph
         condition-three = record {
           conflicts = λ before q b rest e f σ v h.
               let k = after start before in

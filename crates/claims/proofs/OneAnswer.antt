@@ -18,7 +18,7 @@ use Rattle.calls.specs.Marks.{Marked}
 use Rattle.calls.specs.Refusals.{roomOf, Applies}
 use Rattle.calls.proofs.Marks.{call-marked}
 use Rattle.calls.proofs.Refusals.{acceptances}
-use Rattle.calls.proofs.Queries.{not-false, isRun, Answered, denied, given, found, answer-judged}
+use Rattle.calls.proofs.Queries.{not-false, ofGraph, Answered, denied, given, found, printed, answer-judged}
 use Rattle.calls.proofs.View.{Did, away, added, agreed, clashed, took, asked, began, beganLast, beganClash, did}
 use Rattle.graph_division.specs.Answers.{numberOf, valuesOf}
 use Rattle.graph_division.specs.Outcomes.{answerFor, answerOf}
@@ -67,6 +67,7 @@ list-written calls.undone = refl
 list-written (calls.refused n) = refl
 list-written (calls.reason ls) = refl
 list-written (calls.foundRun gs) = refl
+list-written (calls.printedPage bs) = refl
 
 did-written : (d : Plan) (w : World) {c : calls.Call} {o : calls.Outcome} → Did d w c o → writtenTo c o ≡ writtenOf o
 unfolding writtenTo writtenBy calls.refuse calls.settledBy calls.tell calls.lastBy calls.finishBy
@@ -91,6 +92,7 @@ values-for calls.undone h l e = refl
 values-for (calls.refused n) h l e = refl
 values-for (calls.reason ls) h l e = e ∙ sym (take-length ls)
 values-for (calls.foundRun gs) h l e = e ∙ sym (take-length gs)
+values-for (calls.printedPage bs) h l e = e ∙ sym (take-length bs)
 
 consistent-values : (a : calls.Answer) (h : List ℕ) → a ≡ calls.consistent → valuesOf (answerFor a (length h)) (writtenBy a h) ≡ h
 unfolding valuesOf answerFor writtenBy
@@ -105,13 +107,14 @@ unfolding valuesOf answerFor writtenBy
 run-values a h gs e = ap (λ (x : calls.Answer). valuesOf (answerFor x (length h)) (writtenBy x h)) e ∙ take-length gs
 
 -- a fetch that is accepted gives a list
-told : (d : Plan) (w : World) (q : calls.Query) {a : calls.Answer} → isRun q ≡ false → Answered d w q a → calls.accepted a ≡ true → a ≡ calls.reason (answerList a)
+told : (d : Plan) (w : World) (q : calls.Query) {a : calls.Answer} → ofGraph q ≡ false → Answered d w q a → calls.accepted a ≡ true → a ≡ calls.reason (answerList a)
 unfolding calls.accepted answerList
 told d w q r (denied n e x f) t = absurd (false≢true (sym (ap calls.accepted e) ∙ t))
 told d w q {a} r (given list e f) t = e ∙ ap calls.reason (sym (ap answerList e))
 told d w q r (found gs s e f) t = absurd (false≢true (sym r ∙ s))
+told d w q r (printed bs s e f) t = absurd (false≢true (sym r ∙ s))
 
-pub ask-told : (d : Plan) (w : World) (room : Bool) (q : calls.Query) → isRun q ≡ false →
+pub ask-told : (d : Plan) (w : World) (room : Bool) (q : calls.Query) → ofGraph q ≡ false →
     let a = calls.call d (calls.ask room q) w .answer in
     calls.accepted a ≡ true → a ≡ calls.reason (answerList a)
 unfolding calls.call calls.onAsk calls.tell calls.accepted

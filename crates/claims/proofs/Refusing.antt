@@ -14,6 +14,8 @@ use Rattle.walks.specs.Written.{outOf}
 use Rattle.walks.specs.Answers as walks
 use Rattle.walks.specs.Answers.{given, missing}
 use Rattle.runs.specs.Walk.{listed, runListed}
+use Rattle.pages.specs.Lines as pages
+use Rattle.pages.specs.Lines.{Figures, printedIn}
 use Rattle.walks.specs.declared.Listed.{Listed}
 use Rattle.walks.specs.declared.Listed.the-variants.{Past, Missing}
 use Rattle.noting.specs.Buffers.{tableBad, listShort, reasonShort}
@@ -24,10 +26,11 @@ use Rattle.judge.specs.Judge.{Judged}
 use Rattle.notifications.specs.declared.Progress.{Progress}
 use Rattle.graph_division.specs.declared.Outcome.{Outcome}
 use Rattle.graph_division.specs.declared.Answer.{Answer}
-use Rattle.graph_division.specs.declared.Answer.the-variants.{Consistent, Conflict, Noted, Undone, Reason, Run, Refused}
+use Rattle.graph_division.specs.declared.Answer.the-variants.{Consistent, Conflict, Noted, Undone, Reason, Run, Page, Refused}
 use Rattle.graph_division.specs.Calls.{Called, called, refuse, adding, accepting, handingOn, settledBy, settled, propagated, undone, Fetched, fetched, copied, reasonGiven, isNone, listFor, recordedFor, giving, reasonFetched, lastFetched, runAnswer, bestListed, runFetched}
+use Rattle.graph_division.specs.Calls.{pageAnswer, figuresIn, pagePrinted, pageFetched}
 use Rattle.graph_division.specs.Initialize.{taking, takenOver, endedBy, begun, initialized}
-use Rattle.graph_division.specs.Runs.{Query, reasonFor, lastLeft, runBetween, Request, initialize, propagate, undo, ask, tableOf, lentList, tailOf, Kept, logFor, Reply, replied, repliedCalled, repliedFetched, asked, reply}
+use Rattle.graph_division.specs.Runs.{Query, reasonFor, lastLeft, runBetween, page, Request, initialize, propagate, undo, ask, tableOf, lentList, tailOf, Kept, logFor, Reply, replied, repliedCalled, repliedFetched, asked, reply}
 use Rattle.claims.specs.Conditions.{turnedAwayWith}
 use Rattle.claims.proofs.Replying.{kindOf, amountOf}
 
@@ -111,8 +114,19 @@ module _ (k : Kept) where
       pick-ind (λ (a : walks.Answer). Unchanged k (ask q b tail) (repliedFetched k (logFor k tail) (fetched (runAnswer (a .listed)) (a .text)))) _ _ _
       (λ _. listed-unchanged q b tail _) (λ _. away k (ask q b tail) 18 _ refl)
 
+  -- where there is no room for the page the buffer stays
+  printed-unchanged : (q : Query) (t : Figures) (n : ℕ) (b tail : List ℕ) →
+      Unchanged k (ask q b tail) (repliedFetched k (logFor k tail) (pagePrinted (printedIn t n b)))
+  unfolding pagePrinted printedIn repliedFetched replied refuse turnedAwayWith tableOf lentList tailOf kindOf
+  printed-unchanged q t n b tail =
+      let q = ask q b tail in
+      pick-ind (λ (x : pages.PageBuffer). Unchanged k q (repliedFetched k (logFor k tail) (pagePrinted x))) _ _ _
+      (λ _. away k q 7 _ refl)
+      (λ _. pick-ind (λ (x : pages.PageBuffer). Unchanged k q (repliedFetched k (logFor k tail) (pagePrinted x))) _ _ _
+      (λ _. away k q 19 _ refl) (λ _. other k q _ (Page _) refl (λ e. omega arith)))
+
   refused-ask : (q : Query) (b tail : List ℕ) → Unchanged k (ask q b tail) (reply k (ask q b tail))
-  unfolding reply asked reasonFetched giving lastFetched runFetched turnedAwayWith tableOf lentList tailOf repliedFetched replied refuse kindOf
+  unfolding reply asked reasonFetched giving lastFetched runFetched pageFetched turnedAwayWith tableOf lentList tailOf repliedFetched replied refuse kindOf
   refused-ask (reasonFor lit) b tail =
       let q = ask (reasonFor lit) b tail in
       by-fetch k q _ _ _ _
@@ -124,6 +138,7 @@ module _ (k : Kept) where
   refused-ask (runBetween from to) b tail =
       let q = ask (runBetween from to) b tail in
       by-fetch k q _ _ _ _ (run-unchanged (runBetween from to) from to b tail) (away k q _ _ refl)
+  refused-ask page b tail = by-fetch k (ask page b tail) _ _ _ _ (away k (ask page b tail) 7 _ refl) (printed-unchanged page _ _ b tail)
 
   -- a call that is refused leaves the state, the cursor and all that it was lent
   pub refused-unchanged : (q : Request) (n : ℕ) → reply k q .answer ≡ Refused n → reply k q ≡ turnedAwayWith k q n

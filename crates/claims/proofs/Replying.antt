@@ -16,7 +16,7 @@ use Rattle.calls.specs.Calls.{World}
 use Rattle.calls.specs.Refusals.{Stops, AppliesTo, Applies}
 use Rattle.calls.proofs.Refusals.{refusals}
 use Rattle.graph_division.specs.declared.Answer.{Answer}
-use Rattle.graph_division.specs.declared.Answer.the-variants.{Consistent, Conflict, Noted, Undone, Reason, Run, Refused}
+use Rattle.graph_division.specs.declared.Answer.the-variants.{Consistent, Conflict, Noted, Undone, Reason, Run, Page, Refused}
 use Rattle.graph_division.specs.Answers.{numberOf, isConsistent}
 use Rattle.graph_division.specs.Runs.{Request, Kept, Reply, reply, keeping, after, callOf, callsOf}
 use Rattle.claims.specs.Conditions.{accepted}
@@ -33,6 +33,7 @@ kindOf Noted = 2
 kindOf Undone = 3
 kindOf (Reason n) = 4
 kindOf (Run n) = 6
+kindOf (Page n) = 7
 kindOf (Refused n) = 5
 
 unfoldable pub amountOf : Answer → ℕ
@@ -42,6 +43,7 @@ amountOf Noted = 0
 amountOf Undone = 0
 amountOf (Reason n) = n
 amountOf (Run n) = n
+amountOf (Page n) = n
 amountOf (Refused n) = n
 
 conflict-for : (a : calls.Answer) (n : ℕ) → answerFor a n ≡ Conflict → a ≡ calls.conflicting
@@ -53,6 +55,7 @@ conflict-for calls.undone n e = let z : _≡_ {A = ℕ} 3 1 = ap kindOf e in abs
 conflict-for (calls.refused m) n e = let z : _≡_ {A = ℕ} 5 1 = ap kindOf e in absurd (omega arith)
 conflict-for (calls.reason ls) n e = let z : _≡_ {A = ℕ} 4 1 = ap kindOf e in absurd (omega arith)
 conflict-for (calls.foundRun gs) n e = let z : _≡_ {A = ℕ} 6 1 = ap kindOf e in absurd (omega arith)
+conflict-for (calls.printedPage bs) n e = let z : _≡_ {A = ℕ} 7 1 = ap kindOf e in absurd (omega arith)
 
 refused-to : (a : calls.Answer) (n m : ℕ) → 0 < m → numberOf (answerFor a n) ≡ m → a ≡ calls.refused m
 unfolding answerFor numberOf
@@ -63,6 +66,7 @@ refused-to calls.undone n m h e = absurd (omega arith)
 refused-to (calls.refused k) n m h e = ap calls.refused e
 refused-to (calls.reason ls) n m h e = absurd (omega arith)
 refused-to (calls.foundRun gs) n m h e = absurd (omega arith)
+refused-to (calls.printedPage bs) n m h e = absurd (omega arith)
 
 consistent-to : (a : calls.Answer) (n : ℕ) → isConsistent (answerFor a n) ≡ true → a ≡ calls.consistent
 unfolding answerFor
@@ -73,21 +77,23 @@ consistent-to calls.undone n e = absurd (false≢true e)
 consistent-to (calls.refused m) n e = absurd (false≢true e)
 consistent-to (calls.reason ls) n e = absurd (false≢true e)
 consistent-to (calls.foundRun gs) n e = absurd (false≢true e)
+consistent-to (calls.printedPage bs) n e = absurd (false≢true e)
 
 -- a refusal's number is one of the table's, and never 0
-query-range : {d : Plan} {w : World} {q : calls.Query} {n : ℕ} → AppliesTo d w q n → (0 < n) × (n ≤ 18)
+query-range : {d : Plan} {w : World} {q : calls.Query} {n : ℕ} → AppliesTo d w q n → (0 < n) × (n ≤ 19)
 query-range (AppliesTo.unknownReason l k) = (omega arith, omega arith)
 query-range (AppliesTo.noReason l e) = (omega arith, omega arith)
 query-range (AppliesTo.pathGone l r e g) = (omega arith, omega arith)
 query-range (AppliesTo.noRun p q n) = (omega arith, omega arith)
 query-range (AppliesTo.unknownFrom p q n) = (omega arith, omega arith)
 query-range (AppliesTo.unknownTo p q n) = (omega arith, omega arith)
+query-range (AppliesTo.pageShort len rs l h) = (omega arith, omega arith)
 
-stops-range : {d : Plan} {ls t : List ℕ} {n : ℕ} → Stops d ls t n → (0 < n) × (n ≤ 18)
+stops-range : {d : Plan} {ls t : List ℕ} {n : ℕ} → Stops d ls t n → (0 < n) × (n ≤ 19)
 stops-range (Stops.at13 x) = (omega arith, omega arith)
 stops-range (Stops.at14 x) = (omega arith, omega arith)
 
-applies-range : {d : Plan} {w : World} {c : calls.Call} {n : ℕ} → Applies d w c n → (0 < n) × (n ≤ 18)
+applies-range : {d : Plan} {w : World} {c : calls.Call} {n : ℕ} → Applies d w c n → (0 < n) × (n ≤ 19)
 applies-range (Applies.noRoom c e) = (omega arith, omega arith)
 applies-range (Applies.badInitialize room t x) = (omega arith, omega arith)
 applies-range (Applies.badPropagate room t l pending x) = (omega arith, omega arith)
@@ -111,6 +117,7 @@ accepted-for calls.undone n h = refl
 accepted-for (calls.refused m) n h = ne-eqb m 0 (λ (e : m ≡ 0). h (ap calls.refused e))
 accepted-for (calls.reason ls) n h = refl
 accepted-for (calls.foundRun gs) n h = refl
+accepted-for (calls.printedPage bs) n h = refl
 
 -- ---- the same of outcomes
 pub conflict-back : (o : calls.Outcome) → answerOf o ≡ Conflict → o .answer ≡ calls.conflicting
@@ -126,8 +133,9 @@ refused-for calls.undone n m e = let z : _≡_ {A = ℕ} 3 5 = ap kindOf e in ab
 refused-for (calls.refused k) n m e = ap calls.refused (ap amountOf e)
 refused-for (calls.reason ls) n m e = let z : _≡_ {A = ℕ} 4 5 = ap kindOf e in absurd (omega arith)
 refused-for (calls.foundRun gs) n m e = let z : _≡_ {A = ℕ} 6 5 = ap kindOf e in absurd (omega arith)
+refused-for (calls.printedPage bs) n m e = let z : _≡_ {A = ℕ} 7 5 = ap kindOf e in absurd (omega arith)
 
-pub refused-range : (d : Plan) → Proper d → (w : World) (c : calls.Call) (m : ℕ) → answerOf (calls.call d c w) ≡ Refused m → (0 < m) × (m ≤ 18)
+pub refused-range : (d : Plan) → Proper d → (w : World) (c : calls.Call) (m : ℕ) → answerOf (calls.call d c w) ≡ Refused m → (0 < m) × (m ≤ 19)
 unfolding answerOf
 refused-range d pr w c m e =
     let o = calls.call d c w in

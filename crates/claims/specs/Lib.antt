@@ -2,3 +2,4 @@ pub mod Whole
 pub mod Conditions
 pub mod Runs
 pub mod Crossed
+pub mod Pages

@@ -12,13 +12,13 @@ use Rattle.graph_division.specs.Answers.{numberOf, valuesOf}
 use Rattle.graph_division.specs.Outcomes.{answerOf}
 use Rattle.graph_division.specs.Runs.{Request, tableOf, lentList, tailOf, Kept, logFor, Reply, reply}
 
--- the literals of a reply, or the edges of its run, by what document 01 asks for: "a definition gives this paper's
--- number and values for each of its cases"
+-- the literals of a reply, the edges of its run, or the bytes of its page, by what document 01 asks for: "a definition
+-- gives this paper's number and values for each of its cases"
 abbrev pub literalsOf : Reply → List ℕ
 literalsOf r = valuesOf (r .answer) (r .list)
 
--- what an answer of the definition writes to the list or to the reason buffer: the literals of the reason, the edges
--- of the run, else the literals handed on, "conflict or not"
+-- what an answer of the definition writes to the list or to the buffer: the literals of the reason, the edges of the
+-- run, the bytes of the page, else the literals handed on, "conflict or not"
 unfoldable pub writtenBy : calls.Answer → List ℕ → List ℕ
 writtenBy calls.consistent handed = handed
 writtenBy calls.conflicting handed = handed
@@ -27,6 +27,7 @@ writtenBy calls.undone handed = handed
 writtenBy (calls.refused n) handed = handed
 writtenBy (calls.reason ls) handed = ls
 writtenBy (calls.foundRun gs) handed = gs
+writtenBy (calls.printedPage bytes) handed = bytes
 
 abbrev pub writtenOf : calls.Outcome → List ℕ
 writtenOf o = writtenBy (o .answer) (o .handed)
@@ -42,7 +43,7 @@ pub record Whole (k : Kept) (q : Request) (o : calls.Outcome) : Type 0 where
   pub answer : reply k q .answer ≡ answerOf o
   -- its literals are the outcome's, in their order
   pub values : literalsOf (reply k q) ≡ valuesOf (answerOf o) (writtenOf o)
-  -- they stand from the start of the list or of the reason buffer on; all else of it stays
+  -- they stand from the start of the list or of the buffer on; all else of it stays
   pub list : reply k q .list ≡ sets (lentList q) 0 (writtenOf o)
   -- "the table must show each"; every other entry keeps its code
   pub table : reply k q .table ≡ o .table

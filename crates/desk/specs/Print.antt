@@ -5,11 +5,11 @@ use Rattle.text_writer.specs.declared.Written.{Written}
 use Rattle.text_writer.specs.declared.Written.the-variants.{Next, TooSmall}
 use Rattle.text_writer.specs.Written.{after, next, answerLine}
 use Rattle.graph_division.specs.declared.Answer.{Answer}
-use Rattle.graph_division.specs.declared.Answer.the-variants.{Consistent, Conflict, Noted, Undone, Reason, Run, Refused}
+use Rattle.graph_division.specs.declared.Answer.the-variants.{Consistent, Conflict, Noted, Undone, Reason, Run, Page, Refused}
 use Rattle.graph_division.specs.Answers.{numberOf, valuesOf}
 
 -- "C with handed-on literals, X conflict, L noted, R with a reason, E with a number; U accepted prints C". No line asks
--- for a run.
+-- for a run or a page.
 unfoldable pub letterOf : Answer → ℕ
 letterOf (Consistent handed) = 67
 letterOf Conflict = 88
@@ -17,6 +17,7 @@ letterOf Noted = 76
 letterOf Undone = 67
 letterOf (Reason len) = 82
 letterOf (Run len) = 82
+letterOf (Page len) = 82
 letterOf (Refused number) = 69
 
 -- the numbers after the letter, where l is the list that the call was lent
@@ -27,6 +28,7 @@ numbersIn Noted l = []
 numbersIn Undone l = []
 numbersIn (Reason len) l = valuesOf (Reason len) l
 numbersIn (Run len) l = valuesOf (Run len) l
+numbersIn (Page len) l = valuesOf (Page len) l
 numbersIn (Refused number) l = number ∷ []
 
 unfoldable pub lineOf : Answer → List ℕ → List ℕ

@@ -48,6 +48,7 @@ pub(crate) fn print(a: Answer, values: &[u32], out: &mut [u8]) -> usize
         Answer::Undone => print_first(b'C', values, 0, out),
         Answer::Reason { len } => print_first(b'R', values, len, out),
         Answer::Run { len } => print_first(b'R', values, len, out),
+        Answer::Page { len } => print_first(b'R', values, len, out),
         Answer::Refused { number } => print_refusal(number, out),
     }
 }

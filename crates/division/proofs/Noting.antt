@@ -19,7 +19,7 @@ use Rattle.graph.proofs.Mark.{lt-cases}
 use Rattle.division.specs.Plan.{Plan}
 use Rattle.division.specs.State.{State}
 use Rattle.division.specs.Noting.{Bound, raise, lessen, turn, lowBound, highBound, noteOne, unnoted, noteAll, In, Consistent}
-use Rattle.division.specs.Noted.{Lower, Upper, Noted}
+use Rattle.division.specs.Noted.{Lower, Upper, Bounded, Noted}
 
 -- a lower bound on the way, after the first j entries were looked at
 record Raised (d : Plan) (l : ℕ) (ls : List ℕ) (v from j : ℕ) (a : Bound) : Type 0 where
@@ -74,6 +74,28 @@ lessened d l ls v b w x =
       all = λ i k q. ⊎-elim (λ n. p .all i n q) (λ (n : i ≡ j). rw n (ltb-false _ _ (and-rest (eqb l (negate (d .domLit v j))) _ (eq-eqb _ _ (q ∙ ap (λ z. negate (d .domLit v z)) n)) t))) (lt-cases i j (omega arith));
     }))
 
+-- every bound is an entry of its domain, due to a literal of the list; a literal may stand beside its negation
+record Founded (d : Plan) (ls : List ℕ) (s : State) : Type 0 where
+  bounded : Bounded d s
+  lowStands : (v : ℕ) → v < d .vertices → Every (In ls) (s .lowerLit v)
+  highStands : (v : ℕ) → v < d .vertices → Every (In ls) (s .upperLit v)
+
+module _ (d : Plan) (l : ℕ) (ls : List ℕ) (s : State) (f : Founded d ls s) where
+  lows : (v : ℕ) → v < d .vertices → Raised d l ls v (s .lower v) (pred (d .domainLen v)) (raise d l v (lowBound s v))
+  lows v h = raised d l ls v (lowBound s v) (f .bounded .low v h) (f .lowStands v h)
+
+  highs : (v : ℕ) → v < d .vertices →
+      Lessened d l ls v (s .upper v) (pred (d .domainLen v)) (lessen d l v (highBound s v))
+  highs v h = lessened d l ls v (highBound s v) (f .bounded .high v h) (f .highStands v h)
+
+  founded-one : Founded d (l ∷ ls) (noteOne d l s)
+  unfolding noteOne
+  founded-one = record {
+    bounded = record { low = λ v h. lows v h .low; high = λ v h. highs v h .high };
+    lowStands = λ v h. lows v h .stands;
+    highStands = λ v h. highs v h .stands;
+  }
+
 -- the state of an edge after a literal
 data Turned (d : Plan) (l g x : ℕ) : ℕ → Type 0 where
   disconnected : l ≡ d .edgeLit g → Turned d l g x 1
@@ -119,23 +141,22 @@ module _ (d : Plan) (l : ℕ) (ls : List ℕ) (s : State) (n : Noted d (In ls) s
   abbrev edgeNow : (g : ℕ) → g < d .edges → getD (tab (λ g. turn d l g (getD (s .edgeState) g 0)) (d .edges)) g 0 ≡ turn d l g (getD (s .edgeState) g 0)
   edgeNow g h = tab-at _ (d .edges) g h
 
-  lows : (v : ℕ) → v < d .vertices → Raised d l ls v (s .lower v) (pred (d .domainLen v)) (raise d l v (lowBound s v))
-  lows v h = raised d l ls v (lowBound s v) (n .bounded .low v h) (n .lowStands v h)
-
-  highs : (v : ℕ) → v < d .vertices → Lessened d l ls v (s .upper v) (pred (d .domainLen v)) (lessen d l v (highBound s v))
-  highs v h = lessened d l ls v (highBound s v) (n .bounded .high v h) (n .highStands v h)
+  founded : Founded d ls s
+  founded = record { bounded = n .bounded; lowStands = n .lowStands; highStands = n .highStands }
 
   noted-one : Noted d (In (l ∷ ls)) (noteOne d l s)
   unfolding noteOne
   noted-one = record {
-    bounded = record { low = λ v h. lows v h .low; high = λ v h. highs v h .high };
+    bounded = founded-one d l ls s founded .bounded;
     known = λ g h. rw (edgeNow g h) (few g _ _ (n .known g h) (turned d l g _));
     disconnected = λ g h. rw (edgeNow g h) (disconnected-to g _ (n .disconnected g h) (n .connected g h) _ (turned d l g _), disconnected-from g _ (n .disconnected g h) (n .connected g h) _ (turned d l g _));
     connected = λ g h. rw (edgeNow g h) (connected-to g _ (n .disconnected g h) (n .connected g h) _ (turned d l g _), connected-from g _ (n .disconnected g h) (n .connected g h) _ (turned d l g _));
-    lowStands = λ v h. lows v h .stands;
-    highStands = λ v h. highs v h .stands;
-    raised = λ v j h k m. ⊎-elim (λ e. lows v h .all j (omega arith) (sym e)) (λ i. le-trans (n .raised v j h k i) (lows v h .up)) (List·Memᴰ·cases-cons m);
-    cut = λ v j h k m. ⊎-elim (λ e. highs v h .all j (omega arith) (sym e)) (λ i. le-trans (highs v h .down) (n .cut v j h k i)) (List·Memᴰ·cases-cons m);
+    lowStands = founded-one d l ls s founded .lowStands;
+    highStands = founded-one d l ls s founded .highStands;
+    raised = λ v j h k m. let x = lows d l ls s founded v h in
+        ⊎-elim (λ e. x .all j (omega arith) (sym e)) (λ i. le-trans (n .raised v j h k i) (x .up)) (List·Memᴰ·cases-cons m);
+    cut = λ v j h k m. let x = highs d l ls s founded v h in
+        ⊎-elim (λ e. x .all j (omega arith) (sym e)) (λ i. le-trans (x .down) (n .cut v j h k i)) (List·Memᴰ·cases-cons m);
   }
 
 first-low : (d : Plan) (v : ℕ) → Lower d v (pick (ltb 0 (d .domainLen v)) (d .domain v 0) 0) []
@@ -146,15 +167,23 @@ first-high d v =
     pick-ind (λ b. Upper d v b []) _ _ _ (λ t. Upper.last (pred (d .domainLen v)) (omega (arith, ltb-true 0 (d .domainLen v) t)) refl refl)
     (λ t. Upper.free (omega (arith, ltb-false 0 (d .domainLen v) t)) refl refl)
 
+unnoted-founded : (d : Plan) → Founded d [] (unnoted d)
+unfolding unnoted
+unnoted-founded d = record {
+  bounded = record { low = λ v h. first-low d v; high = λ v h. first-high d v };
+  lowStands = λ v h. none;
+  highStands = λ v h. none;
+}
+
 unnoted-noted : (d : Plan) → Noted d (In []) (unnoted d)
 unfolding unnoted
 unnoted-noted d = record {
-  bounded = record { low = λ v h. first-low d v; high = λ v h. first-high d v };
+  bounded = unnoted-founded d .bounded;
   known = λ g h. rw (tab-at (λ i. 0) (d .edges) g h) zero-le;
   disconnected = λ g h. rw (tab-at (λ i. 0) (d .edges) g h) (λ e. absurd (omega arith), λ m. absurd (List·Memᴰ·not-nil m));
   connected = λ g h. rw (tab-at (λ i. 0) (d .edges) g h) (λ e. absurd (omega arith), λ m. absurd (List·Memᴰ·not-nil m));
-  lowStands = λ v h. none;
-  highStands = λ v h. none;
+  lowStands = unnoted-founded d .lowStands;
+  highStands = unnoted-founded d .highStands;
   raised = λ v j h k m. absurd (List·Memᴰ·not-nil m);
   cut = λ v j h k m. absurd (List·Memᴰ·not-nil m);
 }
@@ -164,3 +193,12 @@ pub noted-all : (d : Plan) (ls : List ℕ) → Consistent ls → Noted d (In ls)
 unfolding noteAll
 noted-all d [] c = unnoted-noted d
 noted-all d (l ∷ ls) c = noted-one d l ls (noteAll d ls) (noted-all d ls (λ x a b. c x (List·Memᴰ·tail a) (List·Memᴰ·tail b))) c
+
+founded-all : (d : Plan) (ls : List ℕ) → Founded d ls (noteAll d ls)
+unfolding noteAll
+founded-all d [] = unnoted-founded d
+founded-all d (l ∷ ls) = founded-one d l ls (noteAll d ls) (founded-all d ls)
+
+-- whatever is noted, every bound is an entry of its domain
+pub bounded-all : (d : Plan) (ls : List ℕ) → Bounded d (noteAll d ls)
+bounded-all d ls = founded-all d ls .bounded

@@ -26,11 +26,15 @@ pub data Region (d : Plan) (σ : ℕ → Bool) (p : ℕ) : ℕ → Type 0 where
   here : Region d σ p p
   further : {q r : ℕ} (g : ℕ) → Region d σ p q → g < d .edges → Connected d σ g → Joins d g q r → Region d σ p r
 
--- w is the weight of v's region: the sum over exactly the vertices that are in it
-pub record RegionWeight (d : Plan) (σ : ℕ → Bool) (v w : ℕ) : Type 0 where
+-- w is the weight of a region: the sum over exactly the vertices that are in it
+pub record Weight (d : Plan) (region : ℕ → Type 0) (w : ℕ) : Type 0 where
   pub member : ℕ → Bool
-  pub exactly : (q : ℕ) → q < d .vertices → (member q ≡ true) ↔ Region d σ v q
+  pub exactly : (q : ℕ) → q < d .vertices → (member q ≡ true) ↔ region q
   pub sum : w ≡ total member (d .weight) (d .vertices)
+
+-- of v's region
+abbrev pub RegionWeight : Plan → (ℕ → Bool) → ℕ → ℕ → Type 0
+RegionWeight d σ v w = Weight d (Region d σ v) w
 
 -- "a truth value for each variable such that no disconnected edge joins vertices of one region, and each vertex with a domain has its
 -- region's weight in the domain, every size literal true exactly when its meaning is"

@@ -17,12 +17,17 @@ use Rattle.walks.specs.declared.Listed.the-variants.{Past, Missing}
 use Rattle.walks.specs.Written.{outOf, written}
 use Rattle.walks.specs.Answers as walks
 use Rattle.runs.specs.Walk.{runListed, vertexGiven}
+use Rattle.pages.specs.declared.Printed.{Printed}
+use Rattle.pages.specs.declared.Printed.the-variants.{Bytes, TooSmall, Unknown}
+use Rattle.pages.specs.Lines as lines
+use Rattle.views.specs.declared.compute.Regions.{Regions}
+use Rattle.views.specs.Compute.{regionsFrom, boundsFrom}
 use Rattle.reasons.specs.declared.reason.Reason.{Reason}
 use Rattle.reasons.specs.declared.reason.Reason.the-variants.{NotPropagated, EdgeInSameGroup, EdgeBetweenDifferentGroups, TooLargeIfRegionsAreMerged, RegionAlreadyLarge, RegionAlreadySmall, InconsistentBoundsIfRegionsAreMerged, BoundPropagationWithinRegion, AdjacentSameSizeRegions}
 use Rattle.analysis.specs.Placed.{placeOfLit}
 use Rattle.lists.specs.Lists.{reasonLits}
 use Rattle.recorded.specs.Recorded.{recorded, reasonAt}
-use Rattle.refusals.specs.Refusals.{litNumber, literalRefusal, propagateRefusal, undoRefusal, fetchRefusal}
+use Rattle.refusals.specs.Refusals.{stateBad, litNumber, literalRefusal, propagateRefusal, undoRefusal, fetchRefusal}
 use Rattle.sweep.specs.Sweep.{Handed, handing, handedOn}
 use Rattle.judge.specs.declared.Judgement.{Judgement}
 use Rattle.judge.specs.declared.Judgement.the-variants.{Fine, Clash, Stopped}
@@ -191,3 +196,30 @@ runFetched s c log from to b =
     let n = fetchRefusal (s .plan) (s .edges .ends) (s .noted) (length b) log c in
     let r = bestListed s from to b in
     pick (eqb n 0) (fetched (runAnswer (r .listed)) (r .text)) (fetched (answer.Refused n) b)
+
+-- document 02, request 3: the page, or 19 "when the page buffer is under 39 bytes a region". No plan that passes 7 has
+-- more than 64 vertices.
+abbrev pub pageAnswer : Printed → Answer
+pageAnswer (Bytes n) = answer.Page n
+pageAnswer TooSmall = answer.Refused 19
+pageAnswer Unknown = answer.Refused 7
+
+-- the decided regions r of the noted words, with their greatest lower and least upper bounds
+unfoldable pub figuresWith : GraphDivision → Regions → lines.Figures
+figuresWith s r =
+    let n = verticesOf (s .plan) in
+    let lower = boundsFrom (r .labels) (s .noted) 128 n false in
+    let upper = boundsFrom (r .labels) (s .noted) 192 n true in
+    lines.figuresOf (r .labels) (r .weights) (lower .bounds) (upper .bounds)
+
+unfoldable pub figuresIn : GraphDivision → lines.Figures
+figuresIn s = figuresWith s (regionsFrom (s .plan) (s .edges .ends) (s .noted) false)
+
+unfoldable pub pagePrinted : lines.PageBuffer → Fetched
+pagePrinted x = fetched (pageAnswer (x .printed)) (x .buffer)
+
+-- `page`: 19 "is tested right after 7", which asks nothing of this buffer
+unfoldable pub pageFetched : GraphDivision → Cursor → List ℕ → List ℕ → Fetched
+pageFetched s c log b =
+    pick (stateBad (s .plan) (s .edges .ends) (s .noted) log c) (fetched (answer.Refused 7) b)
+    (pagePrinted (lines.printedIn (figuresIn s) (verticesOf (s .plan)) b))

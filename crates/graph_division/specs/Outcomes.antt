@@ -14,6 +14,7 @@ answerFor calls.undone n = answer.Undone
 answerFor (calls.refused m) n = answer.Refused m
 answerFor (calls.reason ls) n = answer.Reason (length ls)
 answerFor (calls.foundRun gs) n = answer.Run (length gs)
+answerFor (calls.printedPage bytes) n = answer.Page (length bytes)
 
 unfoldable pub answerOf : calls.Outcome → Answer
 answerOf o = answerFor (o .answer) (length (o .handed))

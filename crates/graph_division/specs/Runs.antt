@@ -1,6 +1,6 @@
 -- Any list of calls on a propagator's state, refused ones included: each is lent a table, a list or a reason buffer, and a log of its own,
 -- of any length and content, but for the log's part up to the cursor, which is what the calls before it left.
-use mathlib.Core.Bool.{Bool, not, _||_}
+use mathlib.Core.Bool.{Bool, false, not, _||_}
 use mathlib.Core.List.{List, [], _∷_, _++_}
 use Prim.Native.Nat.{ℕ}
 use lib.IntN.{ℤ, pos}
@@ -14,7 +14,7 @@ use Rattle.calls.specs.Calls as calls
 use Rattle.graph_division.specs.declared.GraphDivision.{GraphDivision}
 use Rattle.graph_division.specs.declared.Outcome.{Outcome}
 use Rattle.graph_division.specs.declared.Answer.{Answer}
-use Rattle.graph_division.specs.Calls.{Called, propagated, undone, Fetched, reasonFetched, lastFetched, runFetched}
+use Rattle.graph_division.specs.Calls.{Called, propagated, undone, Fetched, reasonFetched, lastFetched, runFetched, pageFetched}
 use Rattle.graph_division.specs.Initialize.{initialized}
 
 -- what a call that changes nothing asks for, with numbers from outside
@@ -22,6 +22,7 @@ pub data Query : Type 0 where
   reasonFor : (lit : ℤ) → Query
   lastLeft : Query
   runBetween : (from to : ℤ) → Query
+  page : Query
 
 -- a call with what it is lent; of the log, the entries from the cursor on
 pub data Request : Type 0 where
@@ -37,7 +38,7 @@ tableOf (propagate lit pending t list tail) = t
 tableOf (undo lit tail) = []
 tableOf (ask q b tail) = []
 
--- the list or the reason buffer
+-- the list, the reason buffer or the page buffer
 unfoldable pub lentList : Request → List ℕ
 lentList (initialize t list tail) = list
 lentList (propagate lit pending t list tail) = list
@@ -82,11 +83,12 @@ repliedCalled x = replied (x .outcome) (x .table) (x .list) (x .log)
 unfoldable pub repliedFetched : Kept → List ℕ → Fetched → Reply
 repliedFetched k log x = record { answer = x .answer; state = k .state; cursor = k .cursor; table = []; list = x .buffer; log = log }
 
--- a query's answer and its buffer: `calc_reason` of a literal, and without one, and `run`
+-- a query's answer and its buffer: `calc_reason` of a literal, and without one, `run` and `page`
 unfoldable pub asked : GraphDivision → Cursor → List ℕ → Query → List ℕ → Fetched
 asked s c log (reasonFor lit) b = reasonFetched s c log lit b
 asked s c log lastLeft b = lastFetched s c log b
 asked s c log (runBetween from to) b = runFetched s c log from to b
+asked s c log page b = pageFetched s c log b
 
 unfoldable pub reply : Kept → Request → Reply
 reply k (initialize t list tail) = repliedCalled (initialized (k .state) (k .cursor) t (logFor k tail) list)
@@ -106,11 +108,13 @@ unfoldable pub queryOf : Query → ℕ → calls.Query
 queryOf (reasonFor lit) n = calls.reasonFor (litGiven lit)
 queryOf lastLeft n = calls.lastLeft
 queryOf (runBetween from to) n = calls.runBetween (vertexGiven from) (vertexGiven to)
+queryOf page n = calls.page n
 
 unfoldable pub bufferShort : Query → List ℕ → ℕ → Bool
 bufferShort (reasonFor lit) ws n = reasonShort ws n
 bufferShort lastLeft ws n = reasonShort ws n
 bufferShort (runBetween from to) ws n = reasonShort ws n
+bufferShort page ws n = false
 
 -- the definition's call for a request: what refusal 7 asks of the lengths of what is lent, but for the table, is the room
 unfoldable pub roomFor : List ℕ → ℕ → Bool → Bool

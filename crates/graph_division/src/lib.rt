@@ -42,6 +42,8 @@ pub enum Answer {
     Reason { len: usize },
     // The first `len` entries of the lent buffer are the numbers of the run's edges, in order from the first vertex.
     Run { len: usize },
+    // The first `len` bytes of the lent buffer are the page.
+    Page { len: usize },
     Refused { number: u32 },
 }
 
@@ -55,6 +57,7 @@ pub fn is_refused(answer: Answer) -> bool
         Answer::Undone => false,
         Answer::Reason { len: _ } => false,
         Answer::Run { len: _ } => false,
+        Answer::Page { len: _ } => false,
         Answer::Refused { number: _ } => true,
     }
 }
@@ -69,6 +72,7 @@ pub fn is_consistent(answer: Answer) -> bool
         Answer::Undone => false,
         Answer::Reason { len: _ } => false,
         Answer::Run { len: _ } => false,
+        Answer::Page { len: _ } => false,
         Answer::Refused { number: _ } => false,
     }
 }

@@ -55,6 +55,7 @@ fn put_answer(a: Answer, list: &[u32]) {
         Answer::Undone => put_first(b'C', list, 0),
         Answer::Reason { len } => put_first(b'R', list, len),
         Answer::Run { len } => put_first(b'R', list, len),
+        Answer::Page { len } => put_first(b'R', list, len),
         Answer::Refused { number } => put_refusal(number),
     }
 }

@@ -2,7 +2,8 @@
 // layout of the bytes. Every call takes any bytes. `rt staticlib` proves this crate once more: it stays thin.
 ghost use mathlib.Core.Path.{_≡_};
 ghost use Rattle.byte_calls.specs.Host.{leftWith, back, tooShort, hostInitialized, initializedIn, hostPropagated};
-ghost use Rattle.byte_calls.specs.Host.{propagatedIn, hostUndone, undoneIn, hostReason, hostLast, hostRun, buildCode};
+ghost use Rattle.byte_calls.specs.Host.{propagatedIn, hostUndone, undoneIn, hostReason, hostLast, hostRun};
+ghost use Rattle.byte_calls.specs.Host.{hostPage, buildCode};
 ghost use Rattle.byte_calls.specs.After.{Leaves};
 ghost use Rattle.byte_calls.specs.Build.{BuiltIn};
 ghost use Rattle.byte_calls.specs.Numbers.{numbersIn};
@@ -117,4 +118,13 @@ pub extern "C" fn zuntjev_run(
         hostRun (now (state .entry)) (now (log .entry)) (now (cursor .entry)) from to (now (buffer .entry)) ⌝ }
 {
     byte_calls::calls::run(state, log, cursor, from, to, buffer)
+}
+
+// The page of the decided regions goes to the buffer, a line of 39 bytes for each.
+#[no_mangle]
+pub extern "C" fn zuntjev_page(state: &[u8], log: &[u8], cursor: &[u8], buffer: &mut [u8]) -> i32
+    ensures { λ r. ⌜ back r (now (buffer .exit)) ≡
+        hostPage (now (state .entry)) (now (log .entry)) (now (cursor .entry)) (now (buffer .entry)) ⌝ }
+{
+    byte_calls::calls::page(state, log, cursor, buffer)
 }

@@ -28,6 +28,7 @@ use Rattle.claims.specs.Whole.{literalsOf, writtenOf}
 use Rattle.claims.specs.Conditions.{replyTo, outcomeTo, Condition1, Condition2, Condition3}
 use Rattle.claims.specs.Runs.{RunsBetween}
 use Rattle.claims.specs.Crossed.{CrossedConflicts}
+use Rattle.claims.specs.Pages.{Pages}
 use Rattle.claims.proofs.Built as claims
 use Rattle.byte_calls.specs.Bytes.{wordAt}
 use Rattle.byte_calls.specs.Codes.{fitted}
@@ -36,7 +37,7 @@ use Rattle.byte_calls.specs.Numbers.{numbersIn}
 use Rattle.byte_calls.specs.Host.{short, buildCode}
 use Rattle.byte_calls.specs.Build.{isOn, buildRefused, BuiltIn}
 use Rattle.byte_calls.proofs.Building.{not-refused}
-use Rattle.host_claims.specs.HostRuns.{keptIn, Said, HostMade, AllHostMade, HostAnswers, Tells, literalsAt, HostConditions}
+use Rattle.host_claims.specs.HostRuns.{keptIn, Said, HostMade, AllHostMade, HostAnswers, Tells, asksPage, valuesAt, HostConditions}
 use Rattle.host_claims.proofs.Signed.{down, down-negated}
 use Rattle.host_claims.proofs.Runs.{host-made, host-runs, host-fits}
 use Rattle.host_claims.proofs.Reading.{host-reads}
@@ -115,8 +116,8 @@ module _ (vs : List ℤ) (n : ℕ) (es : List ℤ) (m : ℕ) (a b : ℤ) (before
   small = of-start (λ k d. (qs : List Request) (q : Request) (l : ℕ) → In (writtenOf (outcomeTo d k qs q)) l → l ≤ 8191)
       (claims.written-small vs n es m (isOn a) (isOn b) accepted)
 
-  ranged : (qs : List Request) (q : Request) (i : ℕ) → replyTo start qs q .answer ≡ Refused i → (0 < i) × (i ≤ 18)
-  ranged = of-start (λ k d. (qs : List Request) (q : Request) (i : ℕ) → replyTo k qs q .answer ≡ Refused i → (0 < i) × (i ≤ 18))
+  ranged : (qs : List Request) (q : Request) (i : ℕ) → replyTo start qs q .answer ≡ Refused i → (0 < i) × (i ≤ 19)
+  ranged = of-start (λ k d. (qs : List Request) (q : Request) (i : ℕ) → replyTo k qs q .answer ≡ Refused i → (0 < i) × (i ≤ 19))
       (claims.refusal-range vs n es m (isOn a) (isOn b) accepted)
 
   telling : {qs : List Request} {k k′ : Kept} {q : Request} {list : List ℕ} {x : Said} →
@@ -124,7 +125,8 @@ module _ (vs : List ℤ) (n : ℕ) (es : List ℤ) (m : ℕ) (a b : ℤ) (before
   telling {qs} {q = q} all made = tells _ _ (answered all made .code) (ranged qs q)
 
   reading : {qs : List Request} {k k′ : Kept} {q : Request} {list : List ℕ} {x : Said} →
-      AllHostMade start qs k → HostMade k q list x k′ → (n : ℕ) → x .code ≡ pos n → literalsAt (x .list) n ≡ literalsOf (reply (after start qs) q)
+      AllHostMade start qs k → HostMade k q list x k′ → (n : ℕ) → x .code ≡ pos n →
+      valuesAt (asksPage q) (x .list) n ≡ literalsOf (reply (after start qs) q)
   reading {qs} {q = q} all made = host-reads _ (first-condition .answers qs q) (answered all made) made (small qs q)
 
   third-condition : a ≡ pos 0 → b ≡ pos 0 → Condition3 start (planOf (stateIn state .plan) (stateIn state .edges .ends))
@@ -138,6 +140,7 @@ module _ (vs : List ℤ) (n : ℕ) (es : List ℤ) (m : ℕ) (a b : ℤ) (before
     reads = reading;
     runs-between = of-start RunsBetween (claims.runs-between vs n es m (isOn a) (isOn b) accepted);
     crossed-conflicts = of-start CrossedConflicts (claims.crossed-conflicts vs n es m (isOn a) (isOn b) accepted);
+    pages = of-start Pages (claims.pages vs n es m (isOn a) (isOn b) accepted);
     condition-1 = first-condition;
     condition-2 = second-condition;
     condition-3 = third-condition;

@@ -19,24 +19,24 @@ use Rattle.noting.specs.Words.{capped}
 use Rattle.graph_division.specs.declared.GraphDivision.{GraphDivision}
 use Rattle.graph_division.specs.declared.Outcome.{Outcome}
 use Rattle.graph_division.specs.declared.Answer.{Answer}
-use Rattle.graph_division.specs.declared.Answer.the-variants.{Consistent, Conflict, Noted, Undone, Reason, Run, Refused}
+use Rattle.graph_division.specs.declared.Answer.the-variants.{Consistent, Conflict, Noted, Undone, Reason, Run, Page, Refused}
 use Rattle.graph_division.specs.Calls.{Called, propagated, undone, Fetched, reasonFetched, lastFetched, refuse}
 use Rattle.graph_division.specs.Initialize.{initialized}
-use Rattle.graph_division.specs.Runs.{Query, reasonFor, lastLeft, runBetween, Request, initialize, propagate, undo, ask, tailOf, Kept, kept, logFor, Reply, replied, repliedCalled, repliedFetched, asked, reply, keeping}
+use Rattle.graph_division.specs.Runs.{Query, reasonFor, lastLeft, runBetween, page, Request, initialize, propagate, undo, ask, tailOf, Kept, kept, logFor, Reply, replied, repliedCalled, repliedFetched, asked, reply, keeping}
 use Rattle.claims.specs.Conditions.{turnedAwayWith}
 use Rattle.claims.proofs.Refusing.{refused-unchanged}
 use Rattle.claims.proofs.Past.{reply-log}
 use Rattle.graph_division.specs.Answers.{isRefused}
 use Rattle.byte_calls.specs.Codes.{answerCode, givenBy}
-use Rattle.byte_calls.specs.Layout.{stateIn, cursorIn, usedEntries, recordsIn, logIn, listIn, bufferIn}
+use Rattle.byte_calls.specs.Layout.{stateIn, cursorIn, usedEntries, recordsIn, logIn, listIn}
 use Rattle.byte_calls.specs.Stores.{putList, putLog}
 use Rattle.byte_calls.specs.Bytes.{putHalves}
-use Rattle.byte_calls.specs.Host.{Left, tooShort, leftBy, leftOf, propagatedIn, hostPropagated, initializedIn, hostInitialized, Back, back, undoneIn, backOf, backBy, hostUndone, givenIn, hostReason, hostLast, hostRun}
+use Rattle.byte_calls.specs.Host.{Left, tooShort, leftBy, leftOf, propagatedIn, hostPropagated, initializedIn, hostInitialized, Back, back, undoneIn, backOf, backBy, hostUndone, givenIn, hostReason, hostLast, hostRun, pageBack, pageIn, hostPage}
 use Rattle.byte_calls.specs.After.{Leaves}
 use Rattle.byte_calls.proofs.Filling.{putLongs-length}
 use Rattle.byte_calls.proofs.Leaving.{room-length}
 use Rattle.byte_calls.proofs.ReadBack.{ReadsBack, propagate-reads-back, initialize-reads-back, undo-reads-back}
-use Rattle.host_claims.specs.HostRuns.{keptIn, tailIn, Bytes, hostAsked}
+use Rattle.host_claims.specs.HostRuns.{keptIn, tailIn, Bytes, isPage, entriesIn, bytesAfter, hostAsked}
 
 -- left, with the state's bytes after it, is the reply to request q where k is kept
 pub record HostReplies (k : Kept) (q : Request) (list : List ℕ) (l : Left) (after : List ℕ) : Type 0 where
@@ -56,6 +56,7 @@ refused-number Noted e = absurd (false≢true e)
 refused-number Undone e = absurd (false≢true e)
 refused-number (Reason n) e = absurd (false≢true e)
 refused-number (Run n) e = absurd (false≢true e)
+refused-number (Page n) e = absurd (false≢true e)
 refused-number (Refused n) e = (n, refl)
 
 cap-none : (m : ℕ) → capped 0 m ≡ 0
@@ -78,6 +79,7 @@ list-by Noted c d t lits records list log cursor = refl
 list-by Undone c d t lits records list log cursor = refl
 list-by (Reason n) c d t lits records list log cursor = refl
 list-by (Run n) c d t lits records list log cursor = refl
+list-by (Page n) c d t lits records list log cursor = refl
 list-by (Refused n) c d t lits records list log cursor = sym (put-none lits list)
 
 code-by : (a : Answer) (c d : Cursor) (t lits records list log cursor : List ℕ) → leftBy a c d t lits records list log cursor .code ≡ answerCode a
@@ -207,13 +209,18 @@ module _ (state t list log cursor after : List ℕ) (hs : Bytes state) (hl : Byt
       (replies state list log cursor qi yi initialize-words initialize-long (initialize-reads-back state t list log cursor hs hl hc lc) after
       (subst (λ (b : Bool). Leaves b (yi .outcome) state after) long-enough s))
 
--- the fetches, of bytes that are long enough
+-- what a query answers, and its bytes then
+abbrev pub backWith : Bool → Fetched → List ℕ → Back
+backWith ofPage y buffer = back (answerCode (y .answer)) (bytesAfter ofPage (y .buffer) (givenBy (y .answer)) buffer)
+
+-- the queries, of bytes that are long enough
 pub asked-given : (state log cursor : List ℕ) → tooShort state cursor ≡ false → (q : Query) (buffer : List ℕ) →
-    hostAsked state log cursor q buffer ≡ givenIn (asked (stateIn state) (cursorIn cursor) (logIn (cursorIn cursor) log) q (bufferIn buffer)) buffer
-unfolding hostAsked hostReason hostLast hostRun asked
+    hostAsked state log cursor q buffer ≡ backWith (isPage q) (asked (stateIn state) (cursorIn cursor) (logIn (cursorIn cursor) log) q (entriesIn q buffer)) buffer
+unfolding hostAsked hostReason hostLast hostRun hostPage pageIn pageBack givenIn asked isPage entriesIn bytesAfter pick
 asked-given state log cursor e (reasonFor lit) buffer = pick-no _ _ e
 asked-given state log cursor e lastLeft buffer = pick-no _ _ e
 asked-given state log cursor e (runBetween from to) buffer = pick-no _ _ e
+asked-given state log cursor e page buffer = pick-no _ _ e
 
 module _ (state log cursor : List ℕ) (hc : Bytes cursor) (ls : 133440 ≤ length state) (lc : 8 ≤ length cursor) where
   abbrev k₁ : Kept
@@ -267,15 +274,18 @@ module _ (state log cursor : List ℕ) (hc : Bytes cursor) (ls : 133440 ≤ leng
   -- the fetches: the number and the buffer's bytes; nothing else changes
   module _ (q : Query) (buffer : List ℕ) where
     abbrev q₂ : Request
-    q₂ = ask q (bufferIn buffer) (tailIn cursor log)
+    q₂ = ask q (entriesIn q buffer) (tailIn cursor log)
 
-    ask-words : reply k₁ q₂ ≡ repliedFetched k₁ (logFor k₁ (tailIn cursor log)) (asked (stateIn state) c₁ (logIn c₁ log) q (bufferIn buffer))
+    ask-words : reply k₁ q₂ ≡ repliedFetched k₁ (logFor k₁ (tailIn cursor log)) (asked (stateIn state) c₁ (logIn c₁ log) q (entriesIn q buffer))
     unfolding reply
-    ask-words = ap (λ (m : List ℕ). repliedFetched k₁ (logFor k₁ (tailIn cursor log)) (asked (stateIn state) c₁ m q (bufferIn buffer))) (whole state cursor log)
+    ask-words = ap (λ (m : List ℕ). repliedFetched k₁ (logFor k₁ (tailIn cursor log)) (asked (stateIn state) c₁ m q (entriesIn q buffer))) (whole state cursor log)
 
-    pub ask-replies : hostAsked state log cursor q buffer ≡ back (answerCode (reply k₁ q₂ .answer)) (putList (reply k₁ q₂ .list) (givenBy (reply k₁ q₂ .answer)) buffer)
-    unfolding givenIn repliedFetched
-    ask-replies = asked-given state log cursor (enough state cursor ls lc) q buffer ∙ ap (λ (z : Reply). back (answerCode (z .answer)) (putList (z .list) (givenBy (z .answer)) buffer)) (sym ask-words)
+    pub ask-replies : hostAsked state log cursor q buffer ≡
+        back (answerCode (reply k₁ q₂ .answer)) (bytesAfter (isPage q) (reply k₁ q₂ .list) (givenBy (reply k₁ q₂ .answer)) buffer)
+    unfolding repliedFetched
+    ask-replies =
+        asked-given state log cursor (enough state cursor ls lc) q buffer
+        ∙ ap (λ (z : Reply). back (answerCode (z .answer)) (bytesAfter (isPage q) (z .list) (givenBy (z .answer)) buffer)) (sym ask-words)
 
     pub ask-table : [] ≡ reply k₁ q₂ .table
     unfolding repliedFetched

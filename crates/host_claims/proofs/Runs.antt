@@ -5,7 +5,7 @@
 --     short-refused  a state or a cursor that is shorter than its layout
 --     fetch-fits     the number of a fetch on any bytes whatever, a damaged state's included
 use mathlib.Core.Path.{_≡_, refl, sym, ap, ap₂, subst, _∙_}
-use mathlib.Core.Bool.{Bool, true, false, _||_}
+use mathlib.Core.Bool.{Bool, true, false, _||_, false≢true}
 use mathlib.Core.List.{List, [], _∷_}
 use Prim.Native.Nat.{ℕ, _+_, _*_, _/_, _≤_, zero-le}
 use native.Mathlib.Omega.{arith}
@@ -13,8 +13,8 @@ use lib.IntN.{ℤ, pos, negsuc}
 use borrow.Author.Tests.{eqb-true, ltb-true, ltb-false}
 use lib.ListN.{length, take, length-take, length-set, replicate, length-replicate}
 use lib.Seq.{length-sets, length-take-le, take-length}
-use Rattle.base.specs.Iter.{iter}
-use Rattle.base.proofs.Loop.{pick-yes, pick-ind, tested}
+use Rattle.base.specs.Iter.{iter, pick}
+use Rattle.base.proofs.Loop.{pick-yes, pick-no, pick-ind, tested}
 use Rattle.base.proofs.Tests.{or-none}
 use Rattle.undo_log.specs.declared.Cursor.{Cursor}
 use Rattle.plan.specs.Words.{verticesOf, edgesOf}
@@ -24,6 +24,9 @@ use Rattle.walks.specs.Answers as walks
 use Rattle.walks.specs.Answers.{given, missing}
 use Rattle.walks.proofs.Written.{written-length}
 use Rattle.runs.specs.Walk.{listed, runListed}
+use Rattle.pages.specs.Lines.{Figures}
+use Rattle.pages.specs.Lines as lines
+use Rattle.pages.proofs.Fields.{regions-few}
 use Rattle.walks.specs.declared.Listed.{Listed}
 use Rattle.walks.specs.declared.Listed.the-variants.{Past, Missing}
 use Rattle.refusals.specs.Refusals.{stateBad, fetchRefusal}
@@ -33,20 +36,22 @@ use Rattle.calls.specs.Calls as calls
 use Rattle.graph_division.specs.declared.Outcome.{Outcome}
 use Rattle.graph_division.specs.declared.GraphDivision.{GraphDivision}
 use Rattle.graph_division.specs.declared.Answer.{Answer}
-use Rattle.graph_division.specs.declared.Answer.the-variants.{Consistent, Conflict, Noted, Undone, Reason, Run, Refused}
+use Rattle.graph_division.specs.declared.Answer.the-variants.{Consistent, Conflict, Noted, Undone, Reason, Run, Page, Refused}
 use Rattle.graph_division.specs.Calls.{Fetched, reasonOver, copied, reasonGiven, giving, reasonFetched, lastFetched, runAnswer, bestListed, runFetched}
+use Rattle.graph_division.specs.Calls.{pageAnswer, figuresIn, pagePrinted, pageFetched}
 use Rattle.graph_division.specs.Answers.{valuesOf, isRefused}
 use Rattle.graph_division.specs.Outcomes.{answerFor, answerOf}
-use Rattle.graph_division.specs.Runs.{Query, reasonFor, lastLeft, runBetween, Request, initialize, propagate, undo, ask, lentList, Kept, Reply, replied, asked, reply, keeping, after}
+use Rattle.graph_division.specs.Runs.{Query, reasonFor, lastLeft, runBetween, page, Request, initialize, propagate, undo}
+use Rattle.graph_division.specs.Runs.{ask, lentList, Kept, Reply, replied, repliedFetched, asked, reply, keeping, after}
 use Rattle.claims.specs.Whole.{writtenBy, writtenOf, Whole}
 use Rattle.byte_calls.specs.Bytes.{putHalves}
 use Rattle.byte_calls.specs.Codes.{fitted, answerCode, givenBy}
 use Rattle.byte_calls.specs.Layout.{stateIn, cursorIn, logIn, listIn, bufferIn}
 use Rattle.byte_calls.specs.Stores.{putList}
-use Rattle.byte_calls.specs.Host.{Left, leftWith, tooShort, hostInitialized, hostPropagated, Back, back, hostUndone, givenIn, hostReason, hostLast, hostRun}
+use Rattle.byte_calls.specs.Host.{Left, leftWith, tooShort, hostInitialized, hostPropagated, Back, back, hostUndone, hostReason, hostLast, hostRun, hostPage}
 use Rattle.byte_calls.proofs.Filling.{capped-most, capped-less}
 use Rattle.byte_calls.proofs.Leaving.{list-room}
-use Rattle.host_claims.specs.HostRuns.{keptIn, tailIn, LentFor, Said, saying, hostAsked, HostMade, initializes, propagates, undoes, asks, AllHostMade, none, next, HostAnswers, ShortRefused}
+use Rattle.host_claims.specs.HostRuns.{keptIn, tailIn, LentFor, Said, saying, isPage, asksPage, entryBytes, entriesIn, bytesAfter, hostAsked, HostMade, initializes, propagates, undoes, asks, AllHostMade, none, next, HostAnswers, ShortRefused}
 use Rattle.host_claims.proofs.Signed.{up, up-negated, up-is}
 use Rattle.host_claims.proofs.Replies.{HostReplies, initialize-replies, propagate-replies, undo-code, undo-keeps, ask-replies, ask-table, ask-keeps, asked-given}
 
@@ -55,12 +60,17 @@ pub record Made (h : Kept) (q : Request) (list : List ℕ) (x : Said) (k′ : Ke
   pub answers : HostAnswers h q list x
   pub keeps : k′ ≡ keeping (reply h q)
 
-made-left : (k h : Kept) (q : Request) (r : ℤ) (list state′ t′ list′ log′ cursor′ : List ℕ) (l : Left) → h ≡ k → leftWith r t′ list′ log′ cursor′ ≡ l →
+-- of a list in words, two bytes an entry
+pub in-words : {ofPage : Bool} → ofPage ≡ false → (entries : List ℕ) (n : ℕ) (bytes : List ℕ) → bytesAfter ofPage entries n bytes ≡ putList entries n bytes
+unfolding bytesAfter
+in-words e entries n bytes = pick-no _ _ e
+
+made-left : (k h : Kept) (q : Request) (r : ℤ) (list state′ t′ list′ log′ cursor′ : List ℕ) (l : Left) → asksPage q ≡ false → h ≡ k → leftWith r t′ list′ log′ cursor′ ≡ l →
     HostReplies h q list l state′ → Made k q list (saying r t′ list′) (keptIn state′ cursor′ log′)
-made-left k h q r list state′ t′ list′ log′ cursor′ l e f y =
+made-left k h q r list state′ t′ list′ log′ cursor′ l g e f y =
     let z : HostReplies k q list (leftWith r t′ list′ log′ cursor′) state′ =
     subst (λ (x : Kept). HostReplies x q list (leftWith r t′ list′ log′ cursor′) state′) e (subst (λ (x : Left). HostReplies h q list x state′) (sym f) y) in
-    record { answers = record { code = z .code; table = z .table; literals = z .literals }; keeps = z .keeps }
+    record { answers = record { code = z .code; table = z .table; literals = z .literals ∙ sym (in-words g _ _ list) }; keeps = z .keeps }
 
 -- nothing is written where there is nothing
 put-empty : (n : ℕ) → putList [] n [] ≡ []
@@ -76,11 +86,12 @@ unfolding reply replied
 undo-none h lit tail = (refl, refl)
 
 pub host-made : {k k′ : Kept} {q : Request} {list : List ℕ} {x : Said} → HostMade k q list x k′ → Made k q list x k′
+unfolding asksPage
 host-made (initializes r state t list log cursor state′ t′ list′ log′ cursor′ p e s) =
-    made-left _ (keptIn state cursor log) _ r list state′ t′ list′ log′ cursor′ _ (p .stands) e
+    made-left _ (keptIn state cursor log) _ r list state′ t′ list′ log′ cursor′ _ refl (p .stands) e
     (initialize-replies state t list log cursor state′ (p .state-bytes) (p .log-bytes) (p .cursor-bytes) (p .state-long) (p .cursor-long) s)
 host-made (propagates r lit pending state t list log cursor state′ t′ list′ log′ cursor′ p e s) =
-    made-left _ (keptIn state cursor log) _ r list state′ t′ list′ log′ cursor′ _ (p .stands) e
+    made-left _ (keptIn state cursor log) _ r list state′ t′ list′ log′ cursor′ _ refl (p .stands) e
     (propagate-replies state t list log cursor state′ (p .state-bytes) (p .log-bytes) (p .cursor-bytes) (p .state-long) (p .cursor-long) lit pending s)
 host-made {k} (undoes r lit state log cursor state′ cursor′ p e s) =
     let h = keptIn state cursor log in
@@ -91,7 +102,7 @@ host-made {k} (undoes r lit state log cursor state′ cursor′ p e s) =
         code = ap (λ (z : Back). z .code) e ∙ undo-code state log cursor (p .cursor-bytes) (p .state-long) (p .cursor-long) lit state′
             ∙ ap (λ (x : Kept). answerCode (reply x q .answer)) (p .stands);
         table = sym t;
-        literals = sym (ap (λ (x : List ℕ). putList x (givenBy (reply k q .answer)) []) l ∙ put-empty _);
+        literals = sym (in-words refl _ _ [] ∙ ap (λ (x : List ℕ). putList x (givenBy (reply k q .answer)) []) l ∙ put-empty _);
       };
       keeps =
           ap (λ (z : Back). keptIn state′ (z .cursor) log) e ∙ undo-keeps state log cursor (p .cursor-bytes) (p .state-long) (p .cursor-long) lit state′ s
@@ -99,9 +110,9 @@ host-made {k} (undoes r lit state log cursor state′ cursor′ p e s) =
     }
 host-made {k} (asks r q state log cursor buffer buffer′ p e) =
     let h = keptIn state cursor log in
-    let x = ask q (bufferIn buffer) (tailIn cursor log) in
+    let x = ask q (entriesIn q buffer) (tailIn cursor log) in
     let f = e ∙ ask-replies state log cursor (p .cursor-bytes) (p .state-long) (p .cursor-long) q buffer
-    ∙ ap (λ (y : Kept). back (answerCode (reply y x .answer)) (putList (reply y x .list) (givenBy (reply y x .answer)) buffer)) (p .stands) in
+    ∙ ap (λ (y : Kept). back (answerCode (reply y x .answer)) (bytesAfter (isPage q) (reply y x .list) (givenBy (reply y x .answer)) buffer)) (p .stands) in
     record {
       answers = record {
         code = ap (λ (z : Back). z .code) f;
@@ -135,6 +146,7 @@ fits-for calls.undone h l e = zero-le
 fits-for (calls.refused n) h l e = let z = up-negated (fitted n) in omega (arith, z)
 fits-for (calls.reason ls) h l e = omega (arith, taken-fits ls l e, fitted-less (length ls))
 fits-for (calls.foundRun gs) h l e = omega (arith, taken-fits gs l e, fitted-less (length gs))
+fits-for (calls.printedPage bs) h l e = omega (arith, taken-fits bs l e, fitted-less (length bs))
 
 answer-fits : (k : Kept) (q : Request) (o : calls.Outcome) → Whole k q o → up (answerCode (reply k q .answer)) ≤ length (lentList q)
 unfolding answerOf
@@ -151,25 +163,43 @@ buffer-room b =
     let e = length-take-le m (replicate {A = ℕ} 260 0) (omega (arith, capped-most (length b / 2) 260, length-replicate {A = ℕ} 260 0)) in
     omega (arith, e, capped-less (length b / 2) 260)
 
-pub made-room : {k k′ : Kept} {q : Request} {list : List ℕ} {x : Said} → HostMade k q list x k′ → 2 * length (lentList q) ≤ length list
-unfolding lentList
+-- the entries of a query's buffer are no more than its bytes have
+entries-room : (q : Query) (b : List ℕ) → entryBytes (isPage q) * length (entriesIn q b) ≤ length b
+unfolding entryBytes entriesIn
+entries-room q b = tested (isPage q)
+    (λ t. let a : pick {A = ℕ} (isPage q) 1 2 ≡ 1 = pick-yes _ _ t in
+    let z = ap length (pick-yes b (bufferIn b) t) in
+    subst (λ (m : ℕ). m * length (pick (isPage q) b (bufferIn b)) ≤ length b) (sym a) (omega arith))
+    (λ t. let a : pick {A = ℕ} (isPage q) 1 2 ≡ 2 = pick-no _ _ t in
+    let z = ap length (pick-no b (bufferIn b) t) in
+    subst (λ (m : ℕ). m * length (pick (isPage q) b (bufferIn b)) ≤ length b) (sym a) (omega (arith, buffer-room b)))
+
+pub made-room : {k k′ : Kept} {q : Request} {list : List ℕ} {x : Said} → HostMade k q list x k′ → entryBytes (asksPage q) * length (lentList q) ≤ length list
+unfolding lentList asksPage entryBytes pick
 made-room (initializes r state t list log cursor state′ t′ list′ log′ cursor′ p e s) = list-room list
 made-room (propagates r lit pending state t list log cursor state′ t′ list′ log′ cursor′ p e s) = list-room list
 made-room (undoes r lit state log cursor state′ cursor′ p e s) = zero-le
-made-room (asks r q state log cursor buffer buffer′ p e) = buffer-room buffer
+made-room (asks r q state log cursor buffer buffer′ p e) = entries-room q buffer
+
+-- fewer entries take no more bytes
+each-fits : (ofPage : Bool) (n m l : ℕ) → n ≤ m → entryBytes ofPage * m ≤ l → entryBytes ofPage * n ≤ l
+unfolding entryBytes pick
+each-fits true n m l h k = omega arith
+each-fits false n m l h k = omega arith
 
 pub host-fits : {h k k′ : Kept} {q : Request} {list : List ℕ} {x : Said} (o : calls.Outcome) → Whole h q o → HostAnswers h q list x → HostMade k q list x k′ →
-    (n : ℕ) → x .code ≡ pos n → 2 * n ≤ length list
+    (n : ℕ) → x .code ≡ pos n → entryBytes (asksPage q) * n ≤ length list
 host-fits {h} {q = q} o w a m n e =
     let z = up-is (answerCode (reply h q .answer)) n (sym (a .code) ∙ e) in
-    omega (arith, z, answer-fits h q o w, made-room m)
+    each-fits (asksPage q) n _ _ (omega (arith, z, answer-fits h q o w)) (made-room m)
 
 -- ---- bytes that are too short
 short-asked : (state log cursor : List ℕ) → tooShort state cursor ≡ true → (q : Query) (b : List ℕ) → hostAsked state log cursor q b ≡ back (negsuc 6) b
-unfolding hostAsked hostReason hostLast hostRun
+unfolding hostAsked hostReason hostLast hostRun hostPage
 short-asked state log cursor e (reasonFor lit) b = pick-yes _ _ e
 short-asked state log cursor e lastLeft b = pick-yes _ _ e
 short-asked state log cursor e (runBetween from to) b = pick-yes _ _ e
+short-asked state log cursor e page b = pick-yes _ _ e
 
 pub short-refused : (state log cursor : List ℕ) → tooShort state cursor ≡ true → ShortRefused state log cursor
 unfolding hostInitialized hostPropagated hostUndone
@@ -190,6 +220,7 @@ up-code Noted = zero-le
 up-code Undone = zero-le
 up-code (Reason n) = fitted-less n
 up-code (Run n) = fitted-less n
+up-code (Page n) = fitted-less n
 up-code (Refused n) = let z = up-negated (fitted n) in omega (arith, z)
 
 abbrev Within : List ℕ → Fetched → Type 0
@@ -232,9 +263,19 @@ run-within : (s : GraphDivision) (from to : ℤ) (b : List ℕ) → givenBy (run
 unfolding bestListed runListed missing
 run-within s from to b = pick-ind (λ (a : walks.Answer). givenBy (runAnswer (a .listed)) ≤ length b) _ _ _ (λ _. listed-within _ b) (λ _. zero-le)
 
+-- a page goes no further than its buffer, and has at most 64 lines
+page-within : (t : Figures) (n : ℕ) (b : List ℕ) → (givenBy (pageAnswer (lines.printedIn t n b .printed)) ≤ length b) × (givenBy (pageAnswer (lines.printedIn t n b .printed)) ≤ 2496)
+unfolding lines.printedIn
+page-within t n b = pick-ind Fits _ _ _ (λ _. (zero-le, zero-le))
+    (λ u. pick-ind Fits _ _ _ (λ _. (zero-le, zero-le))
+    (λ v. (ltb-false (length b) (39 * lines.numRegions (t .label) n) v, omega (arith, ltb-false 64 n u, regions-few (t .label) n))))
+  where
+    Fits : lines.PageBuffer → Type 0
+    Fits a = (givenBy (pageAnswer (a .printed)) ≤ length b) × (givenBy (pageAnswer (a .printed)) ≤ 2496)
+
 -- whatever the state, the log and the cursor are
 pub asked-within : (s : GraphDivision) (c : Cursor) (log : List ℕ) (q : Query) (b : List ℕ) → givenBy (asked s c log q b .answer) ≤ length b
-unfolding asked reasonFetched lastFetched runFetched giving
+unfolding asked reasonFetched lastFetched runFetched pageFetched pagePrinted giving
 asked-within s c log (reasonFor lit) b =
     pick-ind (Within b) _ _ _
     (λ t. pick-ind (Within b) _ _ _
@@ -246,17 +287,34 @@ asked-within s c log lastLeft b =
     (λ t. copied-within (s .plan) _ _ b (room-for (s .plan) (s .edges .ends) (s .noted) log (length b) c (eqb-true _ 0 t)))
     (λ _. zero-le)
 asked-within s c log (runBetween from to) b = pick-ind (Within b) _ _ _ (λ _. run-within s from to b) (λ _. zero-le)
+asked-within s c log page b = pick-ind (Within b) _ _ _ (λ _. zero-le) (λ _. page-within (figuresIn s) (verticesOf (s .plan)) b .0)
 
-given-code : (x : Fetched) (buffer : List ℕ) → givenIn x buffer .code ≡ answerCode (x .answer)
-unfolding givenIn
-given-code x buffer = refl
+-- a page is short, whatever its buffer
+pub page-few : (h : Kept) (q : Request) → asksPage q ≡ true → givenBy (reply h q .answer) ≤ 2496
+unfolding asksPage isPage reply repliedFetched asked pageFetched pagePrinted
+page-few h (initialize t list tail) e = absurd (false≢true e)
+page-few h (propagate lit pending t list tail) e = absurd (false≢true e)
+page-few h (undo lit tail) e = absurd (false≢true e)
+page-few h (ask (reasonFor lit) b tail) e = absurd (false≢true e)
+page-few h (ask lastLeft b tail) e = absurd (false≢true e)
+page-few h (ask (runBetween from to) b tail) e = absurd (false≢true e)
+page-few h (ask page b tail) e =
+    pick-ind (λ (x : Fetched). givenBy (x .answer) ≤ 2496) _ _ _ (λ _. zero-le)
+    (λ _. page-within (figuresIn (h .state)) (verticesOf (h .state .plan)) b .1)
 
--- a fetch's number, on any bytes whatever, is no more than its buffer has entries
-pub fetch-fits : (state log cursor : List ℕ) (q : Query) (buffer : List ℕ) (n : ℕ) → hostAsked state log cursor q buffer .code ≡ pos n → 2 * n ≤ length buffer
+none-fits : (ofPage : Bool) (l : ℕ) → entryBytes ofPage * 0 ≤ l
+unfolding entryBytes pick
+none-fits true l = zero-le
+none-fits false l = zero-le
+
+-- a query's number, on any bytes whatever, is no more than its buffer has entries
+pub fetch-fits : (state log cursor : List ℕ) (q : Query) (buffer : List ℕ) (n : ℕ) → hostAsked state log cursor q buffer .code ≡ pos n →
+    entryBytes (isPage q) * n ≤ length buffer
 unfolding up
 fetch-fits state log cursor q buffer n e = tested (tooShort state cursor)
-    (λ t. let z : n ≡ 0 = up-is (negsuc 6) n (sym (ap (λ (z : Back). z .code) (short-asked state log cursor t q buffer)) ∙ e) in omega arith)
+    (λ t. let z : n ≡ 0 = up-is (negsuc 6) n (sym (ap (λ (z : Back). z .code) (short-asked state log cursor t q buffer)) ∙ e) in each-fits (isPage q) n 0 (length buffer) (omega arith) (none-fits (isPage q) (length buffer)))
     (λ t.
-    let x = asked (stateIn state) (cursorIn cursor) (logIn (cursorIn cursor) log) q (bufferIn buffer) in
-    let z = up-is (answerCode (x .answer)) n (sym (ap (λ (z : Back). z .code) (asked-given state log cursor t q buffer) ∙ given-code x buffer) ∙ e) in
-    omega (arith, z, up-code (x .answer), asked-within (stateIn state) (cursorIn cursor) (logIn (cursorIn cursor) log) q (bufferIn buffer), buffer-room buffer))
+    let x = asked (stateIn state) (cursorIn cursor) (logIn (cursorIn cursor) log) q (entriesIn q buffer) in
+    let z = up-is (answerCode (x .answer)) n (sym (ap (λ (z : Back). z .code) (asked-given state log cursor t q buffer)) ∙ e) in
+    let w = asked-within (stateIn state) (cursorIn cursor) (logIn (cursorIn cursor) log) q (entriesIn q buffer) in
+    each-fits (isPage q) n (length (entriesIn q buffer)) (length buffer) (omega (arith, z, up-code (x .answer), w)) (entries-room q buffer))

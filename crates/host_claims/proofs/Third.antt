@@ -7,6 +7,7 @@ use Prim.Native.Nat.{ℕ, _<_, _≤_}
 use native.Mathlib.Omega.{arith}
 use lib.IntN.{ℤ, pos, negsuc, negℤ}
 use borrow.Author.Tests.{eq-eqb}
+use Rattle.base.specs.Iter.{pick}
 use Rattle.base.specs.Lists.{Every}
 use Rattle.base.proofs.Loop.{pick-ind}
 use Rattle.undo_log.specs.declared.Cursor.{Cursor}
@@ -20,13 +21,14 @@ use Rattle.judge.specs.Judge.{Judged}
 use Rattle.graph_division.specs.declared.GraphDivision.{GraphDivision}
 use Rattle.graph_division.specs.Calls.{Called, refuse, adding, accepting, handingOn, settledBy, settled, propagated}
 use Rattle.graph_division.specs.declared.Answer.{Answer}
-use Rattle.graph_division.specs.declared.Answer.the-variants.{Consistent, Conflict, Noted, Undone, Reason, Run, Refused}
+use Rattle.graph_division.specs.declared.Answer.the-variants.{Consistent, Conflict, Noted, Undone, Reason, Run, Page, Refused}
 use Rattle.graph_division.specs.Answers.{numberOf, isConsistent}
 use Rattle.graph_division.specs.Runs.{reasonFor, lastLeft, Request, propagate, ask, Kept, Reply, replied, repliedCalled, reply, keeping, after}
 use Rattle.claims.specs.Whole.{literalsOf}
 use Rattle.claims.specs.Conditions.{accepted, AllQuiet, Condition3}
 use Rattle.byte_calls.specs.Codes.{fitted, answerCode}
-use Rattle.host_claims.specs.HostRuns.{Said, HostMade, AllHostMade, none, next, HostAnswers, Tells, literalsAt, IsAccepted, BytesCondition3}
+use Rattle.host_claims.specs.HostRuns.{Said, HostMade, AllHostMade, none, next, HostAnswers, Tells, isPage, asksPage, valuesAt, IsAccepted}
+use Rattle.host_claims.specs.HostRuns.{BytesCondition3}
 use Rattle.host_claims.proofs.Signed.{down, down-negated}
 use Rattle.host_claims.proofs.Runs.{host-runs}
 use Rattle.host_claims.proofs.Reading.{fitted-is}
@@ -57,6 +59,7 @@ positive Noted = false
 positive Undone = true
 positive (Reason n) = true
 positive (Run n) = true
+positive (Page n) = true
 positive (Refused n) = false
 
 abbrev Once : Called → Type 0
@@ -76,7 +79,7 @@ propagated-once k lit pending t list tail =
     (λ _ e. absurd (false≢true e))
 
 abbrev Ranged : Answer → Type 0
-Ranged a = (i : ℕ) → a ≡ Refused i → (0 < i) × (i ≤ 18)
+Ranged a = (i : ℕ) → a ≡ Refused i → (0 < i) × (i ≤ 19)
 
 code-positive : (a : Answer) → Ranged a → down (answerCode a) ≡ 0 → positive a ≡ true
 unfolding answerCode down positive
@@ -86,6 +89,7 @@ code-positive Noted h e = absurd (omega arith)
 code-positive Undone h e = refl
 code-positive (Reason n) h e = refl
 code-positive (Run n) h e = refl
+code-positive (Page n) h e = refl
 code-positive (Refused m) h e =
     let (a, b) = h m refl in
     let z = sym (down-negated (fitted m) ∙ fitted-is m (omega arith)) ∙ e in
@@ -99,6 +103,7 @@ consistent-code Noted e = absurd (false≢true e)
 consistent-code Undone e = absurd (false≢true e)
 consistent-code (Reason n) e = absurd (false≢true e)
 consistent-code (Run n) e = absurd (false≢true e)
+consistent-code (Page n) e = absurd (false≢true e)
 consistent-code (Refused m) e = absurd (false≢true e)
 
 is-accepted : (a : Answer) → Ranged a → IsAccepted (answerCode a) → accepted a ≡ true
@@ -109,6 +114,7 @@ is-accepted Noted h f = refl
 is-accepted Undone h f = refl
 is-accepted (Reason n) h f = refl
 is-accepted (Run n) h f = refl
+is-accepted (Page n) h f = refl
 is-accepted (Refused m) h f =
     let (a, b) = h m refl in
     absurd (f m a (omega arith) (ap (λ (i : ℕ). negℤ (pos i)) (fitted-is m (omega arith))))
@@ -120,12 +126,13 @@ pub record Heard (start : Kept) : Type 0 where
   pub tells : {qs : List Request} {k k′ : Kept} {q : Request} {list : List ℕ} {x : Said} →
       AllHostMade start qs k → HostMade k q list x k′ → Tells (x .code) (reply (after start qs) q .answer)
   pub reads : {qs : List Request} {k k′ : Kept} {q : Request} {list : List ℕ} {x : Said} →
-      AllHostMade start qs k → HostMade k q list x k′ → (n : ℕ) → x .code ≡ pos n → literalsAt (x .list) n ≡ literalsOf (reply (after start qs) q)
+      AllHostMade start qs k → HostMade k q list x k′ → (n : ℕ) → x .code ≡ pos n →
+      valuesAt (asksPage q) (x .list) n ≡ literalsOf (reply (after start qs) q)
   pub ranged : (qs : List Request) (q : Request) → Ranged (reply (after start qs) q .answer)
 
 module _ (start : Kept) (d : Plan) (o : Heard start) (third : Condition3 start d) where
   pub bytes-condition : BytesCondition3 start d
-  unfolding accepted down
+  unfolding accepted down asksPage isPage valuesAt pick
   bytes-condition = record {
     conflicts = λ {qs} {k} {mid} {end} {q} {list} {b} {rest} all m e my n f σ v h.
         let two = one-more all m in

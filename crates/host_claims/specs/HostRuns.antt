@@ -2,11 +2,12 @@
 -- order of them.
 use mathlib.Core.Path.{_≡_}
 use mathlib.Core.Logic.{_↔_}
-use mathlib.Core.Bool.{Bool, true}
+use mathlib.Core.Bool.{Bool, true, false}
 use mathlib.Core.List.{List, [], _∷_}
 use Prim.Native.Nat.{ℕ, _+_, _*_, _<_, _≤_}
 use lib.IntN.{ℤ, pos, negsuc, negℤ}
 use lib.ListN.{length, getD, take, drop}
+use Rattle.base.specs.Iter.{pick}
 use Rattle.base.specs.Lists.{tab, Every}
 use Rattle.sat.specs.Literal.{Holds}
 use Rattle.division.specs.Plan.{Plan}
@@ -20,17 +21,18 @@ use Rattle.graph_division.specs.declared.Outcome.{Outcome}
 use Rattle.graph_division.specs.declared.Answer.{Answer}
 use Rattle.graph_division.specs.declared.Answer.the-variants.{Conflict, Noted, Refused}
 use Rattle.graph_division.specs.Answers.{numberOf}
-use Rattle.graph_division.specs.Runs.{Query, reasonFor, lastLeft, runBetween, Request, initialize, propagate, undo}
-use Rattle.graph_division.specs.Runs.{ask, tableOf, Kept, kept, reply, after}
+use Rattle.graph_division.specs.Runs.{Query, reasonFor, lastLeft, runBetween, page, Request, initialize, propagate}
+use Rattle.graph_division.specs.Runs.{undo, ask, tableOf, Kept, kept, reply, after}
 use Rattle.claims.specs.Whole.{literalsOf}
 use Rattle.claims.specs.Conditions.{AllQuiet, standingThen, Condition1, Condition2, Condition3}
 use Rattle.claims.specs.Runs.{RunsBetween}
 use Rattle.claims.specs.Crossed.{CrossedConflicts}
+use Rattle.claims.specs.Pages.{Pages}
 use Rattle.byte_calls.specs.Codes.{answerCode, givenBy}
 use Rattle.byte_calls.specs.Layout.{stateIn, cursorIn, logIn, listIn, bufferIn}
 use Rattle.byte_calls.specs.Stores.{putList}
 use Rattle.byte_calls.specs.Host.{leftWith, tooShort, initializedIn, hostInitialized, propagatedIn, hostPropagated}
-use Rattle.byte_calls.specs.Host.{Back, back, undoneIn, hostUndone, hostReason, hostLast, hostRun}
+use Rattle.byte_calls.specs.Host.{Back, back, undoneIn, hostUndone, hostReason, hostLast, hostRun, hostPage}
 use Rattle.byte_calls.specs.After.{Leaves}
 
 -- what the bytes of a state, of a cursor and of a log keep from call to call, and the log's entries from the cursor on
@@ -63,14 +65,40 @@ pub record Said : Type 0 where
 abbrev pub saying : ℤ → List ℕ → List ℕ → Said
 saying r table list = record { code = r; table = table; list = list }
 
--- the two fetches, and the run
+-- a page's buffer holds its bytes; every other list or buffer has two bytes an entry
+unfoldable pub isPage : Query → Bool
+isPage (reasonFor lit) = false
+isPage lastLeft = false
+isPage (runBetween from to) = false
+isPage page = true
+
+unfoldable pub asksPage : Request → Bool
+asksPage (initialize t list tail) = false
+asksPage (propagate lit pending t list tail) = false
+asksPage (undo lit tail) = false
+asksPage (ask q b tail) = isPage q
+
+-- how many bytes an entry has
+unfoldable pub entryBytes : Bool → ℕ
+entryBytes ofPage = pick ofPage 1 2
+
+-- the entries of a query's buffer before it
+unfoldable pub entriesIn : Query → List ℕ → List ℕ
+entriesIn q buffer = pick (isPage q) buffer (bufferIn buffer)
+
+-- a buffer's bytes after a call that left these entries and gives the first n of them
+unfoldable pub bytesAfter : Bool → List ℕ → ℕ → List ℕ → List ℕ
+bytesAfter ofPage entries n bytes = pick ofPage entries (putList entries n bytes)
+
+-- the two fetches, the run and the page
 unfoldable pub hostAsked : List ℕ → List ℕ → List ℕ → Query → List ℕ → Back
 hostAsked state log cursor (reasonFor lit) buffer = hostReason state log cursor lit buffer
 hostAsked state log cursor lastLeft buffer = hostLast state log cursor buffer
 hostAsked state log cursor (runBetween from to) buffer = hostRun state log cursor from to buffer
+hostAsked state log cursor page buffer = hostPage state log cursor buffer
 
--- a call of the host with its contract, where k is kept: the request that it is, the bytes of its list or its reason buffer before it, what it
--- says, and what its bytes keep then. The primed ones are the bytes after it.
+-- a call of the host with its contract, where k is kept: the request that it is, the bytes of its list or its buffer
+-- before it, what it says, and what its bytes keep then. The primed ones are the bytes after it.
 pub data HostMade (k : Kept) : Request → List ℕ → Said → Kept → Type 0 where
   initializes : (r : ℤ) (state t list log cursor state′ t′ list′ log′ cursor′ : List ℕ) → LentFor k state log cursor →
       leftWith r t′ list′ log′ cursor′ ≡ hostInitialized state t list log cursor →
@@ -86,7 +114,7 @@ pub data HostMade (k : Kept) : Request → List ℕ → Said → Kept → Type 0
       HostMade k (undo lit (tailIn cursor log)) [] (saying r [] []) (keptIn state′ cursor′ log)
   asks : (r : ℤ) (q : Query) (state log cursor buffer buffer′ : List ℕ) → LentFor k state log cursor →
       back r buffer′ ≡ hostAsked state log cursor q buffer →
-      HostMade k (ask q (bufferIn buffer) (tailIn cursor log)) buffer (saying r [] buffer′) (keptIn state cursor log)
+      HostMade k (ask q (entriesIn q buffer) (tailIn cursor log)) buffer (saying r [] buffer′) (keptIn state cursor log)
 
 -- a list of them
 pub data AllHostMade : Kept → List Request → Kept → Type 0 where
@@ -95,12 +123,12 @@ pub data AllHostMade : Kept → List Request → Kept → Type 0 where
       HostMade k q list x mid → AllHostMade mid qs end → AllHostMade k (q ∷ qs) end
 
 -- number and bytes are those of the reply to request q where k is kept: the answer's number, the table, and the
--- literals, or the edges of the run, two bytes each, from the start of the list or the reason buffer on; all else of it
--- stays
+-- literals, or the edges of the run, two bytes each, or the page's bytes, from the start of the list or the buffer on;
+-- all else of it stays
 pub record HostAnswers (k : Kept) (q : Request) (list : List ℕ) (x : Said) : Type 0 where
   pub code : x .code ≡ answerCode (reply k q .answer)
   pub table : x .table ≡ reply k q .table
-  pub literals : x .list ≡ putList (reply k q .list) (givenBy (reply k q .answer)) list
+  pub literals : x .list ≡ bytesAfter (asksPage q) (reply k q .list) (givenBy (reply k q .answer)) list
 
 -- number r tells answer a: -100 a conflict, -101 a literal that is only noted, any other below 0 the number of a refusal; else the call is
 -- accepted
@@ -113,6 +141,10 @@ pub record Tells (r : ℤ) (a : Answer) : Type 0 where
 -- the first n literals, or edges of a run, that stand in the bytes, two each, the lower byte first
 unfoldable pub literalsAt : List ℕ → ℕ → List ℕ
 literalsAt b n = tab (λ i. getD b (2 * i) 0 + 256 * getD b (2 * i + 1) 0) n
+
+-- or the first n bytes of a page
+unfoldable pub valuesAt : Bool → List ℕ → ℕ → List ℕ
+valuesAt ofPage b n = pick ofPage (take n b) (literalsAt b n)
 
 -- a call that is lent a state or a cursor shorter than its layout: 7, and every byte stays
 pub record ShortRefused (state log cursor : List ℕ) : Type 0 where
@@ -160,16 +192,19 @@ pub record HostConditions (sameSize extraWalls : ℤ) (start : Kept) (d : Plan) 
       AllHostMade start qs k → HostMade k q list x k′ → HostAnswers (after start qs) q list x
   pub tells : {qs : List Request} {k k′ : Kept} {q : Request} {list : List ℕ} {x : Said} →
       AllHostMade start qs k → HostMade k q list x k′ → Tells (x .code) (reply (after start qs) q .answer)
-  -- and a number of literals, or of edges, is no more than the list or the reason buffer has entries
+  -- and a number of literals, of edges or of bytes is no more than the list or the buffer has entries
   pub fits : {qs : List Request} {k k′ : Kept} {q : Request} {list : List ℕ} {x : Said} →
-      AllHostMade start qs k → HostMade k q list x k′ → (n : ℕ) → x .code ≡ pos n → 2 * n ≤ length list
-  -- the literals that it gives, handed on or fetched, or the edges of its run, are read from those bytes, as many as
-  -- the number says
+      AllHostMade start qs k → HostMade k q list x k′ → (n : ℕ) → x .code ≡ pos n →
+      entryBytes (asksPage q) * n ≤ length list
+  -- the literals that it gives, handed on or fetched, the edges of its run, or the bytes of its page, are read from
+  -- those bytes, as many as the number says
   pub reads : {qs : List Request} {k k′ : Kept} {q : Request} {list : List ℕ} {x : Said} →
-      AllHostMade start qs k → HostMade k q list x k′ → (n : ℕ) → x .code ≡ pos n → literalsAt (x .list) n ≡ literalsOf (reply (after start qs) q)
-  -- of these replies the conditions speak, and document 02, requests 1 and 2
+      AllHostMade start qs k → HostMade k q list x k′ → (n : ℕ) → x .code ≡ pos n →
+      valuesAt (asksPage q) (x .list) n ≡ literalsOf (reply (after start qs) q)
+  -- of these replies the conditions speak, and document 02, requests 1, 2 and 3
   pub runs-between : RunsBetween start d
   pub crossed-conflicts : CrossedConflicts start d
+  pub pages : Pages start d
   pub condition-1 : Condition1 start d
   pub condition-2 : Condition2 start d
   -- "Both options off"

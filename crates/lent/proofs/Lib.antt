@@ -5,3 +5,4 @@ pub mod Begun
 pub mod Lending
 pub mod Beginning
 pub mod Fetching
+pub mod Paging

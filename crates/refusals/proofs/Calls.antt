@@ -1,7 +1,7 @@
 -- The calls of crate calls, whatever they are lent, by the numbers that the tests answer: refused with the number, or what is done
 -- where it is 0.
 use mathlib.Core.Path.{_≡_, refl, sym, ap, _∙_}
-use mathlib.Core.Bool.{Bool, true, false, not, _||_}
+use mathlib.Core.Bool.{Bool, true, false, not, _||_, Bool·not-not}
 use mathlib.Core.List.{List, []}
 use Prim.Native.Nat.{ℕ}
 use lib.Dec.{eqb}
@@ -16,7 +16,7 @@ use Rattle.noting.specs.Note.{noting}
 use Rattle.noting.specs.Standing.{notNewest, standingOf}
 use Rattle.noting.specs.Buffers.{reasonShort}
 use Rattle.calls.specs.Table.{knows, badTable, entered}
-use Rattle.calls.specs.Calls.{World, Query, reasonFor, Answer, noted, refused, Outcome, refuse, taken, adding, settled, Going, entry, propagateAll, finishBy, giveReason, answerTo, tell, onInitialize, onPropagate, onUndo, onAsk}
+use Rattle.calls.specs.Calls.{World, Query, reasonFor, page, Answer, noted, refused, Outcome, refuse, taken, adding, settled, Going, entry, propagateAll, finishBy, giveReason, answerTo, tell, onInitialize, onPropagate, onUndo, onAsk}
 use Rattle.refusals.specs.Refusals.{stateBad, literalRefusal, initializeRefusal, propagateRefusal, undoRefusal, fetchRefusal}
 use Rattle.refusals.specs.Calls.{litGiven, tableRoom, stateRoom, fetchRoom, refusedOr, takenBack}
 use Rattle.refusals.proofs.Standing.{newest-is}
@@ -74,6 +74,15 @@ module _ (ws : List ℕ) (ends : List (List ℕ)) (words log : List ℕ) (c : Cu
   ask-call n q =
       told-case w (not (fetchRoom ws ends words n log c)) 7 _
       ∙ one-case w [] (tell w (answerTo d w q)) 7 (not (fetchRoom ws ends words n log c)) refl ∙ sym (ap (λ (k : ℕ). refusedOr k w [] (tell w (answerTo d w q))) (fetch-is ws ends words log c w n))
+
+  -- the page, whose buffer 7 asks nothing of
+  pub page-call : (n : ℕ) →
+      onAsk d w (stateRoom ws ends words log c) (page n)
+      ≡ pick (stateBad ws ends words log c) (refuse 7 w []) (tell w (answerTo d w (page n)))
+  unfolding onAsk stateRoom
+  page-call n =
+      told-case w (not (not (stateBad ws ends words log c))) 7 _
+      ∙ ap (λ (b : Bool). pick b (refuse 7 w []) (tell w (answerTo d w (page n)))) (Bool·not-not _)
 
   pub reason-call : (n : ℕ) (l : ℤ) →
       onAsk d w (fetchRoom ws ends words n log c) (reasonFor (litGiven l))

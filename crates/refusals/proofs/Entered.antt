@@ -18,7 +18,7 @@ use Rattle.noting.proofs.Rising.{rises}
 use Rattle.calls.specs.Table.{trueIn, knows, variables, rising, entered}
 use Rattle.calls.proofs.Count.{known-below}
 use Rattle.calls.specs.Order.{Rising}
-use Rattle.calls.proofs.Order.{rising-same, swept-every, swept-rising, swept-in}
+use Rattle.calls.proofs.Rising.{rising-same, swept-every, swept-rising, swept-in}
 use Rattle.refusals.specs.Calls.{enteredPlaces}
 use Rattle.refusals.proofs.Known.{place-knows, knows-place}
 

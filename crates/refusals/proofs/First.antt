@@ -18,11 +18,11 @@ use Rattle.noting.specs.Note.{noting}
 use Rattle.noting.specs.Buffers.{reasonShort}
 use Rattle.noting.specs.Standing.{standingOf}
 use Rattle.calls.specs.Table.{knows, variables, tooHigh, badTable}
-use Rattle.calls.specs.Calls.{World, Query, reasonFor, lastLeft, Call, initialize, propagate, undo, ask, accepted, Outcome, refuse, answerTo, tell, call}
+use Rattle.calls.specs.Calls.{World, Query, reasonFor, lastLeft, page, Call, initialize, propagate, undo, ask, accepted, Outcome, refuse, answerTo, tell, call}
 use Rattle.calls.specs.Refusals.{roomOf, BadTable, Stops, at13, at14, AppliesTo, Applies, First}
 use Rattle.calls.proofs.Known.{known}
-use Rattle.calls.proofs.Queries.{isRun}
-use Rattle.calls.proofs.Refusals.{asksRun, refusals, acceptances}
+use Rattle.calls.proofs.Queries.{ofGraph, query-late}
+use Rattle.calls.proofs.Refusals.{asksGraph, refusals, acceptances}
 use Rattle.refusals.specs.Refusals.{stateBad, literalRefusal, initializeRefusal, propagateRefusal, undoRefusal, fetchRefusal}
 use Rattle.refusals.specs.Calls.{litGiven, tableRoom, stateRoom, fetchRoom, refusedOr, takenBack}
 use Rattle.refusals.proofs.State.{state-proper}
@@ -30,7 +30,7 @@ use Rattle.refusals.proofs.Numbers.{literal-is, initialize-is, fetch-is
 use Rattle.refusals.proofs.Accepted.{pick-zero}
 use Rattle.refusals.proofs.Calls.{initialize-call, propagate-call, undo-call, ask-call, reason-call}
 
-module _ (d : Plan) (w : World) (c : Call) (pr : asksRun c ≡ true → Proper d) where
+module _ (d : Plan) (w : World) (c : Call) (pr : asksGraph c ≡ true → Proper d) where
   numbered : (n : ℕ) (t : List ℕ) (o : Outcome) → call d c w ≡ refusedOr n w t o → 0 < n → First d w c n
   unfolding refusedOr refuse
   numbered n t o e h = refusals d w c pr n .0 (ap (λ (x : Outcome). x .answer) (e ∙ pick-no _ _ (ne-eqb n 0 (λ (z : n ≡ 0). omega arith))))
@@ -80,13 +80,17 @@ reason-clear {d = d} r k h (Applies.ofQuery room q n (AppliesTo.unknownReason l 
 reason-clear r k h (Applies.ofQuery room q n (AppliesTo.noReason l x)) = absurd (omega arith)
 reason-clear r k h (Applies.ofQuery room q n (AppliesTo.pathGone l x y z)) = absurd (omega arith)
 
+page-late : {d : Plan} {w : World} {room : Bool} {n m : ℕ} → m < 7 → Applies d w (ask room (page n)) m → ⊥
+page-late h (Applies.noRoom c e) = omega arith
+page-late {d = d} {w = w} h (Applies.ofQuery room q m x) = omega (arith, query-late d w x)
+
 module _ (ws : List ℕ) (ends : List (List ℕ)) (words log : List ℕ) (c : Cursor) (w : World) where
   abbrev d : Plan
   d = planOf ws ends
 
   pub initialize-first : (t : List ℕ) (n : ℕ) → 0 < initializeRefusal ws ends words t n log c (w .done) →
       First d w (initialize (tableRoom ws ends words n log c) t) (initializeRefusal ws ends words t n log c (w .done))
-  unfolding call asksRun
+  unfolding call asksGraph
   initialize-first t n h = numbered d w (initialize (tableRoom ws ends words n log c) t) (λ e. absurd (false≢true e)) _ t _ (initialize-call ws ends words log c w t n) h
 
   -- where it is 0, neither 7 nor 8 applies; 10 and on are left to the work
@@ -98,18 +102,27 @@ module _ (ws : List ℕ) (ends : List (List ℕ)) (words log : List ℕ) (c : Cu
 
   -- a query that is lent a reason buffer
   pub ask-first : (n : ℕ) (q : Query) → 0 < fetchRefusal ws ends words n log c → First d w (ask (fetchRoom ws ends words n log c) q) (fetchRefusal ws ends words n log c)
-  unfolding call asksRun
+  unfolding call asksGraph
   ask-first n q h =
       numbered d w (ask (fetchRoom ws ends words n log c) q)
-      (λ e. let z = fetch-is ws ends words log c w n ∙ pick-no 7 0 (ap not (and-left (fetchRoom ws ends words n log c) (isRun q) e)) in absurd (omega arith)) _ [] _ (ask-call ws ends words log c w n q) h
+      (λ e. let z = fetch-is ws ends words log c w n ∙ pick-no 7 0 (ap not (and-left (fetchRoom ws ends words n log c) (ofGraph q) e)) in absurd (omega arith)) _ [] _ (ask-call ws ends words log c w n q) h
 
   pub last-none : (n : ℕ) → fetchRefusal ws ends words n log c ≡ 0 → (m : ℕ) → Applies d w (ask (fetchRoom ws ends words n log c) lastLeft) m → ⊥
-  unfolding call answerTo tell accepted asksRun isRun
+  unfolding call answerTo tell accepted asksGraph ofGraph
   last-none n z = cleared d w (ask (fetchRoom ws ends words n log c) lastLeft) (λ e. absurd (false≢true (and-right (fetchRoom ws ends words n log c) false e))) _ [] _ (ask-call ws ends words log c w n lastLeft) z refl
+
+  -- the page, whose buffer 7 asks nothing of; where 7 does not apply, 19 is left to the work
+  pub page-first : (n : ℕ) → stateBad ws ends words log c ≡ true →
+      First d w (ask (stateRoom ws ends words log c) (page n)) 7
+  unfolding stateRoom roomOf
+  page-first n e = record {
+    applies = Applies.noRoom _ (ap not e);
+    least = λ m h x. page-late (omega arith) x;
+  }
 
   -- a fetch by literal whose buffers pass
   pub reason-unknown : (n : ℕ) (l : ℤ) → fetchRefusal ws ends words n log c ≡ 0 → 0 < literalRefusal ws l → First d w (ask (fetchRoom ws ends words n log c) (reasonFor (litGiven l))) (literalRefusal ws l)
-  unfolding call refusedOr asksRun isRun
+  unfolding call refusedOr asksGraph ofGraph
   reason-unknown n l z h =
       numbered d w (ask (fetchRoom ws ends words n log c) (reasonFor (litGiven l))) (λ e. absurd (false≢true (and-right (fetchRoom ws ends words n log c) false e))) _ [] _ (reason-call ws ends words log c w n l ∙ pick-yes _ _ (eq-eqb (fetchRefusal ws ends words n log c) 0 z)) h
 
@@ -126,21 +139,21 @@ module _ (ws : List ℕ) (ends : List (List ℕ)) (words log : List ℕ) (c : Cu
   module _ (s : w .standing ≡ standingOf (noting words log c)) (l : ℤ) where
     pub propagate-first : (t : List ℕ) (n : ℕ) (pending : Bool) → 0 < propagateRefusal ws ends words t n log c l →
         First d w (propagate (tableRoom ws ends words n log c) t (litGiven l) pending) (propagateRefusal ws ends words t n log c l)
-    unfolding call asksRun
+    unfolding call asksGraph
     propagate-first t n pending h = numbered d w (propagate (tableRoom ws ends words n log c) t (litGiven l) pending) (λ e. absurd (false≢true e)) _ t _ (propagate-call ws ends words log c w s l t n pending) h
 
     -- where it is 0, none up to 11 applies
     pub propagate-none : (t : List ℕ) (n : ℕ) (pending : Bool) → propagateRefusal ws ends words t n log c l ≡ 0 →
         (m : ℕ) → m ≤ 11 → Applies d w (propagate (tableRoom ws ends words n log c) t (litGiven l) pending) m → ⊥
-    unfolding call accepted asksRun
+    unfolding call accepted asksGraph
     propagate-none t n pending z m h a =
         cleared d w (propagate (tableRoom ws ends words n log c) t (litGiven l) true) (λ e. absurd (false≢true e)) _ t _ (propagate-call ws ends words log c w s l t n true ∙ ap (refusedOr (propagateRefusal ws ends words t n log c l) w t) (pick-yes _ _ refl)) z refl m
         (pended h a)
 
     pub undo-first : 0 < undoRefusal ws ends words log c l → First d w (undo (stateRoom ws ends words log c) (litGiven l)) (undoRefusal ws ends words log c l)
-    unfolding call asksRun
+    unfolding call asksGraph
     undo-first h = numbered d w (undo (stateRoom ws ends words log c) (litGiven l)) (λ e. absurd (false≢true e)) _ [] _ (undo-call ws ends words log c w s l) h
 
     pub undo-none : undoRefusal ws ends words log c l ≡ 0 → (m : ℕ) → Applies d w (undo (stateRoom ws ends words log c) (litGiven l)) m → ⊥
-    unfolding call takenBack accepted asksRun
+    unfolding call takenBack accepted asksGraph
     undo-none z = cleared d w (undo (stateRoom ws ends words log c) (litGiven l)) (λ e. absurd (false≢true e)) _ [] _ (undo-call ws ends words log c w s l) z refl

@@ -12,7 +12,7 @@ use borrow.Author.Tests.{le-ltb}
 use Rattle.base.specs.Iter.{pick}
 use Rattle.base.specs.Range.{inRange, toNat}
 use Rattle.base.proofs.Loop.{pick-yes, pick-no, pick-ind, tested}
-use Rattle.division.specs.Plan.{Plan, Proper}
+use Rattle.division.specs.Plan.{Plan}
 use Rattle.plan.specs.Words.{variablesOf, slotsOf, verticesOf, edgesOf}
 use Rattle.plan.specs.Proper.{ProperWords}
 use Rattle.noting.specs.Buffers.{logShort, listShort, reasonShort}
@@ -26,7 +26,6 @@ use Rattle.calls.specs.Lines as lines
 use Rattle.calls.specs.Marks.{Marked}
 use Rattle.calls.proofs.View.{Did, away, added, agreed, clashed, took, asked, began, beganLast, beganClash, did}
 use Rattle.calls.proofs.Marks.{call-marked}
-use Rattle.calls.proofs.Queries.{Answered, denied, given, found, answer-judged}
 use Rattle.text_writer.specs.Written.{answerLine}
 use Rattle.graph_division.specs.declared.Answer.{Answer}
 use Rattle.graph_division.specs.declared.Answer.the-variants as answer
@@ -38,7 +37,7 @@ use Rattle.graph_division.specs.Initialize.{initialized}
 use Rattle.graph_division.specs.Runs as runs
 use Rattle.graph_division.specs.Runs.{Request, initialize, propagate, undo, Query, reasonFor, lastLeft, ask, tableOf, tailOf, Kept, kept, logFor, Reply, replied, repliedCalled, repliedFetched, reply, keeping, roomFor, callOf}
 use Rattle.simulation.specs.Represents.{valuesFor, RepresentsKept, Replies}
-use Rattle.claims.proofs.Replying.{At, at-proper, reply-at, next-at}
+use Rattle.claims.proofs.Replying.{At, reply-at, next-at}
 use Rattle.claims.proofs.Past.{reply-log}
 use Rattle.sessions.specs.Follow.{bytesOf}
 use Rattle.desk.specs.Print.{letterOf, numbersIn, lineOf}
@@ -71,16 +70,22 @@ module _ (d : Plan) (w : World) where
   back-bytes (away c n) l = refl
   back-bytes (took room m x xs e) l = refl
 
-  asked-bytes : {q : calls.Query} (a : calls.Answer) → Answered d w q a → (l : List ℕ) → take (length (answerList a)) l ≡ answerList a → lineOf (answerOf (calls.tell w a)) l ≡ bytesOf (lines.print a [])
+  -- a list, a run or a page of which the first entries are what is written
+  asked-bytes : (a : calls.Answer) (l : List ℕ) → take (length (answerList a)) l ≡ answerList a → lineOf (answerOf (calls.tell w a)) l ≡ bytesOf (lines.print a [])
   unfolding lineOf letterOf numbersIn valuesOf answerOf answerFor bytesOf lines.print pick calls.tell answerList
-  asked-bytes a (denied n p x y) l e = subst (λ (z : calls.Answer). lineOf (answerOf (calls.tell w z)) l ≡ bytesOf (lines.print z [])) (sym p) refl
-  asked-bytes a (given ls p x) l e = subst (λ (z : calls.Answer). take (length (answerList z)) l ≡ answerList z → lineOf (answerOf (calls.tell w z)) l ≡ bytesOf (lines.print z [])) (sym p) (λ f. ap (answerLine 82) f) e
-  asked-bytes a (found gs r p x) l e = subst (λ (z : calls.Answer). take (length (answerList z)) l ≡ answerList z → lineOf (answerOf (calls.tell w z)) l ≡ bytesOf (lines.print z [])) (sym p) (λ f. ap (answerLine 82) f) e
+  asked-bytes calls.consistent l e = refl
+  asked-bytes calls.conflicting l e = refl
+  asked-bytes calls.noted l e = refl
+  asked-bytes calls.undone l e = refl
+  asked-bytes (calls.refused n) l e = refl
+  asked-bytes (calls.reason ls) l e = ap (answerLine 82) e
+  asked-bytes (calls.foundRun gs) l e = ap (answerLine 82) e
+  asked-bytes (calls.printedPage bs) l e = ap (answerLine 82) e
 
-  ask-bytes : {room : Bool} {q : calls.Query} {o : calls.Outcome} → Proper d → Did d w (calls.ask room q) o → (l : List ℕ) → take (length (answerList (o .answer))) l ≡ answerList (o .answer) → lineOf (answerOf o) l ≡ bytesOf (lines.print (o .answer) (o .handed))
+  ask-bytes : {room : Bool} {q : calls.Query} {o : calls.Outcome} → Did d w (calls.ask room q) o → (l : List ℕ) → take (length (answerList (o .answer))) l ≡ answerList (o .answer) → lineOf (answerOf o) l ≡ bytesOf (lines.print (o .answer) (o .handed))
   unfolding lineOf letterOf numbersIn valuesOf answerOf answerFor bytesOf lines.print pick calls.refuse calls.tell answerList
-  ask-bytes pr (away c n) l e = refl
-  ask-bytes pr (asked room q) l e = asked-bytes _ (answer-judged d w q (λ _. pr)) l e
+  ask-bytes (away c n) l e = refl
+  ask-bytes (asked room q) l e = asked-bytes (calls.answerTo d w q) l e
 
 refused-for : (a : calls.Answer) (n : ℕ) → isRefused (answerFor a n) ≡ not (calls.accepted a)
 unfolding answerFor calls.accepted
@@ -91,6 +96,7 @@ refused-for calls.undone n = refl
 refused-for (calls.refused m) n = refl
 refused-for (calls.reason ls) n = refl
 refused-for (calls.foundRun gs) n = refl
+refused-for (calls.printedPage bs) n = refl
 
 pick-not : {A : Type 0} (b : Bool) (x y : A) → pick (not b) x y ≡ pick b y x
 unfolding pick
@@ -329,7 +335,7 @@ module _ (d : Plan) where
       unfolding valuesFor callOf runs.queryOf runs.bufferShort
       why-bytes-are =
           let r = reply-at d k (a .world) (s .at) qr in
-          why-words ∙ ap (λ (z : Answer). lineOf z (reply k qr .list)) (r .answer) ∙ ask-bytes d (a .world) (at-proper d k (a .world) (s .at)) (did d (a .world) (callOf k qr)) (reply k qr .list) (r .whole)
+          why-words ∙ ap (λ (z : Answer). lineOf z (reply k qr .list)) (r .answer) ∙ ask-bytes d (a .world) (did d (a .world) (callOf k qr)) (reply k qr .list) (r .whole)
           ∙ ap (λ (c : calls.Call). let o = calls.call d c (a .world) in bytesOf (lines.print (o .answer) (o .handed))) why-call
 
     abbrev ql : Request
@@ -347,5 +353,5 @@ module _ (d : Plan) where
     unfolding valuesFor callOf runs.queryOf runs.bufferShort
     last-bytes-are =
         let r = reply-at d k (a .world) (s .at) ql in
-        last-words ∙ ap (λ (z : Answer). lineOf z (reply k ql .list)) (r .answer) ∙ ask-bytes d (a .world) (at-proper d k (a .world) (s .at)) (did d (a .world) (callOf k ql)) (reply k ql .list) (r .whole)
+        last-words ∙ ap (λ (z : Answer). lineOf z (reply k ql .list)) (r .answer) ∙ ask-bytes d (a .world) (did d (a .world) (callOf k ql)) (reply k ql .list) (r .whole)
         ∙ ap (λ (c : calls.Call). let o = calls.call d c (a .world) in bytesOf (lines.print (o .answer) (o .handed))) last-call

@@ -5,11 +5,11 @@ use mathlib.Core.Bool.{Bool, true, false, not}
 use mathlib.Core.List.{List, [], _∷_}
 use Prim.Native.Nat.{ℕ, zero, suc, _+_, _*_, _≤_}
 use native.Mathlib.Omega.{arith}
-use lib.Dec.{eqb}
+use lib.Dec.{eqb, ltb}
 use lib.IntN.{ℤ}
 use lib.ListN.{length, replicate, length-replicate}
 use lib.Seq.{sets, length-sets}
-use borrow.Author.Tests.{eqb-true, ltb-false, le-ltb}
+use borrow.Author.Tests.{eqb-true, ltb-true, ltb-false, le-ltb}
 use Rattle.base.specs.Lists.{tab}
 use Rattle.base.proofs.Loop.{pick-yes, pick-no, tested}
 use Rattle.undo_log.specs.declared.Cursor.{Cursor}
@@ -18,10 +18,16 @@ use Rattle.division.specs.State.{potential}
 use Rattle.division.specs.Noting.{noteAll}
 use Rattle.division.specs.Runs as runs
 use Rattle.division.specs.Agree.{SameState}
-use Rattle.division.proofs.Alike.{list-same}
+use Rattle.division.specs.Views.{viewOf}
+use Rattle.division.proofs.Alike.{list-same, view-same}
 use Rattle.division.proofs.Whole.{each-found}
 use Rattle.graph.specs.Bounds.{Fine}
 use Rattle.graph.proofs.Walkable.{fine-walkable}
+use Rattle.regions.specs.Buckets.{Spot}
+use Rattle.pages.specs.Lines.{Figures, numRegions, pageText, printedIn}
+use Rattle.pages.proofs.Fields.{page-small, page-told}
+use Rattle.pages.proofs.Same.{SameFigures, printed-same, put-sets}
+use Rattle.views.proofs.Viewed.{label-is, weight-is, lower-is, upper-is}
 use Rattle.runs.specs.Walk.{bestRun, listed, runListed, vertexGiven}
 use Rattle.runs.proofs.Given.{given-best}
 use Rattle.runs.proofs.Same.{same-given}
@@ -49,19 +55,21 @@ use Rattle.calls.specs.Look.{gone}
 use Rattle.calls.specs.Calls as calls
 use Rattle.calls.specs.Calls.{World, answerList}
 use Rattle.calls.proofs.Alike.{gone-same}
+use Rattle.calls.proofs.Page.{regions-counted, page-noted}
 use Rattle.refusals.specs.Refusals.{litNumber, literalRefusal, fetchRefusal}
-use Rattle.refusals.specs.Calls.{litGiven, fetchRoom, refusedOr}
+use Rattle.refusals.specs.Calls.{litGiven, stateRoom, fetchRoom, refusedOr}
 use Rattle.refusals.proofs.Accepted.{KnownLit, literal-accepted, fetch-accepted}
-use Rattle.refusals.proofs.Calls.{ask-call, reason-call}
+use Rattle.refusals.proofs.Calls.{ask-call, page-call, reason-call}
 use Rattle.graph_division.specs.declared.GraphDivision.{GraphDivision}
 use Rattle.graph_division.specs.declared.Answer.the-variants as answer
 use Rattle.graph_division.specs.Calls.{Fetched, fetched, copied, reasonGiven, isNone, reasonOver, lastFetched, recordedFor, listFor, giving, reasonFetched, runAnswer, bestListed, runFetched}
-use Rattle.graph_division.specs.Runs.{Query, reasonFor, lastLeft, runBetween, asked, queryOf, bufferShort}
+use Rattle.graph_division.specs.Calls.{figuresWith, figuresIn, pagePrinted, pageFetched}
+use Rattle.graph_division.specs.Runs.{Query, reasonFor, lastLeft, runBetween, page, asked, queryOf, bufferShort}
 use Rattle.graph_division.specs.Outcomes.{answerFor, answerOf}
 use Rattle.simulation.specs.Start.{statePlan}
 use Rattle.simulation.specs.Represents.{Represents, SimulatesFetched}
 use Rattle.simulation.proofs.Looked.{tab-take}
-use Rattle.simulation.proofs.Rooms.{fetch-room}
+use Rattle.simulation.proofs.Rooms.{state-good, state-room, fetch-room}
 
 tab-length : (f : ℕ → ℕ) (n : ℕ) → length (tab f n) ≡ n
 unfolding tab
@@ -100,6 +108,12 @@ module _ (s : GraphDivision) (log : List ℕ) (c : Cursor) (w : World) (r : Repr
   abbrev number : ℕ
   number = fetchRefusal ws ends (s .noted) (length b) log c
 
+  -- the noted words are the state of what stands
+  same : SameState (statePlan s) (stateOf (s .noted)) (noteAll (statePlan s) (w .standing))
+  same =
+      subst (λ (ls : List ℕ). SameState (statePlan s) (stateOf (s .noted)) (noteAll (statePlan s) ls))
+      (sym (r .standing)) (valid-state ws ends (r .proper) (noting (s .noted) log c) (r .valid))
+
   fetched-by : {y z : Fetched} {o q : calls.Outcome} → y ≡ z → o ≡ q → SimulatesFetched s log c b z q → SimulatesFetched s log c b y o
   fetched-by {z = z} {o = o} i j h = subst (λ (y : Fetched). SimulatesFetched s log c b y o) (sym i) (subst (SimulatesFetched s log c b z) (sym j) h)
 
@@ -114,6 +128,11 @@ module _ (s : GraphDivision) (log : List ℕ) (c : Cursor) (w : World) (r : Repr
   gives-run : (m : List ℕ) → length m ≤ length b → SimulatesFetched s log c b (fetched (answer.Run (length m)) (sets b 0 m)) (calls.tell w (calls.foundRun m))
   unfolding calls.tell answerOf answerFor answerList
   gives-run m h = record { answer = refl; buffer = refl; whole = list-taken m b h; represents = r }
+
+  gives-page : (m : List ℕ) → length m ≤ length b →
+      SimulatesFetched s log c b (fetched (answer.Page (length m)) (sets b 0 m)) (calls.tell w (calls.printedPage m))
+  unfolding calls.tell answerOf answerFor answerList
+  gives-page m h = record { answer = refl; buffer = refl; whole = list-taken m b h; represents = r }
 
   buffer-long : number ≡ 0 → edgesOf ws + 2 * verticesOf ws + 4 ≤ length b
   unfolding reasonShort
@@ -138,10 +157,6 @@ module _ (s : GraphDivision) (log : List ℕ) (c : Cursor) (w : World) (r : Repr
 
     held : Held ws ends (s .noted)
     held = record { proper = r .proper; words = r .words; states = omega (arith, r .valid .words) }
-
-    -- the noted words are the state of what stands
-    same : SameState (statePlan s) (stateOf (s .noted)) (noteAll (statePlan s) (w .standing))
-    same = subst (λ (ls : List ℕ). SameState (statePlan s) (stateOf (s .noted)) (noteAll (statePlan s) ls)) (sym (r .standing)) (valid-state ws ends (r .proper) (noting (s .noted) log c) (r .valid))
 
     -- a run: the edges are the plan's, and the states those of what stands
     module _ (from to : ℤ) where
@@ -238,6 +253,60 @@ module _ (s : GraphDivision) (log : List ℕ) (c : Cursor) (w : World) (r : Repr
       (λ t. fetched-by (pick-yes _ _ t) (f ∙ pick-yes _ _ t) (given-run (eqb-true number 0 t) from to))
       (λ t. fetched-by (pick-no _ _ t) (f ∙ pick-no _ _ t) (refused number))
 
+  -- a page: the regions that the words give are those of what stands, and so are their weights and bounds
+  abbrev figures : Figures
+  figures = calls.regionFigures (statePlan s) (noteAll (statePlan s) (w .standing))
+
+  figures-same : SameFigures (verticesOf ws) (figuresIn s) figures
+  unfolding figuresIn figuresWith calls.regionFigures viewOf
+  figures-same =
+      let p = r .proper in
+      let n = r .valid .words in
+      let q = view-same (statePlan s) (proper-plan ws ends p) _ _ same in
+      record {
+        label = λ v h. label-is ws ends p (s .noted) n _ _ false v h ∙ q .did v h;
+        weight = λ i h. weight-is ws ends p (s .noted) n _ _ false i h ∙ q .dw i h;
+        lower = λ i h. ap (λ (a : Spot). a .bound) (lower-is ws ends p (s .noted) n _ _ i h) ∙ q .low i h;
+        upper = λ i h. ap (λ (a : Spot). a .bound) (upper-is ws ends p (s .noted) n _ _ i h) ∙ q .up i h;
+      }
+
+  abbrev text : List ℕ
+  text = pageText figures (verticesOf ws)
+
+  abbrev size : ℕ
+  size = 39 * numRegions (figures .label) (verticesOf ws)
+
+  text-long : length text ≡ size
+  text-long =
+      let k = proper-plan ws ends (r .proper) in
+      let q = page-noted (statePlan s) k (w .standing) in
+      omega (arith, q .long, regions-counted (statePlan s) k _ _ (q .listing))
+
+  given-page : SimulatesFetched s log c b (pagePrinted (printedIn (figuresIn s) (verticesOf ws) b))
+      (calls.tell w (calls.givePage figures (verticesOf ws) (length b)))
+  unfolding pagePrinted calls.givePage calls.tell calls.refuse
+  given-page =
+      let n = r .proper .fine .vertices in
+      let e = printed-same (verticesOf ws) (figuresIn s) figures figures-same b in
+      tested (ltb (length b) size)
+      (λ t.
+      let short = page-small figures (verticesOf ws) b _ refl n (ltb-true (length b) size t) in
+      fetched-by (ap pagePrinted (e ∙ sym short)) (ap (calls.tell w) (pick-yes _ _ t)) (refused 19))
+      (λ t.
+      let fits = ltb-false (length b) size t in
+      let h : length text ≤ length b = omega (arith, text-long) in
+      let told = page-told figures (verticesOf ws) b _ (sets b 0 text) refl n fits (sym (put-sets b text h)) in
+      fetched-by
+      (ap pagePrinted (e ∙ sym told) ∙ ap (λ (k : ℕ). fetched (answer.Page k) (sets b 0 text)) (sym text-long))
+      (ap (calls.tell w) (pick-no _ _ t)) (gives-page text h))
+
+  pub page-simulated : SimulatesFetched s log c b (pageFetched s c log b)
+      (calls.onAsk (statePlan s) w (stateRoom ws ends (s .noted) log c) (calls.page (length b)))
+  unfolding pageFetched calls.answerTo
+  page-simulated =
+      let good = state-good s log c w r in
+      fetched-by (pick-no _ _ good) (page-call ws ends (s .noted) log c w (length b) ∙ pick-no _ _ good) given-page
+
   -- a query that is lent a reason buffer: of what refusal 7 asks, only its length is left
   by-length : (x : Fetched) (q : calls.Query) → SimulatesFetched s log c b x (calls.onAsk (statePlan s) w (fetchRoom ws ends (s .noted) (length b) log c) q) →
       SimulatesFetched s log c b x (calls.onAsk (statePlan s) w (not (reasonShort ws (length b))) q)
@@ -248,3 +317,7 @@ module _ (s : GraphDivision) (log : List ℕ) (c : Cursor) (w : World) (r : Repr
   asked-simulated (reasonFor lit) = by-length _ _ (reason-simulated lit)
   asked-simulated lastLeft = by-length _ _ last-simulated
   asked-simulated (runBetween from to) = by-length _ _ (run-simulated from to)
+  asked-simulated page =
+      let o : Bool → calls.Outcome = λ room. calls.onAsk (statePlan s) w room (calls.page (length b)) in
+      subst (λ (room : Bool). SimulatesFetched s log c b (pageFetched s c log b) (o room))
+      (state-room s log c w r) page-simulated

@@ -13,7 +13,7 @@ use Rattle.graph_division.specs.declared.GraphDivision.{GraphDivision}
 use Rattle.simulation.specs.Represents.{Represents}
 
 module _ (s : GraphDivision) (log : List ℕ) (c : Cursor) (w : World) (r : Represents s log c w) where
-  state-good : stateBad (s .plan) (s .edges .ends) (s .noted) log c ≡ false
+  pub state-good : stateBad (s .plan) (s .edges .ends) (s .noted) log c ≡ false
   state-good = valid-good (s .plan) (s .edges .ends) (s .noted) log c (r .proper) (r .valid)
 
   pub state-room : stateRoom (s .plan) (s .edges .ends) (s .noted) log c ≡ true

@@ -33,9 +33,13 @@ use Rattle.graph_division.specs.declared.GraphDivision.{GraphDivision}
 use Rattle.graph_division.specs.declared.Outcome.{Outcome}
 use Rattle.graph_division.specs.declared.Answer.the-variants as answer
 use Rattle.graph_division.specs.New.{built}
-use Rattle.graph_division.specs.Calls.{Called, called, refuse, propagated, undone, Fetched, fetched, lastFetched, reasonFetched, runFetched}
+use Rattle.graph_division.specs.Calls.{Called, called, refuse, propagated, undone, Fetched, fetched}
+use Rattle.graph_division.specs.Calls.{lastFetched, reasonFetched, runFetched, pageFetched}
 use Rattle.graph_division.specs.Initialize.{initialized}
-use Rattle.graph_division.specs.Runs.{Query, reasonFor, lastLeft, runBetween, Request, initialize, propagate, undo, ask, tableOf, lentList, Kept, kept, logFor, Reply, replied, repliedCalled, repliedFetched, asked, reply, keeping, after, roomFor, queryOf, bufferShort, callOf, callsOf}
+use Rattle.graph_division.specs.Runs.{Query, reasonFor, lastLeft, runBetween, page, Request, initialize, propagate}
+use Rattle.graph_division.specs.Runs.{undo, ask, tableOf, lentList, Kept, kept, logFor, Reply, replied, repliedCalled}
+use Rattle.graph_division.specs.Runs.{repliedFetched, asked, reply, keeping, after, roomFor, queryOf, bufferShort}
+use Rattle.graph_division.specs.Runs.{callOf, callsOf}
 use Rattle.graph_division.specs.Outcomes.{answerFor, answerOf}
 use Rattle.simulation.specs.Start.{statePlan, justBuilt}
 use Rattle.simulation.specs.Represents.{Represents, Simulates, SimulatesCalled, SimulatesFetched, valuesFor, RepresentsKept, Replies, Leads}
@@ -170,10 +174,11 @@ module _ (k : Kept) (w : World) (r : RepresentsKept k w) where
     fetch-short b x = let n = fetch-seven (length b) in pick-no _ _ (seven _ n) ∙ ap (λ (m : ℕ). fetched (answer.Refused m) b) n
 
     asked-short : (q : Query) (b : List ℕ) → asked (k .state) (k .cursor) (logFor k tail) q b ≡ fetched (answer.Refused 7) b
-    unfolding asked reasonFetched lastFetched runFetched
+    unfolding asked reasonFetched lastFetched runFetched pageFetched
     asked-short (reasonFor lit) b = fetch-short b _
     asked-short lastLeft b = fetch-short b _
     asked-short (runBetween from to) b = fetch-short b _
+    asked-short page b = pick-yes _ _ bad
 
     short-ask : (q : Query) (b : List ℕ) → Replies k (ask q b tail) (reply k (ask q b tail)) (calls.call d (callOf k (ask q b tail)) w)
     unfolding reply callOf calls.call repliedFetched tableOf lentList valuesFor answerList calls.onAsk calls.tell calls.refuse replied refuse

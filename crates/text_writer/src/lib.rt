@@ -28,7 +28,7 @@ fn write_digits(n: u32, buf: &mut [u8], at: usize) -> usize
 }
 
 // How many digits n has.
-fn count_digits(n: u32) -> usize
+pub fn count_digits(n: u32) -> usize
     ensures { λ r. ⌜ r ≡ length (digits n) ⌝ }
 {
     let mut k = 1;

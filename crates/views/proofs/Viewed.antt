@@ -157,7 +157,7 @@ module _ (ws : List ℕ) (ends : List (List ℕ)) (p : ProperWords ws ends) (not
     label-low : (v : ℕ) → v < n → labelOf l v < n
     label-low v h = omega (arith, labels-right .below v h)
 
-    label-is : (v : ℕ) → v < n → labelOf l v ≡ regionLabel d g v
+    pub label-is : (v : ℕ) → v < n → labelOf l v ≡ regionLabel d g v
     label-is v h = labels-agree d proper-with noted po l labels-right v h
 
     can-weigh : weighable l (weightWords ws) 0 n ≡ true
@@ -170,7 +170,8 @@ module _ (ws : List ℕ) (ends : List (List ℕ)) (p : ProperWords ws ends) (not
     unfolding regionsFrom
     regions-known = pick-yes _ _ walks ∙ can-weigh
 
-    weight-is : (r : ℕ) → r < n → getD (regionsFrom ws ends noted po .weights) r 0 ≡ weightOf d (regionLabel d g) r
+    pub weight-is : (r : ℕ) → r < n →
+        getD (regionsFrom ws ends noted po .weights) r 0 ≡ weightOf d (regionLabel d g) r
     unfolding regionsFrom weighed weightOf Rattle.regions.specs.Buckets.weightOf
     weight-is r h =
         ap (λ (z : List ℕ). getD z r 0) (pick-yes _ _ can-weigh) ∙ poured-weight l (numberOf (weightWords ws) 0) n zeros (omega (arith, zeros-length, p .fine .vertices)) label-low r h ∙
@@ -200,10 +201,14 @@ module _ (ws : List ℕ) (ends : List (List ℕ)) (p : ProperWords ws ends) (not
   up-at : (v : ℕ) → v < n → numberOf noted 192 v ≡ upperOf noted v
   up-at v h = bound-at 192 0 noted v (omega (arith, p .fine .vertices))
 
-  upper-is : (r : ℕ) → r < n → spot (getD (boundsFrom dl noted 192 n true .bounds) r 0) (getD (boundsFrom dl noted 192 n true .holders) r 0) ≡ leastIn (regionLabel d (decided d s)) (upperOf noted) r n
+  pub upper-is : (r : ℕ) → r < n →
+      spot (getD (boundsFrom dl noted 192 n true .bounds) r 0) (getD (boundsFrom dl noted 192 n true .holders) r 0)
+      ≡ leastIn (regionLabel d (decided d s)) (upperOf noted) r n
   upper-is r h = spot-is 192 true (omega arith) r h ∙ tightest-least dl (numberOf noted 192) r n ∙ least-same _ _ _ _ r n (label-is false) up-at
 
-  lower-is : (r : ℕ) → r < n → spot (getD (boundsFrom dl noted 128 n false .bounds) r 0) (getD (boundsFrom dl noted 128 n false .holders) r 0) ≡ mostIn (regionLabel d (decided d s)) (lowerOf noted) r n
+  pub lower-is : (r : ℕ) → r < n →
+      spot (getD (boundsFrom dl noted 128 n false .bounds) r 0) (getD (boundsFrom dl noted 128 n false .holders) r 0)
+      ≡ mostIn (regionLabel d (decided d s)) (lowerOf noted) r n
   lower-is r h = spot-is 128 false (omega arith) r h ∙ tightest-most dl (numberOf noted 128) r n ∙ most-same _ _ _ _ r n (label-is false) low-at
 
   -- the words after it

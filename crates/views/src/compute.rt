@@ -7,23 +7,24 @@ use regions::compute_regions;
 use regions::limits::region_bounds;
 use regions::weights::region_weights;
 ghost use mathlib.Core.Path.{_≡_};
+ghost use mathlib.Core.Bool.{true, false};
 ghost use Prim.Native.Nat.{_+_, _≤_};
 ghost use Rattle.base.specs.Lists.{filled};
 ghost use Rattle.plan.specs.Words.{word};
 ghost use Rattle.views.specs.Compute.{weightWords, computedOf, regionsFrom, boundsFrom, withRegions, withBounds, computeView};
 
 // Each vertex's label, and each region's weight at its label. Not known where the graph cannot be walked or the weights cannot be added.
-struct Regions {
-    known: bool,
-    labels: [u8; 64],
-    weights: [u32; 64],
+pub struct Regions {
+    pub known: bool,
+    pub labels: [u8; 64],
+    pub weights: [u32; 64],
 }
 
 // Each region's tightest bound and the lowest vertex that has it, at its label. Not known where a label is no vertex.
-struct Bounds {
-    known: bool,
-    bounds: [u32; 64],
-    holders: [u8; 64],
+pub struct Bounds {
+    pub known: bool,
+    pub bounds: [u32; 64],
+    pub holders: [u8; 64],
 }
 
 // The weight of each vertex.
@@ -40,7 +41,8 @@ fn weight_words(plan: &Plan) -> [u32; 64]
     words
 }
 
-fn compute(plan: &Plan, edges: Edges, noted: &Noted, potential: bool) -> Regions
+// The decided regions, or the potential ones.
+pub fn compute(plan: &Plan, edges: Edges, noted: &Noted, potential: bool) -> Regions
     ensures { λ r. ⌜ r ≡ regionsFrom (now (plan .entry)) edges (now (noted .entry)) potential ⌝ }
 {
     let vertices = plan::num_vertices(plan) as usize;
@@ -132,6 +134,20 @@ fn store_bounds(b: Bounds, view: &mut View, from: usize)
     copy_bytes(&b.holders, view, from + 64);
 }
 
+// The least upper bound of each region.
+pub fn upper_bounds(labels: &[u8; 64], noted: &Noted, vertices: usize) -> Bounds
+    ensures { λ r. ⌜ r ≡ boundsFrom (now (labels .entry)) (now (noted .entry)) 192 vertices true ⌝ }
+{
+    bound(labels, noted, 192, vertices, true)
+}
+
+// The greatest lower bound of each region.
+pub fn lower_bounds(labels: &[u8; 64], noted: &Noted, vertices: usize) -> Bounds
+    ensures { λ r. ⌜ r ≡ boundsFrom (now (labels .entry)) (now (noted .entry)) 128 vertices false ⌝ }
+{
+    bound(labels, noted, 128, vertices, false)
+}
+
 // The regions of the noted words, their weights and bounds. The answer is false, and the view stays, where there are none: a count is
 // past its limit, an edge's end is no vertex, or a weight is over 1,000,000.
 pub fn compute_view(plan: &Plan, edges: Edges, noted: &Noted, view: &mut View) -> bool
@@ -140,8 +156,8 @@ pub fn compute_view(plan: &Plan, edges: Edges, noted: &Noted, view: &mut View) -
     let vertices = plan::num_vertices(plan) as usize;
     let decided = compute(plan, edges, noted, false);
     let potential = compute(plan, edges, noted, true);
-    let upper = bound(&decided.labels, noted, 192, vertices, true);
-    let lower = bound(&decided.labels, noted, 128, vertices, false);
+    let upper = upper_bounds(&decided.labels, noted, vertices);
+    let lower = lower_bounds(&decided.labels, noted, vertices);
     if decided.known {
         if potential.known {
             if upper.known {

@@ -35,6 +35,12 @@ count-code-requires-3 c κs = search needs
 enum-known-answer-4 : tie.Need-enum-known-answer-4
 enum-known-answer-4 c = search needs
 
+count-code-requires-4 : tie.Need-count-code-requires-4
+count-code-requires-4 c κs = search needs
+
+enum-known-answer-5 : tie.Need-enum-known-answer-5
+enum-known-answer-5 c = search needs
+
 refusal-code-requires : tie.Need-refusal-code-requires
 refusal-code-requires c κs = search needs
 
@@ -64,7 +70,11 @@ returns-6 c = code-back (c .before .before .before .before .args .answer) _ ((c 
 
 returns-7 : tie.Need-returns-7
 unfolding answerCode
-returns-7 c = code-back (c .before .before .before .before .args .answer) _ ((c .refusal-code .ensures) ∙ sym (ap answerCode ((c .before .before .answer4 .given .1))))
+returns-7 c = code-back (c .before .before .before .before .args .answer) _ ((c .count-code4 .ensures) ∙ sym (ap answerCode ((c .before .before .answer4 .given .1))))
+
+returns-8 : tie.Need-returns-8
+unfolding answerCode
+returns-8 c = code-back (c .before .before .before .before .args .answer) _ ((c .refusal-code .ensures) ∙ sym (ap answerCode ((c .before .before .answer5 .given .1))))
 
 pub code-of-spec : {M : Type 1} → statement M
 code-of-spec =
@@ -80,6 +90,8 @@ code-of-spec =
     enum-known-answer-3
     count-code-requires-3
     enum-known-answer-4
+    count-code-requires-4
+    enum-known-answer-5
     refusal-code-requires
     returns
     returns-2
@@ -87,4 +99,5 @@ code-of-spec =
     returns-4
     returns-5
     returns-6
-    returns-7)
+    returns-7
+    returns-8)

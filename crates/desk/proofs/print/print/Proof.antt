@@ -45,6 +45,12 @@ print-first-requires-6 c κs = search needs
 enum-known-a-4 : tie.Need-enum-known-a-4
 enum-known-a-4 c = search needs
 
+print-first-requires-7 : tie.Need-print-first-requires-7
+print-first-requires-7 c κs = search needs
+
+enum-known-a-5 : tie.Need-enum-known-a-5
+enum-known-a-5 c = search needs
+
 print-refusal-requires : tie.Need-print-refusal-requires
 print-refusal-requires c κs = search needs
 
@@ -95,7 +101,14 @@ same-length-7 c = search needs
 
 returns-7 : tie.Need-returns-7
 unfolding lineOf letterOf numbersIn valuesOf
-returns-7 c = shown-as ((c .before .before .before .before .before .before .before .before .before .args .values) .now) _ _ ((c .before .before .before .before .before .before .before .before .before .args .out) .now) _ _ (c .before .before .before .before .before .a4 .given .1) (c .before .before .print-refusal .ensures)
+returns-7 c = shown-as ((c .before .before .before .before .before .before .before .before .before .args .values) .now) _ _ ((c .before .before .before .before .before .before .before .before .before .args .out) .now) _ _ (c .before .before .before .before .before .a4 .given .1) (c .before .before .print-first7 .ensures)
+
+same-length-8 : tie.Need-same-length-8
+same-length-8 c = search needs
+
+returns-8 : tie.Need-returns-8
+unfolding lineOf letterOf numbersIn valuesOf
+returns-8 c = shown-as ((c .before .before .before .before .before .before .before .before .before .args .values) .now) _ _ ((c .before .before .before .before .before .before .before .before .before .args .out) .now) _ _ (c .before .before .before .before .before .a5 .given .1) (c .before .before .print-refusal .ensures)
 
 pub print-spec : {M : Type 1} → statement M
 print-spec =
@@ -114,6 +127,8 @@ print-spec =
     enum-known-a-3
     print-first-requires-6
     enum-known-a-4
+    print-first-requires-7
+    enum-known-a-5
     print-refusal-requires
     same-length
     returns
@@ -128,4 +143,6 @@ print-spec =
     same-length-6
     returns-6
     same-length-7
-    returns-7)
+    returns-7
+    same-length-8
+    returns-8)

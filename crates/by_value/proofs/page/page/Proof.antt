@@ -1,0 +1,22 @@
+use Rattle.by_value.proofs.Shell.{page-shell}
+use borrow.Author.Needs.{needs}
+use Rattle.by_value.proofs.page.page.Statement.{statement}
+use Rattle.by_value.proofs.page.page.Tie as tie
+
+table-of-requires : tie.Need-table-of-requires
+table-of-requires c κs = search needs
+
+page-requires : tie.Need-page-requires
+page-requires c κs = search needs
+
+same-length : tie.Need-same-length
+same-length c = search needs
+
+returns : tie.Need-returns
+returns c =
+    let t = c .before .before .before .before .before .before .before in
+    let a = t .before .before .before .before in
+    page-shell (a .args .t1) _ _ (t .table-of .ensures) _ _ _ (c .before .before .page .ensures)
+
+pub page-spec : {M : Type 1} → statement M
+page-spec = tie.close (tie.spec table-of-requires page-requires same-length returns)

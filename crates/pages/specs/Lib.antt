@@ -1,0 +1,4 @@
+pub mod Sets
+pub mod Line
+pub mod Lines
+pub mod Reading
