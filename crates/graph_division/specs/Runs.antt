@@ -1,5 +1,6 @@
--- Any list of calls on a propagator's state, refused ones included: each is lent a table, a list or a reason buffer, and a log of its own,
--- of any length and content, but for the log's part up to the cursor, which is what the calls before it left.
+-- Any list of calls on a propagator's state, refused ones included: each is lent a table, a list, a reason buffer or a
+-- page buffer, and a log of its own, of any length and content, but for the log's part up to the cursor, which is what
+-- the calls before it left.
 use mathlib.Core.Bool.{Bool, false, not, _||_}
 use mathlib.Core.List.{List, [], _∷_, _++_}
 use Prim.Native.Nat.{ℕ}
