@@ -1,18 +1,21 @@
 -- Bytes put into a buffer, one run after the other.
 use mathlib.Core.Path.{_≡_, refl, sym, ap, ap₂, _∙_}
 use mathlib.Core.List.{List, [], _∷_, _++_, append-assoc, append-nil}
-use Prim.Native.Nat.{ℕ, suc, _+_, _-_, _≤_, _<_}
+use Prim.Native.Nat.{ℕ, suc, _+_, _-_, _/_, _%_, _≤_, _<_}
 use native.Mathlib.Omega.{arith}
 use native.Mathlib.Numerals.{add-one}
 use lib.Dec.{leb}
-use lib.ListN.{length, take, drop, set, getD, length-append, length-drop, take-append-drop, drop-of-length-le}
-use lib.Seq.{append-snoc, set-split, take-at, drop-drop, drop-append-add, length-take-le, drop-cons}
+use lib.ListN.{length, take, drop, set, getD, length-append, length-drop, length-set}
+use lib.ListN.{take-append-drop, drop-of-length-le}
+use lib.Seq.{append-snoc, set-split, take-at, drop-at, drop-drop, drop-append-add, length-take-le, drop-cons}
+use lib.Seq.{take-set-le}
 use borrow.Author.Tests.{le-leb, lt-leb, leb-true, leb-false}
 use Rattle.base.proofs.Loop.{pick-yes, pick-no, tested}
 use Rattle.text_writer.specs.declared.Written.the-variants.{Next, TooSmall}
 use Rattle.text.specs.Fields.{newline}
 use Rattle.text_writer.specs.Digits.{digits}
 use Rattle.text_writer.specs.Written.{put, after, next, tabbedOne, tabbed, answerLine}
+use Rattle.text_writer.proofs.Decimals.{lastDigits, length-last, digits-last}
 
 head-long : (buf xs : List ℕ) (at : ℕ) → at + length xs ≤ length buf → length (take at buf ++ xs) ≡ at + length xs
 head-long buf xs at h = length-append (take at buf) xs ∙ ap (λ (n : ℕ). n + length xs) (length-take-le at buf (omega arith))
@@ -57,6 +60,20 @@ put-last buf xs m at p v e h g =
     ∙ put-one (put buf at xs) p v (omega arith)
     ∙ put-put buf xs (v ∷ []) at p e (omega arith)
 
+-- one byte behind a run that is still to be put
+pub put-before : (buf xs : List ℕ) (at p v : ℕ) → p ≡ at + length xs → p < length buf →
+    put (set buf p v) at xs ≡ put buf at (xs ++ (v ∷ []))
+unfolding put
+put-before buf xs at p v e h =
+    let s : drop (at + length xs) (set buf p v) ≡ v ∷ drop (suc p) buf =
+    ap (λ (n : ℕ). drop n (set buf p v)) (sym e)
+    ∙ ap (drop p) (set-split buf p v h)
+    ∙ drop-at (take p buf) (v ∷ drop (suc p) buf) p (length-take-le p buf (omega arith)) in
+    let z : suc p ≡ at + length (xs ++ (v ∷ [])) = omega (arith, length-append xs (v ∷ [])) in
+    ap₂ (λ (a b : List ℕ). a ++ xs ++ b) (take-set-le at buf p v (omega arith)) s
+    ∙ sym (append-snoc (take at buf ++ xs) v (drop (suc p) buf))
+    ∙ ap₂ (λ (a b : List ℕ). a ++ b) (append-assoc (take at buf) xs (v ∷ [])) (ap (λ (n : ℕ). drop n buf) z)
+
 -- room from `at` on
 pub room-from : (at k len : ℕ) → at ≤ len → leb k (len - at) ≡ leb (at + k) len
 room-from at k len h = tested (leb (at + k) len)
@@ -72,6 +89,47 @@ module _ (buf bytes : List ℕ) (at : ℕ) where
   pub refused : length buf < at + length bytes → (next buf at bytes ≡ TooSmall) × (after buf at bytes ≡ buf)
   unfolding next after
   refused h = (pick-no _ _ (lt-leb _ _ h), pick-no _ _ (lt-leb _ _ h))
+
+-- ---- a number's digits, the last one first
+-- the digits from p on stand; with those of `quotient` from `at` up to p the buffer is what it is to be
+pub record Backward (n : ℕ) (buf₀ : List ℕ) (at : ℕ) (buf : List ℕ) (p quotient : ℕ) : Type 0 where
+  pub long : length buf ≡ length buf₀
+  pub to : p ≤ at + length (digits n)
+  pub whole : put buf at (lastDigits (p - at) quotient) ≡ put buf₀ at (digits n)
+
+module _ (n : ℕ) (buf₀ : List ℕ) (at : ℕ) where
+  pub backward-start : (p : ℕ) → p ≡ at + length (digits n) → Backward n buf₀ at buf₀ p n
+  backward-start p e =
+      let z : p - at ≡ length (digits n) = omega arith in
+      record {
+        long = refl;
+        to = omega arith;
+        whole = ap (put buf₀ at) (ap (λ (k : ℕ). lastDigits k n) z ∙ digits-last n);
+      }
+
+  pub backward-step : (buf : List ℕ) (p quotient : ℕ) → at < p → at + length (digits n) ≤ length buf₀ →
+      Backward n buf₀ at buf p quotient →
+      Backward n buf₀ at (set buf (p - 1) (48 + quotient % 10)) (p - 1) (quotient / 10)
+  unfolding lastDigits
+  backward-step buf p quotient h f w =
+      let k = p - 1 - at in
+      let z : p - at ≡ suc k = omega arith in
+      let e : p - 1 ≡ at + length (lastDigits k (quotient / 10)) = omega (arith, length-last k (quotient / 10)) in
+      let inside : p - 1 < length buf = omega (arith, w .long, w .to) in
+      record {
+        long = length-set buf (p - 1) (48 + quotient % 10) ∙ w .long;
+        to = omega (arith, w .to);
+        whole = put-before buf (lastDigits k (quotient / 10)) at (p - 1) (48 + quotient % 10) e inside
+            ∙ sym (ap (λ (j : ℕ). put buf at (lastDigits j quotient)) z)
+            ∙ w .whole;
+      }
+
+  pub backward-done : (buf : List ℕ) (p quotient : ℕ) → p ≤ at → Backward n buf₀ at buf p quotient →
+      buf ≡ put buf₀ at (digits n)
+  unfolding lastDigits
+  backward-done buf p quotient h w =
+      let z : p - at ≡ 0 = omega arith in
+      sym (put-none buf at) ∙ sym (ap (λ (j : ℕ). put buf at (lastDigits j quotient)) z) ∙ w .whole
 
 -- ---- an answer's numbers
 pub tabbed-long : (n : ℕ) → length (tabbedOne n) ≡ length (digits n) + 1

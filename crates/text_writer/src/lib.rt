@@ -13,18 +13,20 @@ pub enum Written {
     TooSmall,
 }
 
-// Writes n from `at` on, and answers where the next byte goes: the quotient's digits, then the last one.
+// Writes n from `at` on, and answers where the next byte goes: the last digit first, then those of the quotient.
 fn write_digits(n: u32, buf: &mut [u8], at: usize) -> usize
     requires { ⌜ at + length (digits n) ≤ length (now buf) ⌝ }
     ensures { λ r. ⌜ (r ≡ at + length (digits n)) × (now (buf .exit) ≡ put (now (buf .entry)) at (digits n)) ⌝ }
 {
-    if n < 10 {
-        buf[at] = (48 + n) as u8;
-        return at + 1;
+    let end = at + count_digits(n);
+    let mut p = end;
+    let mut quotient = n;
+    while at < p {
+        p -= 1;
+        buf[p] = (48 + quotient % 10) as u8;
+        quotient /= 10;
     }
-    let p = write_digits(n / 10, buf, at);
-    buf[p] = (48 + n % 10) as u8;
-    p + 1
+    end
 }
 
 // How many digits n has.
