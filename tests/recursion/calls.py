@@ -90,6 +90,6 @@ for path, crate, printer in (
         made = sum(map(len, graph.values()))
         print(f'{crate}: {len(graph)} functions with {made} calls, and none calls itself; the longest chains of calls,')
         for what, chain in (('of all', max(longest.values(), key=len)), ('that prints', longest.get(printer, []))):
-            print(f'  {what}, {len(chain)} deep:', ' > '.join(chain))
+            print(f'  {what}, {len(chain)} functions:', ' > '.join(chain))
 print(f'{passed} passed, {failed} failed')
 sys.exit(1 if failed else 0)
