@@ -10,6 +10,8 @@
 // At crossed bounds the Rust panics too, and document 02 has a conflict that stands. A session is compared up to the
 // first of these: its list is asked for, and its newest literal undone. What is expected there is worked out from the
 // literals that stand (tests/rust/crossed.rs).
+// Each proposal that the Rust registers on the way is counted, and so are those of a literal that stands or whose
+// negation stands (tests/rust/proposals.rs): document 02, request 5, has it that there are none.
 #![allow(dead_code)]
 use std::io::{Read, Write};
 use std::panic::{catch_unwind, AssertUnwindSafe};
@@ -33,6 +35,7 @@ mod generate;
 mod graph_division {
     include!(env!("GRAPH_DIVISION_COPY"));
     include!("../rust/first_match.rs");
+    include!("../rust/proposals.rs");
 
     impl GraphDivision {
         pub fn lits(&self) -> &[Lit] {
@@ -729,6 +732,33 @@ fn shorter(yard: &str, text: &str) -> String {
     }
 }
 
+// The counts where literal `noted` is noted, `undone` is undone in its place, and the Rust is initialised. Its undo takes
+// back what the newest literal did, and counts the named one as not notified: refusal 11 shuts that out.
+fn miscounted(noted: i32, undone: i32) -> [usize; 3] {
+    let mut plan = Plan::default();
+    plan.take("P", &[1, 0]);
+    plan.take("G", &[0, 0, 0]);
+    let mut d = plan.build();
+    let mut solver = Solver { table: vec![0], handed: vec![] };
+    for op in [Op::Propagate(Lit(noted), 1), Op::Undo(Lit(undone)), Op::Initialize] {
+        attempt(&mut d, &op, &mut solver).expect("a call that the Rust takes");
+    }
+    graph_division::counts()
+}
+
+// Prints the counts of the proposals, and says whether they are right.
+fn nothing_standing_proposed() -> bool {
+    let [proposed, of_notified, of_negation] = graph_division::counts();
+    print!("the Rust registered {proposed} proposals: {of_notified} of a literal that stands, ");
+    println!("{of_negation} of one whose negation stands");
+    // Counts that do not rise where the Rust does propose such literals would show nothing.
+    let rise = miscounted(1, 0) == [1, 1, 0] && miscounted(0, 1) == [1, 0, 1];
+    if !rise {
+        println!("the counts do not rise at calls where the Rust proposes such literals");
+    }
+    rise && proposed > 0 && of_notified + of_negation == 0
+}
+
 fn run(yard: &str, seed: u64, calls: usize) -> bool {
     let mut r = Rng::new(seed);
     let (mut sessions, mut made, mut failed) = (0, 0, 0);
@@ -776,6 +806,9 @@ fn run(yard: &str, seed: u64, calls: usize) -> bool {
     // So many sessions without both kinds would test nothing of crossed bounds.
     if sessions >= 1000 && (by_notification == 0 || by_initialize == 0) {
         println!("no session meets crossed bounds by a notification, or none by an initialise");
+        failed += 1;
+    }
+    if !nothing_standing_proposed() {
         failed += 1;
     }
     println!("{passed} passed, {failed} failed");

@@ -16,6 +16,7 @@ pub mod Store
 pub mod Computes
 pub mod Refusals
 pub mod Truths
+pub mod Proposed
 pub mod Crossed
 pub mod Alike
 pub mod Slots

@@ -23,11 +23,13 @@ use Rattle.claims.specs.Conditions.{builtStart, builtPlan, replyTo, outc
 use Rattle.claims.specs.Runs.{RunsBetween}
 use Rattle.claims.specs.Crossed.{CrossedConflicts}
 use Rattle.claims.specs.Pages.{Pages}
+use Rattle.claims.specs.Standing.{NothingStandingProposed}
 use Rattle.claims.proofs.Replying.{At}
 use Rattle.claims.proofs.Lists as lists
 use Rattle.claims.proofs.Between as between
 use Rattle.claims.proofs.Crossed as crossed
 use Rattle.claims.proofs.Pages as paged
+use Rattle.claims.proofs.Standing as standing
 
 module _ (vs : List ℤ) (n : ℕ) (es : List ℤ) (m : ℕ) (sameSize extraWalls : Bool) (z : built vs n es m sameSize extraWalls .refusal ≡ 0) where
   at-start : At (builtPlan vs n es m sameSize extraWalls) (builtStart vs n es m sameSize extraWalls) calls.built
@@ -62,6 +64,10 @@ module _ (vs : List ℤ) (n : ℕ) (es : List ℤ) (m : ℕ) (sameSize extraWall
   -- document 02, request 3
   pub pages : Pages (builtStart vs n es m sameSize extraWalls) (builtPlan vs n es m sameSize extraWalls)
   pages = paged.pages _ _ at-start proper-built
+
+  -- document 02, request 5
+  pub nothing-standing-proposed : NothingStandingProposed (builtStart vs n es m sameSize extraWalls) (builtPlan vs n es m sameSize extraWalls)
+  nothing-standing-proposed = standing.nothing-standing-proposed _ _ at-start proper-built
 
   -- "Verdicts turned away": a call's refusal has a number of that table
   pub refusal-range : (before : List Request) (q : Request) (m′ : ℕ) →

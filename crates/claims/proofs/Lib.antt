@@ -11,4 +11,5 @@ pub mod Asking
 pub mod Between
 pub mod Crossed
 pub mod Pages
+pub mod Standing
 pub mod Built

@@ -253,7 +253,7 @@ module _ (D : Plan) where
 
     module _ (proper : Proper D) where
       -- ---- condition 2
-      run-more : (before : List Request) (q : Request) → calls.run D (callsOf start (before ++ (q ∷ []))) ≡ outcome before q .world
+      pub run-more : (before : List Request) (q : Request) → calls.run D (callsOf start (before ++ (q ∷ []))) ≡ outcome before q .world
       unfolding calls.run
       run-more before q = ap (calls.after D calls.built) (calls-more start before q) ∙ after-more D calls.built (callsOf start before) (callOf (after start before) q)
 

@@ -3,3 +3,4 @@ pub mod Conditions
 pub mod Runs
 pub mod Crossed
 pub mod Pages
+pub mod Standing

@@ -29,6 +29,7 @@ use Rattle.claims.specs.Conditions.{replyTo, outcomeTo, Condition1, Condition2,
 use Rattle.claims.specs.Runs.{RunsBetween}
 use Rattle.claims.specs.Crossed.{CrossedConflicts}
 use Rattle.claims.specs.Pages.{Pages}
+use Rattle.claims.specs.Standing.{NothingStandingProposed}
 use Rattle.claims.proofs.Built as claims
 use Rattle.byte_calls.specs.Bytes.{wordAt}
 use Rattle.byte_calls.specs.Codes.{fitted}
@@ -141,6 +142,8 @@ module _ (vs : List ℤ) (n : ℕ) (es : List ℤ) (m : ℕ) (a b : ℤ) (before
     runs-between = of-start RunsBetween (claims.runs-between vs n es m (isOn a) (isOn b) accepted);
     crossed-conflicts = of-start CrossedConflicts (claims.crossed-conflicts vs n es m (isOn a) (isOn b) accepted);
     pages = of-start Pages (claims.pages vs n es m (isOn a) (isOn b) accepted);
+    nothing-standing-proposed =
+        of-start NothingStandingProposed (claims.nothing-standing-proposed vs n es m (isOn a) (isOn b) accepted);
     condition-1 = first-condition;
     condition-2 = second-condition;
     condition-3 = third-condition;

@@ -28,6 +28,7 @@ use Rattle.claims.specs.Conditions.{AllQuiet, standingThen, Condition1, Conditi
 use Rattle.claims.specs.Runs.{RunsBetween}
 use Rattle.claims.specs.Crossed.{CrossedConflicts}
 use Rattle.claims.specs.Pages.{Pages}
+use Rattle.claims.specs.Standing.{NothingStandingProposed}
 use Rattle.byte_calls.specs.Codes.{answerCode, givenBy}
 use Rattle.byte_calls.specs.Layout.{stateIn, cursorIn, logIn, listIn, bufferIn}
 use Rattle.byte_calls.specs.Stores.{putList}
@@ -201,10 +202,11 @@ pub record HostConditions (sameSize extraWalls : ℤ) (start : Kept) (d : Plan) 
   pub reads : {qs : List Request} {k k′ : Kept} {q : Request} {list : List ℕ} {x : Said} →
       AllHostMade start qs k → HostMade k q list x k′ → (n : ℕ) → x .code ≡ pos n →
       valuesAt (asksPage q) (x .list) n ≡ literalsOf (reply (after start qs) q)
-  -- of these replies the conditions speak, and document 02, requests 1, 2 and 3
+  -- of these replies the conditions speak, and document 02, requests 1, 2, 3 and 5
   pub runs-between : RunsBetween start d
   pub crossed-conflicts : CrossedConflicts start d
   pub pages : Pages start d
+  pub nothing-standing-proposed : NothingStandingProposed start d
   pub condition-1 : Condition1 start d
   pub condition-2 : Condition2 start d
   -- "Both options off"

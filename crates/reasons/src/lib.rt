@@ -89,7 +89,9 @@ pub fn packed_lits(a: u32, b: u32, c: u32, d: u32) -> u64
         + 281474976710656 * ((d % 65536) as u64)
 }
 
-// The two words of the literal at place p of the distinct literals.
+// The two words of the literal at place p of the distinct literals. The Rust's `register_propagation` leaves out the
+// reason of a literal that is notified already. This stores always: no analysis proposes a literal that stands, or
+// whose negation stands (claims specs/Standing).
 pub fn put(proposals: &mut [u64], p: u32, first: u64, second: u64)
     ensures { λ _. ⌜ now (proposals .exit) ≡ put p first second (now (proposals .entry)) ⌝ }
 {
