@@ -65,7 +65,7 @@ module _ (vs : List ℤ) (n : ℕ) (es : List ℤ) (m : ℕ) (sameSize extraWall
   pub pages : Pages (builtStart vs n es m sameSize extraWalls) (builtPlan vs n es m sameSize extraWalls)
   pages = paged.pages _ _ at-start proper-built
 
-  -- document 02, request 5
+  -- document 02, request 5: "under either option"
   pub nothing-standing-proposed : NothingStandingProposed (builtStart vs n es m sameSize extraWalls) (builtPlan vs n es m sameSize extraWalls)
   nothing-standing-proposed = standing.nothing-standing-proposed _ _ at-start proper-built
 
