@@ -27,13 +27,14 @@ use Rattle.graph_division.specs.declared.GraphDivision.{GraphDivision}
 use Rattle.graph_division.specs.New.{built}
 use Rattle.graph_division.specs.Calls.{withNoted}
 use Rattle.lent.specs.Lent.{stateOf}
-use Rattle.byte_calls.specs.Bytes.{wordAt, longAt, putWords}
-use Rattle.byte_calls.specs.Layout.{inUse, planIn, endsAt, endsIn, wordsIn, reasonIn, reasonsIn, stateIn}
+use Rattle.base.specs.Bytes.{wordAt, longAt, putWords}
+use Rattle.byte_calls.specs.Layout.{inUse, planIn, endsAt, endsIn, reasonIn, reasonsIn, stateIn}
+use Rattle.base.specs.Bytes.{wordsIn}
 use Rattle.byte_calls.specs.After.{BytesAfter}
 use Rattle.byte_calls.specs.Stores.{BytesKept, putNoted, putEnds, putEdges, cleared}
 use Rattle.byte_calls.specs.Build.{buildRefused}
-use Rattle.byte_calls.proofs.Filling.{iter-length}
-use Rattle.byte_calls.proofs.Agreeing.{Agree, agree-word, agree-then, agree-part, putWords-agrees, putWords-in}
+use Rattle.base.proofs.Bytes.{iter-length}
+use Rattle.base.proofs.Bytes.{Agree, agree-word, agree-then, agree-part, putWords-agrees, putWords-in}
 use Rattle.byte_calls.proofs.Keeping.{kept-by, kept-same, kept-then, words-kept, noted-kept}
 use Rattle.byte_calls.proofs.Standing.{in-use-same, words-same, words-read, tabOf-length, tabOf-at}
 use Rattle.byte_calls.proofs.Using.{plan-in-use}

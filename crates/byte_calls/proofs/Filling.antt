@@ -15,42 +15,14 @@ use Rattle.base.specs.Iter.{iter, pick}
 use Rattle.base.specs.Lists.{filled}
 use Rattle.base.proofs.Loop.{iter-ind, iter-zero, pick-ind, pick-yes, pick-no}
 use Rattle.sweep.specs.Sweep.{proposedAt}
-use Rattle.byte_calls.specs.Bytes.{wordAt, putHalf, putWord, putLong, putHalves, putWords, putLongs}
-use Rattle.byte_calls.specs.Layout.{window, wordsIn, endsAt, usedEntries}
+use Rattle.base.specs.Bytes.{wordAt, putHalf, putWord, putLong, putHalves, putWords, putLongs}
+use Rattle.byte_calls.specs.Layout.{window, endsAt, usedEntries}
+use Rattle.base.specs.Bytes.{wordsIn}
 use Rattle.byte_calls.specs.Stores.{putReason, putReasons, putLast, putNoted}
 
 pub filled-more : (f : ℕ → ℕ) (a i k : ℕ) (l x : List ℕ) (v : ℕ) → x ≡ filled a i f l → k ≡ a + i → v ≡ f i → set x k v ≡ filled a (i + 1) f l
 unfolding filled iter
 filled-more f a i k l x v e q h = rw add-one (λ j. set (e j) (q j) (h j))
-
-pub putHalf-length : (a x : ℕ) (b : List ℕ) → length (putHalf a x b) ≡ length b
-unfolding putHalf
-putHalf-length a x b = simp length-set refl
-
-pub putWord-length : (a x : ℕ) (b : List ℕ) → length (putWord a x b) ≡ length b
-unfolding putWord
-putWord-length a x b = simp length-set refl
-
-pub putLong-length : (a x : ℕ) (b : List ℕ) → length (putLong a x b) ≡ length b
-unfolding putLong
-putLong-length a x b = putWord-length _ _ _ ∙ putWord-length _ _ _
-
-pub iter-length : (f : ℕ → List ℕ → List ℕ) → ((i : ℕ) (b : List ℕ) → length (f i b) ≡ length b) → (n : ℕ) (b : List ℕ) → length (iter f n b) ≡ length b
-unfolding iter
-iter-length f h zero b = refl
-iter-length f h (suc n) b = h n (iter f n b) ∙ iter-length f h n b
-
-pub putHalves-length : (l : List ℕ) (n : ℕ) (b : List ℕ) → length (putHalves l n b) ≡ length b
-unfolding putHalves
-putHalves-length l n b = iter-length _ (λ i c. putHalf-length _ _ c) n b
-
-pub putWords-length : (a : ℕ) (l : List ℕ) (n : ℕ) (b : List ℕ) → length (putWords a l n b) ≡ length b
-unfolding putWords
-putWords-length a l n b = iter-length _ (λ i c. putWord-length _ _ c) n b
-
-pub putLongs-length : (l : List ℕ) (from n : ℕ) (b : List ℕ) → length (putLongs l from n b) ≡ length b
-unfolding putLongs
-putLongs-length l from n b = iter-length _ (λ i c. putLong-length _ _ c) n b
 
 pub putReason-length : (words : List ℕ) (p : ℕ) (b : List ℕ) → length (putReason words p b) ≡ length b
 unfolding putReason

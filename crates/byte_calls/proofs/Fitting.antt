@@ -23,8 +23,9 @@ use Rattle.noting.specs.Words.{capped, boundAt, lowerOf, upperOf, lowerLitOf, u
 use Rattle.noting.specs.Note.{Noting, sizeEffect, edgeEffect, effectOf, undoRecord, boundSet, edgeSet, applied, pushedTo, noteSlot, boundary, oneMore, levelPushed, noteAt, note}
 use Rattle.noting.specs.Undo.{recordsOf, kept}
 use Rattle.refusals.specs.Refusals.{litNumber}
-use Rattle.byte_calls.specs.Bytes.{wordAt, longAt}
-use Rattle.byte_calls.specs.Layout.{window, sizesOf, litsOf, placesOf, indexOf, inUseOver, inUse, planIn, wordsIn, usedEntries, recordsIn, logIn}
+use Rattle.base.specs.Bytes.{wordAt, longAt}
+use Rattle.byte_calls.specs.Layout.{window, sizesOf, litsOf, placesOf, indexOf, inUseOver, inUse, planIn, usedEntries, recordsIn, logIn}
+use Rattle.base.specs.Bytes.{wordsIn}
 use Rattle.byte_calls.proofs.LastList.{Bytes, word-fits}
 
 -- kind and index of a byte each, a literal of two and a bound of four

@@ -33,8 +33,9 @@ use Rattle.graph_division.specs.declared.GraphDivision.{GraphDivision}
 use Rattle.graph_division.specs.declared.Outcome.{Outcome}
 use Rattle.graph_division.specs.Calls.{Called, withNoted, withJudged, refuse, adding, accepting, handingOn, settledBy, settled, propagated, undone}
 use Rattle.graph_division.specs.Initialize.{takenOver, taking, endedBy, entering, finished, begun, initialized}
-use Rattle.byte_calls.specs.Bytes.{wordAt}
-use Rattle.byte_calls.specs.Layout.{wordsIn, stateIn, cursorIn, listIn, logIn}
+use Rattle.base.specs.Bytes.{wordAt}
+use Rattle.byte_calls.specs.Layout.{stateIn, cursorIn, listIn, logIn}
+use Rattle.base.specs.Bytes.{wordsIn}
 use Rattle.byte_calls.specs.Host.{AfterOf, initializedIn, propagatedIn, undoneIn}
 use Rattle.byte_calls.specs.After.{Leaves}
 

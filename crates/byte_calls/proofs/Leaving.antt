@@ -25,10 +25,11 @@ use Rattle.graph_division.specs.declared.Answer.{Answer}
 use Rattle.graph_division.specs.Calls.{Called, called, outcome, propagated, undone, reasonFetched, lastFetched, runFetched}
 use Rattle.lent.specs.declared.Done.{Done}
 use Rattle.lent.specs.Lent.{Parts, stateAfter, calledOf}
-use Rattle.byte_calls.specs.Bytes.{wordAt, longAt}
+use Rattle.base.specs.Bytes.{wordAt, longAt}
 use Rattle.graph_division.specs.Answers.{isRefused}
 use Rattle.byte_calls.specs.Codes.{answerCode, givenBy}
-use Rattle.byte_calls.specs.Layout.{Decoded, decoded, decodedIn, inUse, inUseOver, planIn, endsIn, wordsIn, reasonsIn, stateIn, cursorIn, usedEntries, recordsIn, logIn, listIn, bufferIn}
+use Rattle.byte_calls.specs.Layout.{Decoded, decoded, decodedIn, inUse, inUseOver, planIn, endsIn, reasonsIn, stateIn, cursorIn, usedEntries, recordsIn, logIn, listIn, bufferIn}
+use Rattle.base.specs.Bytes.{wordsIn}
 use Rattle.byte_calls.specs.Stores.{BytesKept, putCursor, putList, putLog}
 use Rattle.byte_calls.specs.Host.{Left, leftWith, leftBy, leftOf, StateAfter, AfterOf, propagatedIn, hostPropagated, tooShort, short, Back, back, backBy, undoneIn, hostUndone, givenIn, hostReason, hostLast, hostRun, pageIn, hostPage}
 use Rattle.byte_calls.proofs.Coding.{code-back}

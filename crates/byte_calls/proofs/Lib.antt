@@ -1,6 +1,5 @@
 pub mod Filling
 pub mod Coding
-pub mod Agreeing
 pub mod Standing
 pub mod Storing
 pub mod Keeping

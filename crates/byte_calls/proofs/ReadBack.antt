@@ -43,11 +43,13 @@ use Rattle.notifications.specs.declared.Progress.{Progress}
 use Rattle.notifications.specs.Notifications.{litAt}
 use Rattle.graph_division.specs.Answers.{isRefused}
 use Rattle.byte_calls.specs.Host.{leftBy, leftOf, initializedIn, propagatedIn, backOf, backBy, undoneIn}
-use Rattle.byte_calls.specs.Bytes.{wordAt, longAt, putHalf, putWord, putLong, putHalves, putLongs}
-use Rattle.byte_calls.specs.Layout.{planIn, wordsIn, stateIn, cursorIn, usedEntries, recordsIn, logIn, listIn}
+use Rattle.base.specs.Bytes.{wordAt, longAt, putHalf, putWord, putLong, putHalves, putLongs}
+use Rattle.byte_calls.specs.Layout.{planIn, stateIn, cursorIn, usedEntries, recordsIn, logIn, listIn}
+use Rattle.base.specs.Bytes.{wordsIn}
 use Rattle.byte_calls.specs.Stores.{putCursor, putList, putLog}
-use Rattle.byte_calls.proofs.Filling.{capped-most, capped-less, room-is, putHalves-length, putWord-length, putLongs-length}
-use Rattle.byte_calls.proofs.Agreeing.{Agree, agree-word, agree-long, agree-then, putWord-agrees, putWord-in, putLong-agrees, putLong-in}
+use Rattle.byte_calls.proofs.Filling.{capped-most, capped-less, room-is}
+use Rattle.base.proofs.Bytes.{putHalves-length, putWord-length, putLongs-length}
+use Rattle.base.proofs.Bytes.{Agree, agree-word, agree-long, agree-then, putWord-agrees, putWord-in, putLong-agrees, putLong-in}
 use Rattle.byte_calls.proofs.Using.{capped-is}
 use Rattle.byte_calls.proofs.Leaving.{room-length, list-room}
 use Rattle.byte_calls.proofs.LastList.{Bytes, word-fits}

@@ -23,11 +23,13 @@ use Rattle.recorded.specs.declared.Recorded.{Recorded}
 use Rattle.recorded.specs.declared.Reasons.{Reasons}
 use Rattle.recorded.specs.Recorded.{holding, newest, recorded}
 use Rattle.recorded.proofs.Recording.{reasons-eq}
-use Rattle.byte_calls.specs.Bytes.{wordAt, longAt, putWord, putLong, putWords}
-use Rattle.byte_calls.specs.Layout.{window, sizesOf, litsOf, placesOf, indexOf, inUseOver, inUse, planIn, endsAt, endsIn, wordsIn, tabOf, reasonIn, reasonsIn}
+use Rattle.base.specs.Bytes.{wordAt, longAt, putWord, putLong, putWords}
+use Rattle.byte_calls.specs.Layout.{window, sizesOf, litsOf, placesOf, indexOf, inUseOver, inUse, planIn, endsAt, endsIn, tabOf, reasonIn, reasonsIn}
+use Rattle.base.specs.Bytes.{wordsIn}
 use Rattle.byte_calls.specs.Stores.{putReason, putReasons}
-use Rattle.byte_calls.proofs.Filling.{capped-most, putLong-length, putReason-length, iter-length}
-use Rattle.byte_calls.proofs.Agreeing.{Agree, agree-word, agree-long, agree-then, putLong-agrees, putLong-in}
+use Rattle.byte_calls.proofs.Filling.{capped-most, putReason-length}
+use Rattle.base.proofs.Bytes.{putLong-length, iter-length}
+use Rattle.base.proofs.Bytes.{Agree, agree-word, agree-long, agree-then, putLong-agrees, putLong-in}
 
 pub iter-same : {A : Type 0} (f g : ℕ → A → A) (n : ℕ) (a : A) → ((i : ℕ) (x : A) → i < n → f i x ≡ g i x) → iter f n a ≡ iter g n a
 unfolding iter

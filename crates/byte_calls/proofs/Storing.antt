@@ -25,11 +25,13 @@ use Rattle.recorded.specs.Recorded.{holding, newest, recorded}
 use Rattle.recorded.proofs.Recording.{reasons-eq}
 use Rattle.graph_division.specs.Calls.{withNoted, withJudged}
 use Rattle.lent.specs.Lent.{stateOf}
-use Rattle.byte_calls.specs.Bytes.{wordAt, longAt, putWord, putLong, putWords}
-use Rattle.byte_calls.specs.Layout.{planIn, endsIn, wordsIn, tabOf, reasonIn, reasonsIn, stateIn}
+use Rattle.base.specs.Bytes.{wordAt, longAt, putWord, putLong, putWords}
+use Rattle.byte_calls.specs.Layout.{planIn, endsIn, tabOf, reasonIn, reasonsIn, stateIn}
+use Rattle.base.specs.Bytes.{wordsIn}
 use Rattle.byte_calls.specs.Stores.{putReason, putReasons, putLast, putNoted}
-use Rattle.byte_calls.proofs.Filling.{capped-most, putLong-length, putReason-length, putReasons-length, putLast-length, putWord-length, putWords-length, iter-length}
-use Rattle.byte_calls.proofs.Agreeing.{Agree, agree-word, agree-long, agree-then, agree-part, putWord-agrees, putWord-in, putLong-agrees, putLong-in, putWords-agrees, putWords-in}
+use Rattle.byte_calls.proofs.Filling.{capped-most, putReason-length, putReasons-length, putLast-length}
+use Rattle.base.proofs.Bytes.{putLong-length, putWord-length, putWords-length, iter-length}
+use Rattle.base.proofs.Bytes.{Agree, agree-word, agree-long, agree-then, agree-part, putWord-agrees, putWord-in, putLong-agrees, putLong-in, putWords-agrees, putWords-in}
 use Rattle.byte_calls.proofs.Standing.{plan-same, ends-same, words-same, words-read, tabOf-length, tabOf-at, reasons-same}
 
 abbrev none : Recorded

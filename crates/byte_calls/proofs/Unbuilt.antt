@@ -9,7 +9,7 @@ use Rattle.base.proofs.Filled.{filled-in, filled-out}
 use Rattle.plan.specs.Words.{markOf, builtMark}
 use Rattle.graph_division.specs.NoPlan.{NoPlan}
 use Rattle.graph_division.proofs.NoPlan.{unmarked-no-plan}
-use Rattle.byte_calls.specs.Bytes.{wordAt}
+use Rattle.base.specs.Bytes.{wordAt}
 use Rattle.byte_calls.specs.Layout.{window, sizesOf, litsOf, placesOf, indexOf, inUseOver, inUse, planIn}
 
 module _ (f : ℕ → ℕ) where

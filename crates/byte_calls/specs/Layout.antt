@@ -15,7 +15,7 @@ use Rattle.recorded.specs.declared.Reasons.{Reasons}
 use Rattle.recorded.specs.Recorded.{holding}
 use Rattle.graph_division.specs.declared.GraphDivision.{GraphDivision}
 use Rattle.lent.specs.Lent.{stateOf}
-use Rattle.byte_calls.specs.Bytes.{wordAt, longAt}
+use Rattle.base.specs.Bytes.{wordAt, longAt}
 
 -- words `from` to `from + n - 1`, where f gives each, stored in their places
 unfoldable pub window : (ℕ → ℕ) → ℕ → ℕ → List ℕ → List ℕ
@@ -53,10 +53,6 @@ endsAt b g = getD b (60964 + 2 * g) 0 ∷ getD b (60965 + 2 * g) 0 ∷ []
 
 unfoldable pub endsIn : List ℕ → List (List ℕ)
 endsIn b = iter (λ g t. set t g (endsAt b g)) 128 (replicate 128 (0 ∷ 0 ∷ []))
-
--- n words from place a on
-unfoldable pub wordsIn : List ℕ → ℕ → ℕ → List ℕ
-wordsIn b a n = filled 0 n (λ i. wordAt b (a + 4 * i)) (replicate n 0)
 
 -- f 0, f 1, up to f (n - 1)
 unfoldable pub tabOf : {A : Type 0} → (ℕ → A) → ℕ → List A

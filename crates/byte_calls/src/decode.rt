@@ -9,7 +9,7 @@ ghost use mathlib.Core.Path.{_≡_};
 ghost use Prim.Native.Nat.{ℕ, _+_, _*_, _/_, _<_, _≤_};
 ghost use lib.ListN.{length, replicate};
 ghost use Rattle.noting.specs.Words.{capped};
-ghost use Rattle.byte_calls.specs.Bytes.{wordAt, longAt};
+ghost use Rattle.base.specs.Bytes.{wordAt, longAt};
 ghost use Rattle.byte_calls.specs.Layout.{sizesOf, litsOf, placesOf, indexOf, inUseOver, endsIn, cursorIn, usedEntries, decoded, decodedIn};
 ghost use Rattle.base.specs.Lists.{filled};
 

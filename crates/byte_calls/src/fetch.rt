@@ -22,7 +22,8 @@ ghost use mathlib.Core.Path.{_≡_};
 ghost use Prim.Native.Nat.{ℕ, _+_, _*_, _≤_, _<_};
 ghost use lib.ListN.{length};
 ghost use Rattle.graph_division.specs.Calls.{fetched, reasonFetched, lastFetched};
-ghost use Rattle.byte_calls.specs.Layout.{planIn, endsIn, wordsIn, stateIn, cursorIn, logIn, bufferIn, reasonWordIn};
+ghost use Rattle.byte_calls.specs.Layout.{planIn, endsIn, stateIn, cursorIn, logIn, bufferIn, reasonWordIn};
+ghost use Rattle.base.specs.Bytes.{wordsIn};
 ghost use Rattle.byte_calls.specs.Host.{back, givenIn};
 
 // A word of the reason at place p, whose first one stands at `at`; 0 past the last place.

@@ -25,8 +25,9 @@ ghost use lib.Dec.{eqb};
 ghost use lib.ListN.{length};
 ghost use Rattle.graph_division.specs.Answers.{isConsistent};
 ghost use Rattle.lent.specs.Lent.{withInitialized};
-ghost use Rattle.byte_calls.specs.Bytes.{wordAt};
-ghost use Rattle.byte_calls.specs.Layout.{planIn, endsIn, wordsIn, stateIn, cursorIn, listIn, logIn};
+ghost use Rattle.base.specs.Bytes.{wordAt};
+ghost use Rattle.byte_calls.specs.Layout.{planIn, endsIn, stateIn, cursorIn, listIn, logIn};
+ghost use Rattle.base.specs.Bytes.{wordsIn};
 ghost use Rattle.byte_calls.specs.Stores.{BytesKept};
 ghost use Rattle.byte_calls.specs.Host.{AfterOf, leftWith, leftOf, initializedIn};
 

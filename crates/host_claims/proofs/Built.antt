@@ -31,7 +31,7 @@ use Rattle.claims.specs.Crossed.{CrossedConflicts}
 use Rattle.claims.specs.Pages.{Pages}
 use Rattle.claims.specs.Standing.{NothingStandingProposed}
 use Rattle.claims.proofs.Built as claims
-use Rattle.byte_calls.specs.Bytes.{wordAt}
+use Rattle.base.specs.Bytes.{wordAt}
 use Rattle.byte_calls.specs.Codes.{fitted}
 use Rattle.byte_calls.specs.Layout.{stateIn, cursorIn}
 use Rattle.byte_calls.specs.Numbers.{numbersIn}

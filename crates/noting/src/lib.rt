@@ -6,12 +6,12 @@ pub mod replay;
 pub mod stands;
 pub mod undo;
 
-use plan::Plan;
 ghost use mathlib.Core.Path.{_≡_};
 ghost use lib.ListN.{replicate};
 ghost use Prim.Native.Nat.{ℕ, _+_, _≤_, _<_};
 ghost use Rattle.base.specs.Lists.{filled};
 ghost use Rattle.noting.specs.Words.{edgeStateOf, boundAt, lowerOf, upperOf, lowerLitOf, upperLitOf, capped, firstSize, lastSize, fresh};
+ghost use Rattle.plan.specs.Words.{wordsOf};
 
 pub const NOTED_WORDS: usize = 384;
 
@@ -86,8 +86,8 @@ fn capped(n: u32, most: u32) -> usize
     most as usize
 }
 
-fn first_size(plan: &Plan, v: usize) -> u32
-    ensures { λ r. ⌜ r ≡ firstSize (now (plan .entry)) v ⌝ }
+fn first_size(plan: &[u8], v: usize) -> u32
+    ensures { λ r. ⌜ r ≡ firstSize (wordsOf (now (plan .entry))) v ⌝ }
 {
     if 0 < plan::domain_len(plan, v) {
         return plan::domain(plan, v, 0);
@@ -95,8 +95,8 @@ fn first_size(plan: &Plan, v: usize) -> u32
     0
 }
 
-fn last_size(plan: &Plan, v: usize) -> u32
-    ensures { λ r. ⌜ r ≡ lastSize (now (plan .entry)) v ⌝ }
+fn last_size(plan: &[u8], v: usize) -> u32
+    ensures { λ r. ⌜ r ≡ lastSize (wordsOf (now (plan .entry))) v ⌝ }
 {
     let len = plan::domain_len(plan, v);
     if 0 < len {
@@ -117,9 +117,9 @@ fn fill(noted: &mut Noted, from: usize, n: usize, x: u32)
     }
 }
 
-fn fill_first(plan: &Plan, noted: &mut Noted, n: usize)
+fn fill_first(plan: &[u8], noted: &mut Noted, n: usize)
     requires { ⌜ n ≤ 64 ⌝ }
-    ensures { λ r. ⌜ now (noted .exit) ≡ filled 128 n (firstSize (now (plan .entry))) (now (noted .entry)) ⌝ }
+    ensures { λ r. ⌜ now (noted .exit) ≡ filled 128 n (firstSize (wordsOf (now (plan .entry)))) (now (noted .entry)) ⌝ }
 {
     let mut i = 0;
     while i < n {
@@ -129,9 +129,9 @@ fn fill_first(plan: &Plan, noted: &mut Noted, n: usize)
     }
 }
 
-fn fill_last(plan: &Plan, noted: &mut Noted, n: usize)
+fn fill_last(plan: &[u8], noted: &mut Noted, n: usize)
     requires { ⌜ n ≤ 64 ⌝ }
-    ensures { λ r. ⌜ now (noted .exit) ≡ filled 192 n (lastSize (now (plan .entry))) (now (noted .entry)) ⌝ }
+    ensures { λ r. ⌜ now (noted .exit) ≡ filled 192 n (lastSize (wordsOf (now (plan .entry)))) (now (noted .entry)) ⌝ }
 {
     let mut i = 0;
     while i < n {
@@ -142,8 +142,8 @@ fn fill_last(plan: &Plan, noted: &mut Noted, n: usize)
 }
 
 // Nothing noted. Words that the plan does not use stay as they are.
-pub fn fresh(plan: &Plan, noted: &mut Noted)
-    ensures { λ r. ⌜ now (noted .exit) ≡ fresh (now (plan .entry)) (now (noted .entry)) ⌝ }
+pub fn fresh(plan: &[u8], noted: &mut Noted)
+    ensures { λ r. ⌜ now (noted .exit) ≡ fresh (wordsOf (now (plan .entry))) (now (noted .entry)) ⌝ }
 {
     let vertices = capped(plan::num_vertices(plan), 64);
     let edges = capped(plan::num_edges(plan), 128);

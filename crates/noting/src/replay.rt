@@ -15,7 +15,6 @@ use crate::note::undo_record;
 use crate::undo::record_at;
 use crate::upper_bound;
 use crate::upper_bound_lit;
-use plan::Plan;
 use undo_log::Cursor;
 use undo_log::LEVEL_BOUNDARY;
 use undo_log::Record;
@@ -25,7 +24,7 @@ ghost use Prim.Native.Nat.{ℕ, _+_, _-_, _/_, _≤_, _<_};
 ghost use lib.ListN.{length, getD};
 ghost use Rattle.base.specs.Iter.{iter};
 ghost use Rattle.base.specs.Lists.{some};
-ghost use Rattle.plan.specs.Words.{verticesOf, edgesOf, occurrenceAt};
+ghost use Rattle.plan.specs.Words.{wordsOf, verticesOf, edgesOf, occurrenceAt};
 ghost use Rattle.noting.specs.Note.{placeIn};
 ghost use Rattle.noting.specs.Undo.{recordsOf};
 ghost use Rattle.noting.specs.Standing.{standing};
@@ -56,7 +55,7 @@ fn holds_at(log: &[u64], used: usize, at: usize, r: Record) -> bool
 }
 
 fn follow_slot(
-    plan: &Plan,
+    plan: &[u8],
     noted: &mut Noted,
     log: &[u64],
     used: usize,
@@ -64,7 +63,7 @@ fn follow_slot(
     s: usize,
     p: Place,
 ) -> Place
-    ensures { λ r. ⌜ followed (now (noted .exit)) r ≡ followSlot (now (plan .entry)) (now (log .entry)) used lit s (followed (now (noted .entry)) p) ⌝ }
+    ensures { λ r. ⌜ followed (now (noted .exit)) r ≡ followSlot (wordsOf (now (plan .entry))) (now (log .entry)) used lit s (followed (now (noted .entry)) p) ⌝ }
 {
     let at = p.at;
     if p.ok {
@@ -86,7 +85,7 @@ fn follow_slot(
 }
 
 fn follow_occurrence(
-    plan: &Plan,
+    plan: &[u8],
     noted: &mut Noted,
     log: &[u64],
     used: usize,
@@ -94,7 +93,7 @@ fn follow_occurrence(
     i: usize,
     p: Place,
 ) -> Place
-    ensures { λ r. ⌜ followed (now (noted .exit)) r ≡ followSlot (now (plan .entry)) (now (log .entry)) used lit (occurrenceAt (now (plan .entry)) i) (followed (now (noted .entry)) p) ⌝ }
+    ensures { λ r. ⌜ followed (now (noted .exit)) r ≡ followSlot (wordsOf (now (plan .entry))) (now (log .entry)) used lit (occurrenceAt (wordsOf (now (plan .entry))) i) (followed (now (noted .entry)) p) ⌝ }
 {
     let s = plan::occurrence_at(plan, i) as usize;
     follow_slot(plan, noted, log, used, lit, s, p)
@@ -102,7 +101,7 @@ fn follow_occurrence(
 
 // Every occurrence of the literal's variable, which is distinct variable k.
 fn follow_at(
-    plan: &Plan,
+    plan: &[u8],
     noted: &mut Noted,
     log: &[u64],
     used: usize,
@@ -111,7 +110,7 @@ fn follow_at(
     p: Place,
 ) -> Place
     requires { ⌜ k ≤ 4294967296 ⌝ }
-    ensures { λ r. ⌜ followed (now (noted .exit)) r ≡ followAt (now (plan .entry)) (now (log .entry)) used lit k (followed (now (noted .entry)) p) ⌝ }
+    ensures { λ r. ⌜ followed (now (noted .exit)) r ≡ followAt (wordsOf (now (plan .entry))) (now (log .entry)) used lit k (followed (now (noted .entry)) p) ⌝ }
 {
     let n = num_occurrences(plan, k);
     let from = plan::start_at(plan, k) as usize;
@@ -143,9 +142,9 @@ fn mark(marks: &mut [u8; 2176], k: usize)
 
 // Whether a notification starts there whose literal is known, and neither it nor its negation stood before. The literal's variable has
 // been searched: k is what was found.
-fn opens(plan: &Plan, marks: &[u8; 2176], log: &[u64], at: usize, k: usize) -> bool
-    requires { ⌜ k ≡ placeIn (now plan) (litAt (now log) at / 2) ⌝ }
-    ensures { λ r. ⌜ r ≡ opens (now (plan .entry)) (now (marks .entry)) (now (log .entry)) at ⌝ }
+fn opens(plan: &[u8], marks: &[u8; 2176], log: &[u64], at: usize, k: usize) -> bool
+    requires { ⌜ k ≡ placeIn (wordsOf (now plan)) (litAt (now log) at / 2) ⌝ }
+    ensures { λ r. ⌜ r ≡ opens (wordsOf (now (plan .entry))) (now (marks .entry)) (now (log .entry)) at ⌝ }
 {
     let lit = record_at(log, at).lit;
     let r = Record {
@@ -168,14 +167,14 @@ fn opens(plan: &Plan, marks: &[u8; 2176], log: &[u64], at: usize, k: usize) -> b
 
 // One notification of the log; past the cursor, nothing.
 fn replay_level(
-    plan: &Plan,
+    plan: &[u8],
     noted: &mut Noted,
     marks: &mut [u8; 2176],
     log: &[u64],
     used: usize,
     p: Place,
 ) -> Place
-    ensures { λ r. ⌜ replayed (now (marks .exit)) (now (noted .exit)) r ≡ replayLevel (now (plan .entry)) (now (log .entry)) used (replayed (now (marks .entry)) (now (noted .entry)) p) ⌝ }
+    ensures { λ r. ⌜ replayed (now (marks .exit)) (now (noted .exit)) r ≡ replayLevel (wordsOf (now (plan .entry))) (now (log .entry)) used (replayed (now (marks .entry)) (now (noted .entry)) p) ⌝ }
 {
     let at = p.at;
     if p.ok {
@@ -197,8 +196,8 @@ fn replay_level(
     p
 }
 
-fn replay(plan: &Plan, noted: &mut Noted, marks: &mut [u8; 2176], log: &[u64], used: usize) -> Place
-    ensures { λ r. ⌜ replayed (now (marks .exit)) (now (noted .exit)) r ≡ replay (now (plan .entry)) (now (log .entry)) used (replayed (now (marks .entry)) (now (noted .entry)) (place true 0)) ⌝ }
+fn replay(plan: &[u8], noted: &mut Noted, marks: &mut [u8; 2176], log: &[u64], used: usize) -> Place
+    ensures { λ r. ⌜ replayed (now (marks .exit)) (now (noted .exit)) r ≡ replay (wordsOf (now (plan .entry))) (now (log .entry)) used (replayed (now (marks .entry)) (now (noted .entry)) (place true 0)) ⌝ }
 {
     let mut p = Place { ok: true, at: 0 };
     let mut i = 0;
@@ -256,8 +255,8 @@ fn some_vertex_differs(a: &Noted, b: &Noted, n: usize) -> bool
     false
 }
 
-fn noted_differs(plan: &Plan, a: &Noted, b: &Noted) -> bool
-    ensures { λ r. ⌜ r ≡ notedDiffers (now (plan .entry)) (now (a .entry)) (now (b .entry)) ⌝ }
+fn noted_differs(plan: &[u8], a: &Noted, b: &Noted) -> bool
+    ensures { λ r. ⌜ r ≡ notedDiffers (wordsOf (now (plan .entry))) (now (a .entry)) (now (b .entry)) ⌝ }
 {
     if some_edge_differs(a, b, plan::num_edges(plan) as usize) {
         return true;
@@ -282,8 +281,8 @@ fn num_standing(log: &[u64], n: usize) -> usize
 }
 
 // Whether noting the log's literals afresh gives another log or other noted words.
-fn differs(plan: &Plan, noted: &Noted, log: &[u64], used: usize) -> bool
-    ensures { λ r. ⌜ r ≡ (not (afresh (now (plan .entry)) (now (log .entry)) used .follow .place .ok) || notedDiffers (now (plan .entry)) (afresh (now (plan .entry)) (now (log .entry)) used .follow .noted) (now (noted .entry))) ⌝ }
+fn differs(plan: &[u8], noted: &Noted, log: &[u64], used: usize) -> bool
+    ensures { λ r. ⌜ r ≡ (not (afresh (wordsOf (now (plan .entry))) (now (log .entry)) used .follow .place .ok) || notedDiffers (wordsOf (now (plan .entry))) (afresh (wordsOf (now (plan .entry))) (now (log .entry)) used .follow .noted) (now (noted .entry))) ⌝ }
 {
     let mut work = [0u32; 384];
     let mut marks = [0u8; 2176];
@@ -296,8 +295,8 @@ fn differs(plan: &Plan, noted: &Noted, log: &[u64], used: usize) -> bool
 }
 
 // The last part of refusal 7.
-pub fn log_bad(plan: &Plan, noted: &Noted, log: &[u64], cursor: Cursor) -> bool
-    ensures { λ r. ⌜ r ≡ logBad (now (plan .entry)) (now (noted .entry)) (now (log .entry)) cursor ⌝ }
+pub fn log_bad(plan: &[u8], noted: &Noted, log: &[u64], cursor: Cursor) -> bool
+    ensures { λ r. ⌜ r ≡ logBad (wordsOf (now (plan .entry))) (now (noted .entry)) (now (log .entry)) cursor ⌝ }
 {
     let used = cursor.used;
     if log.len() < used {

@@ -2,10 +2,9 @@
 // of the plan's distinct literals, which rise; specs/Sweep.antt says what each function does.
 pub mod table;
 
-use plan::Plan;
 use walks::push;
 ghost use mathlib.Core.Path.{_≡_};
-ghost use Rattle.plan.specs.Words.{uniqueLitAt};
+ghost use Rattle.plan.specs.Words.{wordsOf, uniqueLitAt};
 ghost use Prim.Native.Nat.{_≤_};
 ghost use lib.ListN.{length};
 ghost use Rattle.base.specs.Lists.{filled};
@@ -24,8 +23,8 @@ fn clear_words(proposals: &mut [u64], n: usize)
 }
 
 // No place is proposed any more; the words past the last place's stay.
-pub fn clear(plan: &Plan, proposals: &mut [u64])
-    ensures { λ _. ⌜ now (proposals .exit) ≡ cleared (now (plan .entry)) (now (proposals .entry)) ⌝ }
+pub fn clear(plan: &[u8], proposals: &mut [u64])
+    ensures { λ _. ⌜ now (proposals .exit) ≡ cleared (wordsOf (now (plan .entry))) (now (proposals .entry)) ⌝ }
 {
     let n = 4 * (plan::num_variables(plan) as usize);
     let len = proposals.len();
@@ -45,8 +44,8 @@ pub fn proposed(proposals: &[u64], p: usize) -> bool
     false
 }
 
-fn false_at(plan: &Plan, proposals: &[u64], table: &[u8], p: usize) -> bool
-    ensures { λ r. ⌜ r ≡ falseAt (now (plan .entry)) (now (proposals .entry)) (now (table .entry)) p ⌝ }
+fn false_at(plan: &[u8], proposals: &[u64], table: &[u8], p: usize) -> bool
+    ensures { λ r. ⌜ r ≡ falseAt (wordsOf (now (plan .entry))) (now (proposals .entry)) (now (table .entry)) p ⌝ }
 {
     if proposed(proposals, p) {
         return table::is_false(table, plan::unique_lit(plan, p));
@@ -55,8 +54,8 @@ fn false_at(plan: &Plan, proposals: &[u64], table: &[u8], p: usize) -> bool
 }
 
 // The lowest place that is proposed and whose literal is false, or the place past the last.
-pub fn first_false(plan: &Plan, proposals: &[u64], table: &[u8]) -> usize
-    ensures { λ r. ⌜ r ≡ firstFalseAt (now (plan .entry)) (now (proposals .entry)) (now (table .entry)) ⌝ }
+pub fn first_false(plan: &[u8], proposals: &[u64], table: &[u8]) -> usize
+    ensures { λ r. ⌜ r ≡ firstFalseAt (wordsOf (now (plan .entry))) (now (proposals .entry)) (now (table .entry)) ⌝ }
 {
     let n = 2 * (plan::num_variables(plan) as usize);
     let mut p = 0;
@@ -80,14 +79,14 @@ fn hand_on_lit(table: &mut [u8], list: &mut [u32], at: usize, lit: u64) -> usize
 }
 
 fn hand_on_place(
-    plan: &Plan,
+    plan: &[u8],
     proposals: &[u64],
     table: &mut [u8],
     list: &mut [u32],
     at: usize,
     p: usize,
 ) -> usize
-    ensures { λ r. ⌜ handing (now (table .exit)) (now (list .exit)) r ≡ handedAt (now (plan .entry)) (now (proposals .entry)) p (handing (now (table .entry)) (now (list .entry)) at) ⌝ }
+    ensures { λ r. ⌜ handing (now (table .exit)) (now (list .exit)) r ≡ handedAt (wordsOf (now (plan .entry))) (now (proposals .entry)) p (handing (now (table .entry)) (now (list .entry)) at) ⌝ }
 {
     if proposed(proposals, p) {
         return hand_on_lit(table, list, at, plan::unique_lit(plan, p));
@@ -98,13 +97,13 @@ fn hand_on_place(
 // Each proposed literal that is unset when its turn comes, in rising order: its entry becomes 3 or 4, and it goes to the list
 // from `at` on. The answer is the place past the last.
 pub fn hand_on(
-    plan: &Plan,
+    plan: &[u8],
     proposals: &[u64],
     table: &mut [u8],
     list: &mut [u32],
     at: usize,
 ) -> usize
-    ensures { λ r. ⌜ handing (now (table .exit)) (now (list .exit)) r ≡ handedOn (now (plan .entry)) (now (proposals .entry)) (handing (now (table .entry)) (now (list .entry)) at) ⌝ }
+    ensures { λ r. ⌜ handing (now (table .exit)) (now (list .exit)) r ≡ handedOn (wordsOf (now (plan .entry))) (now (proposals .entry)) (handing (now (table .entry)) (now (list .entry)) at) ⌝ }
 {
     let n = 2 * (plan::num_variables(plan) as usize);
     let mut p = 0;

@@ -6,14 +6,14 @@ use mathlib.Core.Bool.{false}
 use native.Mathlib.Nat.{not-suc-le-zero}
 use borrow.Author.Count.{below-more}
 use Rattle.division.specs.Regions.{lowest}
-use Rattle.plan.specs.Words.{variablesOf}
+use Rattle.plan.specs.Words.{wordsOf, variablesOf}
 use Rattle.sweep.specs.Sweep.{falseAt, firstFalseAt}
 use Rattle.sweep.proofs.Loops.{lowest-is, lowest-none}
 use Rattle.sweep.proofs.first_false.Statement.{statement}
 use Rattle.sweep.proofs.first_false.Tie as tie
 
 abbrev Inv-loop : tie.InvT-loop
-Inv-loop plan proposals table n p₀ p = (p ≤ n) × ((n ≡ 2 * variablesOf plan) × ((k : ℕ) → k < p → falseAt plan proposals table k ≡ false))
+Inv-loop plan proposals table n p₀ p = (p ≤ n) × ((n ≡ 2 * variablesOf (wordsOf plan)) × ((k : ℕ) → k < p → falseAt (wordsOf plan) proposals table k ≡ false))
 
 abbrev μ-loop : tie.MeasureT-loop
 μ-loop plan proposals table n p₀ p = n - p

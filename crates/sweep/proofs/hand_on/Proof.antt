@@ -5,14 +5,14 @@ use borrow.Author.Needs.{needs}
 use lib.ListN.{length}
 use Rattle.base.specs.Iter.{iter}
 use Rattle.base.proofs.Loop.{iter-zero, iter-more, iter-done}
-use Rattle.plan.specs.Words.{variablesOf}
+use Rattle.plan.specs.Words.{wordsOf, variablesOf}
 use Rattle.sweep.specs.Sweep.{Handed, handing, handedAt, handedOn}
 use Rattle.sweep.proofs.Loops.{all-table, all-list}
 use Rattle.sweep.proofs.hand_on.Statement.{statement}
 use Rattle.sweep.proofs.hand_on.Tie as tie
 
 abbrev Inv-loop : tie.InvT-loop
-Inv-loop plan proposals table₀ list₀ at n p₀ past₀ table list p past = (p ≤ n) × ((n ≡ 2 * variablesOf plan) × (handing table list past ≡ iter (handedAt plan proposals) p (handing table₀ list₀ at)))
+Inv-loop plan proposals table₀ list₀ at n p₀ past₀ table list p past = (p ≤ n) × ((n ≡ 2 * variablesOf (wordsOf plan)) × (handing table list past ≡ iter (handedAt (wordsOf plan) proposals) p (handing table₀ list₀ at)))
 
 abbrev μ-loop : tie.MeasureT-loop
 μ-loop plan proposals table₀ list₀ at n p₀ past₀ table list p past = n - p

@@ -1,7 +1,7 @@
 use mathlib.Core.Path.{_≡_, refl, sym, ap, ap₂, _∙_}
 use Prim.Native.Nat.{ℕ, _≤_, _<_, _+_, _-_, _*_, _/_, _%_}
 use native.Mathlib.Omega.{arith}
-use Rattle.byte_calls.specs.Bytes.{wordAt, longAt, putHalf, putWord, putLong, putHalves, putWords, putLongs}
+use Rattle.base.specs.Bytes.{wordAt, longAt, putHalf, putWord, putLong, putHalves, putWords, putLongs}
 use Rattle.byte_calls.specs.Stores.{putReason, putReasons, putLast, putNoted, putCursor, putList, putLog}
 use mathlib.Core.Bool.{true, false, true≢false}
 use Rattle.byte_calls.proofs.Leaving.{is-left, is-kept, leaves, state-left, list-room, log-room}

@@ -4,7 +4,7 @@ use native.Mathlib.Omega.{arith}
 use lib.ListN.{length}
 use Rattle.base.specs.Iter.{iter}
 use Rattle.base.proofs.Loop.{iter-zero, iter-more, iter-done}
-use Rattle.plan.specs.Words.{variablesOf}
+use Rattle.plan.specs.Words.{wordsOf, variablesOf}
 use Rattle.notifications.specs.Notifications.{mergedAt, merged}
 use Rattle.notifications.proofs.Cases.{merged-length}
 use borrow.Author.Needs.{needs}
@@ -12,7 +12,7 @@ use Rattle.notifications.proofs.merge.merge.Statement.{statement}
 use Rattle.notifications.proofs.merge.merge.Tie as tie
 
 abbrev Inv-loop : tie.InvT-loop
-Inv-loop plan proposals words₀ n p₀ words p = (p ≤ n) × ((n ≡ 2 * variablesOf plan) × (words ≡ iter (mergedAt proposals) p words₀))
+Inv-loop plan proposals words₀ n p₀ words p = (p ≤ n) × ((n ≡ 2 * variablesOf (wordsOf plan)) × (words ≡ iter (mergedAt proposals) p words₀))
 
 abbrev μ-loop : tie.MeasureT-loop
 μ-loop plan proposals words₀ n p₀ words p = n - p

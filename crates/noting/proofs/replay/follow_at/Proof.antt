@@ -4,13 +4,13 @@ use Prim.Native.Nat.{ℕ, suc, pred, _+_, _-_, _*_, _/_, _%_, _≤_, _<_}
 use native.Mathlib.Omega.{arith}
 use Rattle.base.proofs.Loop.{iter-zero, iter-more, iter-done}
 use Rattle.base.specs.Iter.{iter}
-use Rattle.plan.specs.Words.{occurrenceAt, startAt}
+use Rattle.plan.specs.Words.{wordsOf, occurrenceAt, startAt}
 use Rattle.noting.specs.Replay.{followed, followSlot, followAt}
 use Rattle.noting.proofs.replay.follow_at.Statement.{statement}
 use Rattle.noting.proofs.replay.follow_at.Tie as tie
 
 abbrev Inv-loop : tie.InvT-loop
-Inv-loop plan noted₀ log used lit k n from cur₀ i₀ noted cur i = (i ≤ n) × (followed noted cur ≡ iter (λ i y. followSlot plan log used lit (occurrenceAt plan (from + i)) y) i (followed noted₀ cur₀))
+Inv-loop plan noted₀ log used lit k n from cur₀ i₀ noted cur i = (i ≤ n) × (followed noted cur ≡ iter (λ i y. followSlot (wordsOf plan) log used lit (occurrenceAt (wordsOf plan) (from + i)) y) i (followed noted₀ cur₀))
 
 abbrev μ-loop : tie.MeasureT-loop
 μ-loop plan noted₀ log used lit k n from cur₀ i₀ noted cur i = n - i
@@ -46,7 +46,7 @@ loop-again c = (omega arith, iter-more _ _ _ _ _ ((c .before .before .before .lo
 
 returns : tie.Need-returns Inv-loop μ-loop
 unfolding followAt
-returns c = iter-done _ _ _ _ _ ((c .before .loop) .inv .1) (omega arith) (omega arith) ∙ ap₂ (λ (a n : ℕ). iter (λ i y. followSlot ((c .before .before .before .before .before .args) .plan .now) ((c .before .before .before .before .before .args) .log .now) ((c .before .before .before .before .before .args) .used) ((c .before .before .before .before .before .args) .lit) (occurrenceAt ((c .before .before .before .before .before .args) .plan .now) (a + i)) y) n (followed ((c .before .before .before .before .before .args) .noted .now) ((c .before .before .before .before .before .args) .p))) ((c .before .before .start-at) .ensures) ((c .before .before .before .num-occurrences) .ensures .0)
+returns c = iter-done _ _ _ _ _ ((c .before .loop) .inv .1) (omega arith) (omega arith) ∙ ap₂ (λ (a n : ℕ). iter (λ i y. followSlot (wordsOf ((c .before .before .before .before .before .before .args) .plan .now)) ((c .before .before .before .before .before .before .args) .log .now) ((c .before .before .before .before .before .before .args) .used) ((c .before .before .before .before .before .before .args) .lit) (occurrenceAt (wordsOf ((c .before .before .before .before .before .before .args) .plan .now)) (a + i)) y) n (followed ((c .before .before .before .before .before .before .args) .noted .now) ((c .before .before .before .before .before .before .args) .p))) ((c .before .before .start-at) .ensures) ((c .before .before .before .num-occurrences) .ensures .0)
 
 pub follow-at-spec : {M : Type 1} → statement M
 follow-at-spec =

@@ -22,7 +22,7 @@ some-edge-differs-requires c κs = search needs
 
 returns : tie.Need-returns
 unfolding notedDiffers
-returns c = or-yes _ (ap (some (edgeDiffers ((c .before .before .before .args) .a .now) ((c .before .before .before .args) .b .now))) (sym ((c .before .before .num-edges) .ensures)) ∙ sym ((c .before .some-edge-differs) .ensures) ∙ (c .if1) .taken)
+returns c = or-yes _ (ap (some (edgeDiffers ((c .before .before .before .before .args) .a .now) ((c .before .before .before .before .args) .b .now))) (sym ((c .before .before .num-edges) .ensures)) ∙ sym ((c .before .some-edge-differs) .ensures) ∙ (c .if1) .taken)
 
 num-vertices-requires : tie.Need-num-vertices-requires
 num-vertices-requires c κs = search needs
@@ -35,7 +35,7 @@ some-vertex-differs-requires c κs = search needs
 
 returns-2 : tie.Need-returns-2
 unfolding notedDiffers
-returns-2 c = or-next _ _ (ap (some (edgeDiffers ((c .before .before .before .before .before .args) .a .now) ((c .before .before .before .before .before .args) .b .now))) (sym ((c .before .before .before .before .num-edges) .ensures)) ∙ sym ((c .before .before .before .some-edge-differs) .ensures) ∙ (c .before .before .if1) .left) ((c .some-vertex-differs) .ensures ∙ ap (some (vertexDiffers ((c .before .before .before .before .before .args) .a .now) ((c .before .before .before .before .before .args) .b .now))) ((c .before .num-vertices) .ensures))
+returns-2 c = or-next _ _ (ap (some (edgeDiffers ((c .before .before .before .before .before .before .args) .a .now) ((c .before .before .before .before .before .before .args) .b .now))) (sym ((c .before .before .before .before .num-edges) .ensures)) ∙ sym ((c .before .before .before .some-edge-differs) .ensures) ∙ (c .before .before .if1) .left) ((c .some-vertex-differs) .ensures ∙ ap (some (vertexDiffers ((c .before .before .before .before .before .before .args) .a .now) ((c .before .before .before .before .before .before .args) .b .now))) ((c .before .num-vertices) .ensures))
 
 pub noted-differs-spec : {M : Type 1} → statement M
 noted-differs-spec =

@@ -5,11 +5,12 @@ use native.Mathlib.Omega.{arith}
 use Rattle.base.proofs.Loop.{iter-zero, iter-more, iter-done}
 use Rattle.base.specs.Iter.{iter}
 use Rattle.noting.specs.Replay.{replayed, replayLevel, replay}
+use Rattle.plan.specs.Words.{wordsOf}
 use Rattle.noting.proofs.replay.replay.Statement.{statement}
 use Rattle.noting.proofs.replay.replay.Tie as tie
 
 abbrev Inv-loop : tie.InvT-loop
-Inv-loop plan noted₀ marks₀ log used p₀ i₀ noted marks p i = (i ≤ used) × (replayed marks noted p ≡ iter (λ _ y. replayLevel plan log used y) i (replayed marks₀ noted₀ p₀))
+Inv-loop plan noted₀ marks₀ log used p₀ i₀ noted marks p i = (i ≤ used) × (replayed marks noted p ≡ iter (λ _ y. replayLevel (wordsOf plan) log used y) i (replayed marks₀ noted₀ p₀))
 
 abbrev μ-loop : tie.MeasureT-loop
 μ-loop plan noted₀ marks₀ log used p₀ i₀ noted marks p i = used - i

@@ -7,9 +7,37 @@ use mathlib.Core.Logic.{_⊎_, inl, inr, ⊎-elim}
 use mathlib.Core.List.{List}
 use lib.ListN.{length, getD, set, length-set}
 use lib.Seq.{getD-set-same, getD-set-other}
 use Rattle.base.specs.Iter.{iter}
-use Rattle.byte_calls.specs.Bytes.{wordAt, longAt, putWord, putLong, putWords}
-use Rattle.byte_calls.proofs.Filling.{putWord-length, putLong-length, putWords-length}
+use Rattle.base.specs.Bytes.{wordAt, longAt, putHalf, putWord, putLong, putHalves, putWords, putLongs}
+
+pub putHalf-length : (a x : ℕ) (b : List ℕ) → length (putHalf a x b) ≡ length b
+unfolding putHalf
+putHalf-length a x b = simp length-set refl
+
+pub putWord-length : (a x : ℕ) (b : List ℕ) → length (putWord a x b) ≡ length b
+unfolding putWord
+putWord-length a x b = simp length-set refl
+
+pub putLong-length : (a x : ℕ) (b : List ℕ) → length (putLong a x b) ≡ length b
+unfolding putLong
+putLong-length a x b = putWord-length _ _ _ ∙ putWord-length _ _ _
+
+pub iter-length : (f : ℕ → List ℕ → List ℕ) → ((i : ℕ) (b : List ℕ) → length (f i b) ≡ length b) → (n : ℕ) (b : List ℕ) → length (iter f n b) ≡ length b
+unfolding iter
+iter-length f h zero b = refl
+iter-length f h (suc n) b = h n (iter f n b) ∙ iter-length f h n b
+
+pub putHalves-length : (l : List ℕ) (n : ℕ) (b : List ℕ) → length (putHalves l n b) ≡ length b
+unfolding putHalves
+putHalves-length l n b = iter-length _ (λ i c. putHalf-length _ _ c) n b
+
+pub putWords-length : (a : ℕ) (l : List ℕ) (n : ℕ) (b : List ℕ) → length (putWords a l n b) ≡ length b
+unfolding putWords
+putWords-length a l n b = iter-length _ (λ i c. putWord-length _ _ c) n b
+
+pub putLongs-length : (l : List ℕ) (from n : ℕ) (b : List ℕ) → length (putLongs l from n b) ≡ length b
+unfolding putLongs
+putLongs-length l from n b = iter-length _ (λ i c. putLong-length _ _ c) n b
 
 -- the bytes from lo up to hi are the same
 pub record Agree (lo hi : ℕ) (b c : List ℕ) : Type 0 where
@@ -121,10 +149,13 @@ module _ (a : ℕ) (l b : List ℕ) where
       (putWord-agrees (a + 4 * n) (getD l n 0) (putWords a l n b) lo hi (⊎-elim (λ (k : hi ≤ a). inl (omega arith)) (λ (k : a + 4 * suc n ≤ lo). inr (omega arith)) h))
       (putWords-agrees n lo hi (⊎-elim (λ (k : hi ≤ a). inl k) (λ (k : a + 4 * suc n ≤ lo). inr (omega arith)) h))
 
-  pub putWords-in : ((i : ℕ) → getD l i 0 < 4294967296) → (n i : ℕ) → i < n → a + 4 * n ≤ length b → wordAt (putWords a l n b) (a + 4 * i) ≡ getD l i 0
+  pub putWords-small : (n : ℕ) → ((i : ℕ) → i < n → getD l i 0 < 4294967296) → (i : ℕ) → i < n → a + 4 * n ≤ length b → wordAt (putWords a l n b) (a + 4 * i) ≡ getD l i 0
   unfolding putWords iter
-  putWords-in f zero i h r = absurd (not-suc-le-zero h)
-  putWords-in f (suc n) i h r = ⊎-elim
-      (λ (e : i ≡ n). ap (λ (j : ℕ). wordAt (putWord (a + 4 * n) (getD l n 0) (putWords a l n b)) (a + 4 * j)) e ∙ (putWord-in (a + 4 * n) (getD l n 0) (putWords a l n b) (f n) (omega (arith, putWords-length a l n b)) ∙ ap (λ (j : ℕ). getD l j 0) (sym e)))
-      (λ (k : i < n). agree-word (a + 4 * i) (putWord-agrees (a + 4 * n) (getD l n 0) (putWords a l n b) (a + 4 * i) (a + 4 * i + 4) (inl (omega arith))) (omega arith) (omega arith) ∙ putWords-in f n i k (omega arith))
+  putWords-small zero f i h r = absurd (not-suc-le-zero h)
+  putWords-small (suc n) f i h r = ⊎-elim
+      (λ (e : i ≡ n). ap (λ (j : ℕ). wordAt (putWord (a + 4 * n) (getD l n 0) (putWords a l n b)) (a + 4 * j)) e ∙ (putWord-in (a + 4 * n) (getD l n 0) (putWords a l n b) (f n (omega arith)) (omega (arith, putWords-length a l n b)) ∙ ap (λ (j : ℕ). getD l j 0) (sym e)))
+      (λ (k : i < n). agree-word (a + 4 * i) (putWord-agrees (a + 4 * n) (getD l n 0) (putWords a l n b) (a + 4 * i) (a + 4 * i + 4) (inl (omega arith))) (omega arith) (omega arith) ∙ putWords-small n (λ j q. f j (omega arith)) i k (omega arith))
       (eq-or-lt-of-le {n = i} {m = n} (omega arith))
+
+  pub putWords-in : ((i : ℕ) → getD l i 0 < 4294967296) → (n i : ℕ) → i < n → a + 4 * n ≤ length b → wordAt (putWords a l n b) (a + 4 * i) ≡ getD l i 0
+  putWords-in f n i h r = putWords-small n (λ j q. f j) i h r

@@ -1,8 +1,9 @@
 -- Numbers in bytes, the lowest byte first.
 use mathlib.Core.List.{List}
 use Prim.Native.Nat.{ℕ, _+_, _*_, _/_, _%_}
-use lib.ListN.{getD, set}
+use lib.ListN.{getD, set, replicate}
 use Rattle.base.specs.Iter.{iter}
+use Rattle.base.specs.Lists.{filled}
 
 -- the number of the 4 bytes from place a on, and of the 8
 unfoldable pub wordAt : List ℕ → ℕ → ℕ
@@ -10,6 +11,10 @@ wordAt b a = getD b a 0 + 256 * getD b (a + 1) 0 + 65536 * getD b (a + 2) 0 + 16
 
 unfoldable pub longAt : List ℕ → ℕ → ℕ
 longAt b a = wordAt b a + 4294967296 * wordAt b (a + 4)
+
+-- the n words from place a on
+unfoldable pub wordsIn : List ℕ → ℕ → ℕ → List ℕ
+wordsIn b a n = filled 0 n (λ i. wordAt b (a + 4 * i)) (replicate n 0)
 
 -- x in the 2, the 4 or the 8 bytes from place a on
 unfoldable pub putHalf : ℕ → ℕ → List ℕ → List ℕ
