@@ -2,6 +2,7 @@
 pub mod after;
 pub mod calc_reason;
 pub mod initialize;
+mod lending;
 pub mod page;
 pub mod propagate;
 pub mod run;

@@ -13,10 +13,10 @@ use native.Mathlib.Nat.{zero-add}
 use lib.ListN.{length, getD, set, replicate, length-set}
 use Rattle.base.specs.Iter.{iter, pick}
 use Rattle.base.specs.Lists.{filled}
-use Rattle.base.proofs.Loop.{iter-ind, iter-zero, pick-ind, pick-yes, pick-no}
+use Rattle.base.proofs.Loop.{iter-ind, iter-zero, pick-ind, pick-yes, pick-no, tested}
 use Rattle.sweep.specs.Sweep.{proposedAt}
 use Rattle.base.specs.Bytes.{wordAt, putHalf, putWord, putLong, putHalves, putWords, putLongs}
-use Rattle.byte_calls.specs.Layout.{window, endsAt, usedEntries}
+use Rattle.byte_calls.specs.Layout.{endsAt, usedEntries}
 use Rattle.base.specs.Bytes.{wordsIn}
 use Rattle.byte_calls.specs.Stores.{putReason, putReasons, putLast, putNoted}
 
@@ -84,3 +84,9 @@ room-is n = refl
 pub none-put : (l : List ℕ) (from to : ℕ) (b : List ℕ) → to ≤ from → b ≡ putLongs l from (to - from) b
 unfolding putLongs
 none-put l from to b h = let e : 0 ≡ to - from = omega arith in iter-zero (λ (i : ℕ) (b : List ℕ). putLong (8 * (from + i)) (getD l (from + i) 0) b) b ∙ ap (λ (k : ℕ). iter (λ (i : ℕ) (b : List ℕ). putLong (8 * (from + i)) (getD l (from + i) 0) b) k b) e
+
+pub capped-is : (n m : ℕ) → n ≤ m → capped n m ≡ n
+unfolding capped
+capped-is n m h = tested (ltb n m)
+    (λ (t : ltb n m ≡ true). pick-yes n m t)
+    (λ (t : ltb n m ≡ false). let e : m ≡ n = omega (arith, ltb-false n m t) in pick-no n m t ∙ e)

@@ -50,7 +50,7 @@ use Rattle.byte_calls.specs.Stores.{putCursor, putList, putLog}
 use Rattle.byte_calls.proofs.Filling.{capped-most, capped-less, room-is}
 use Rattle.base.proofs.Bytes.{putHalves-length, putWord-length, putLongs-length}
 use Rattle.base.proofs.Bytes.{Agree, agree-word, agree-long, agree-then, putWord-agrees, putWord-in, putLong-agrees, putLong-in}
-use Rattle.byte_calls.proofs.Using.{capped-is}
+use Rattle.byte_calls.proofs.Filling.{capped-is}
 use Rattle.byte_calls.proofs.Leaving.{room-length, list-room}
 use Rattle.byte_calls.proofs.LastList.{Bytes, word-fits}
 use Rattle.byte_calls.proofs.Fitting.{Under, set-under, none-under, take-under, Kept, plan-under, words-under, log-under, note-kept, number-under, undo-less}

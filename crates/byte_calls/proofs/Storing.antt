@@ -13,7 +13,8 @@ use borrow.Author.Tests.{ltb-true, ltb-false}
 use Rattle.base.specs.Iter.{iter, pick}
 use Rattle.base.proofs.Loop.{pick-ind, pick-yes, pick-no, tested}
 use Rattle.noting.specs.Words.{capped}
-use Rattle.plan.specs.Words.{variablesOf}
+use Rattle.plan.specs.Words.{variablesOf, wordsOf}
+use Rattle.plan.proofs.Reading.{words-in}
 use Rattle.sweep.specs.Sweep.{proposedAt}
 use Rattle.judge.specs.declared.Judgement.the-variants.{Fine}
 use Rattle.judge.specs.Judge.{judgedOf}
@@ -173,6 +174,13 @@ module _ (left : List ℕ) (len : ℕ) (b : List ℕ) where
   unfolding putLast
   last-read small r s = words-read (putWords 62764 left 260 (putWord 62756 (len % 4294967296) b)) left 62764 260
       (λ i k. putWords-in 62764 left (putWord 62756 (len % 4294967296) b) small 260 i k (omega (arith, putWord-length 62756 (len % 4294967296) b))) r
+
+-- the plan is as it was once the list is stored
+pub plan-after-last : (left : List ℕ) (len : ℕ) (b : List ℕ) → 133440 ≤ length b → wordsOf (putLast left len b) ≡ planIn b
+unfolding planIn
+plan-after-last left len b r =
+    words-in (putLast left len b) (omega (arith, putLast-length left len b))
+    ∙ words-same (putLast left len b) b 0 15241 (last-agrees left len b 0 60964 (inl (omega arith)))
 
 -- an analysis is accepted
 module _ (ws words left noted : List ℕ) (len : ℕ) (b : List ℕ) where

@@ -9,6 +9,7 @@ use edge_table::Edges;
 use noting::Noted;
 use noting::no_notes;
 use plan::Plan;
+use plan::bytes::bytes_of;
 ghost use mathlib.Core.Path.{_≡_};
 ghost use mathlib.Core.Bool.{not, false};
 ghost use Prim.Native.Nat.{ℕ, _+_, _*_, _≤_, _<_};
@@ -97,7 +98,8 @@ pub(crate) fn build<'a>(
     let words = builder::build::plan_words(vertices, n, edges, m, options);
     let plan = words.words;
     let mut noted = no_notes();
-    noting::fresh(&plan, &mut noted);
+    let held = bytes_of(&plan);
+    noting::fresh(&held.bytes, &mut noted);
     let table = builder::build::edge_table(edges, m);
     store_words(state, &plan, &noted);
     store_edges(state, &table);

@@ -14,7 +14,7 @@ ghost use mathlib.Core.Path.{_≡_};
 ghost use lib.ListN.{replicate};
 ghost use Rattle.walks.specs.Written.{outOf};
 ghost use Rattle.walks.specs.Answers.{answerOf};
-ghost use Rattle.lists.specs.Parts.{shapeOf, endsOf, path, decided, potential, andWord, andLit, andOpt, inside, twoPaths, twoRegions, threeRegions};
+ghost use Rattle.lists.specs.Parts.{shapeOf, edgeLits, endsOf, path, decided, potential, andWord, andLit, andOpt, inside, twoPaths, twoRegions, threeRegions};
 ghost use Rattle.lists.specs.Lists.{between, tooLarge, mismatch, spread, sameSize, reasonLits};
 ghost use Rattle.plan.specs.Words.{wordsOf};
 
@@ -41,8 +41,22 @@ fn shape_of(plan: &[u8]) -> Shape
     Shape {
         num_vertices: plan::num_vertices(plan) as usize,
         num_edges: plan::num_edges(plan) as usize,
-        first_lit: 4232,
+        first_lit: 0,
     }
+}
+
+// The literals of the plan's edges, as the walks take them.
+fn edge_lits(plan: &[u8]) -> [u32; 128]
+    ensures { λ r. ⌜ r ≡ edgeLits (wordsOf (now (plan .entry))) ⌝ }
+{
+    let n = noting::capped(plan::num_edges(plan), 128);
+    let mut lits = [0u32; 128];
+    let mut g = 0;
+    while g < n {
+        lits[g] = plan::edge_lit(plan, g);
+        g += 1;
+    }
+    lits
 }
 
 // The ends of edge g, the right one first with flip.
@@ -63,13 +77,15 @@ fn ends_of(edges: Edges, g: usize, flip: bool) -> Ends
 fn path(plan: &[u8], edges: Edges, noted: &Noted, p: Ends, out: &mut [u32], at: usize) -> Listed
     ensures { λ r. ⌜ answerOf r (now (out .exit)) ≡ path (wordsOf (now (plan .entry))) edges (now (noted .entry)) p (outOf (now (out .entry)) at) ⌝ }
 {
-    walks::reason_connected_path(edges, noted, plan, shape_of(plan), p.u, p.v, out, at)
+    let lits = edge_lits(plan);
+    walks::reason_connected_path(edges, noted, &lits, shape_of(plan), p.u, p.v, out, at)
 }
 
 fn decided(plan: &[u8], edges: Edges, noted: &Noted, u: usize, out: &mut [u32], at: usize) -> Listed
     ensures { λ r. ⌜ answerOf r (now (out .exit)) ≡ decided (wordsOf (now (plan .entry))) edges (now (noted .entry)) u (outOf (now (out .entry)) at) ⌝ }
 {
-    walks::reason_decided_region(edges, noted, plan, shape_of(plan), u, out, at)
+    let lits = edge_lits(plan);
+    walks::reason_decided_region(edges, noted, &lits, shape_of(plan), u, out, at)
 }
 
 fn potential(
@@ -82,7 +98,8 @@ fn potential(
 ) -> Listed
     ensures { λ r. ⌜ answerOf r (now (out .exit)) ≡ potential (wordsOf (now (plan .entry))) edges (now (noted .entry)) u (outOf (now (out .entry)) at) ⌝ }
 {
-    walks::reason_potential_region(edges, noted, plan, shape_of(plan), u, out, at)
+    let lits = edge_lits(plan);
+    walks::reason_potential_region(edges, noted, &lits, shape_of(plan), u, out, at)
 }
 
 // One literal after a list.

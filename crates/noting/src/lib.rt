@@ -77,7 +77,8 @@ pub fn upper_bound_lit(noted: &Noted, v: usize) -> u32
     bound_at(noted, 320, NO_BOUND_LIT, v)
 }
 
-fn capped(n: u32, most: u32) -> usize
+// n, but no more than `most`.
+pub fn capped(n: u32, most: u32) -> usize
     ensures { λ r. ⌜ r ≡ capped n most ⌝ }
 {
     if n < most {

@@ -15,6 +15,12 @@ plan-words-requires c κs = search needs
 no-notes-requires : tie.Need-no-notes-requires
 no-notes-requires c κs = search needs
 
+bytes-of-requires : tie.Need-bytes-of-requires
+bytes-of-requires c κs = search needs
+
+slice-aggregate-fresh : tie.Need-slice-aggregate-fresh
+slice-aggregate-fresh c = search needs
+
 fresh-requires : tie.Need-fresh-requires
 fresh-requires c κs = search needs
 
@@ -48,6 +54,8 @@ new-spec =
     refusal-of-requires
     plan-words-requires
     no-notes-requires
+    bytes-of-requires
+    slice-aggregate-fresh
     fresh-requires
     edge-table-requires
     hold-requires
