@@ -6,3 +6,4 @@ pub mod Host
 pub mod Build
 pub mod After
 pub mod Numbers
+pub mod Check

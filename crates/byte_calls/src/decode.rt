@@ -70,7 +70,7 @@ fn read_index(state: &[u8], k: usize, s: usize, plan: &mut [u32])
     read_words(state, 0, 13065, s, plan);
 }
 
-fn read_plan(state: &[u8], plan: &mut [u32])
+pub(crate) fn read_plan(state: &[u8], plan: &mut [u32])
     requires { ⌜ (133440 ≤ length (now state)) × (length (now plan) ≡ 15241) ⌝ }
     ensures { λ _. ⌜ now (plan .exit) ≡ inUseOver (λ i. wordAt (now (state .entry)) (4 * i)) (now (plan .entry)) ⌝ }
 {

@@ -516,7 +516,7 @@ module _ (s : GraphDivision) (log : List ℕ) (c : Cursor) (w : World) (r : Repr
 
   defined : calls.onInitialize (statePlan s) w (tableRoom (s .plan) (s .edges .ends) (s .noted) (length list) log c) t ≡ refusedOr number w t worked
   defined =
-      initialize-call (s .plan) (s .edges .ends) (s .noted) log c w t (length list)
+      initialize-call (s .plan) (s .edges .ends) (r .proper) (s .noted) log c w t (length list)
       ∙ ap (λ (b : Bool). refusedOr (initializeRefusal (s .plan) (s .edges .ends) (s .noted) t (length list) log c b) w t worked) (sym (r .done))
 
   accepted : number ≡ 0 → SimulatesCalled s list (begun s c t log list) worked
