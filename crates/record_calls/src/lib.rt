@@ -7,10 +7,10 @@ pub mod initialize;
 pub mod propagate;
 pub mod undo;
 
+use edge_table::EdgeTable;
 use graph_division::Answer;
 use graph_division::GraphDivision;
 use graph_division::Outcome;
-use edge_table::EdgeTable;
 use plan::Plan;
 use undo_log::Cursor;
 ghost use mathlib.Core.Path.{_≡_};
