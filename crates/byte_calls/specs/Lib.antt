@@ -5,3 +5,4 @@ pub mod Host
 pub mod Build
 pub mod After
 pub mod Numbers
+pub mod Check

@@ -81,8 +81,9 @@ positionOf = entry 6536 2176
 abbrev pub variableAt : List ℕ → ℕ → ℕ
 variableAt = entry 8712 2176
 
-abbrev pub startAt : List ℕ → ℕ → ℕ
-startAt = entry 10888 2177
+-- A start is at most 2176, as many as there are slots: on any words, no variable has more occurrences.
+unfoldable pub startAt : List ℕ → ℕ → ℕ
+startAt ws k = pick (ltb 2176 (entry 10888 2177 ws k)) 2176 (entry 10888 2177 ws k)
 
 abbrev pub occurrenceAt : List ℕ → ℕ → ℕ
 occurrenceAt = entry 13065 2176

@@ -1,5 +1,6 @@
-// The plan's own test. Every call begins with it, so that a corrupted state is refused and never reaches an index; it is
-// linear in what the plan uses.
+// The plan's own test, linear in what the plan uses. A call tests only the counts, which bound its loops: reading a
+// plan's words is total, so that no words whatever are unsafe. Whether the words are a plan at all is asked by a call of
+// its own, as often as a host likes.
 use crate::BUILT;
 use crate::domain;
 use crate::domain_len;
@@ -26,7 +27,7 @@ ghost use lib.Dec.{eqb, ltb, leb};
 ghost use Rattle.base.specs.Iter.{iter};
 ghost use Rattle.base.specs.Lists.{some};
 ghost use Rattle.plan.specs.Words.{wordsOf, word, verticesOf, edgesOf, variablesOf, slotsOf, domainLenOf, startAt};
-ghost use Rattle.plan.specs.Check.{countsBad, usedSlot, entryBad, vertexBad, edgeBad, occurrenceBad, variableOrderBad, variableBad, slotCount, startsBad, planBad, Counts};
+ghost use Rattle.plan.specs.Check.{countsBad, variableHigh, variablesHigh, usedSlot, entryBad, vertexBad, edgeBad, occurrenceBad, variableOrderBad, variableBad, slotCount, startsBad, planBad, Counts};
 
 fn counts_bad(plan: &[u8]) -> bool
     ensures { λ r. ⌜ r ≡ countsBad (wordsOf (now (plan .entry))) ⌝ }
@@ -50,6 +51,34 @@ fn counts_bad(plan: &[u8]) -> bool
         return true;
     }
     mark(plan) != BUILT
+}
+
+// Whether no count is over its limit, each option is off or on, and the words have the mark of a plan that was built.
+pub fn counts_ok(plan: &[u8]) -> bool
+    ensures { λ r. ⌜ r ≡ not (countsBad (wordsOf (now (plan .entry)))) ⌝ }
+{
+    !counts_bad(plan)
+}
+
+fn variable_high(plan: &[u8], k: usize) -> bool
+    ensures { λ r. ⌜ r ≡ variableHigh (wordsOf (now (plan .entry))) k ⌝ }
+{
+    4095 < variable_at(plan, k)
+}
+
+// Whether some variable is out of range.
+pub fn variables_high(plan: &[u8]) -> bool
+    ensures { λ r. ⌜ r ≡ variablesHigh (wordsOf (now (plan .entry))) ⌝ }
+{
+    let n = num_variables(plan) as usize;
+    let mut k = 0;
+    while k < n {
+        if variable_high(plan, k) {
+            return true;
+        }
+        k += 1;
+    }
+    false
 }
 
 // Whether a slot holds a literal.

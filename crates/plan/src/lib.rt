@@ -138,10 +138,15 @@ pub fn variable_at(plan: &[u8], k: usize) -> u32
     entry(plan, 8712, 2176, k)
 }
 
+// At most 2176, so that no loop over a variable's occurrences is longer, whatever the words are.
 pub fn start_at(plan: &[u8], k: usize) -> u32
     ensures { λ r. ⌜ r ≡ startAt (wordsOf (now (plan .entry))) k ⌝ }
 {
-    entry(plan, 10888, 2177, k)
+    let x = entry(plan, 10888, 2177, k);
+    if 2176 < x {
+        return 2176;
+    }
+    x
 }
 
 pub fn occurrence_at(plan: &[u8], i: usize) -> u32

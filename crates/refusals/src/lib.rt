@@ -1,5 +1,5 @@
 // The tests that a call makes before it works: refusals 7 to 11 in this order, each on any input. The answer is the
-// refusal's number, 0 where none applies. The plan's own test comes first: what fails it reaches no other test.
+// refusal's number, 0 where none applies. The plan's counts come first: they bound the loops of all other tests.
 use edge_table::Edges;
 use noting::Noted;
 use noting::buffers::list_short;
@@ -10,7 +10,8 @@ use noting::note::known;
 use noting::replay::log_bad;
 use noting::stands::not_newest;
 use noting::stands::variable_stands;
-use plan::check::plan_ok;
+use plan::check::counts_ok;
+use plan::check::variables_high;
 use sat::Lit;
 use undo_log::Cursor;
 ghost use mathlib.Core.Path.{_≡_};
@@ -18,7 +19,8 @@ ghost use Prim.Native.Nat.{ℕ};
 ghost use Rattle.refusals.specs.Refusals.{stateBad, tableStateBad, litNumber, unknownLit, literalRefusal, initializeRefusal, propagateRefusal, undoRefusal, fetchRefusal};
 ghost use Rattle.plan.specs.Words.{wordsOf};
 
-// The part of 7 that every call tests: the plan, the log's length, and that log, cursor and noted words are as noting gives.
+// The part of 7 that every call tests: the plan's counts, the log's length, and that log, cursor and noted words are as
+// noting gives.
 pub fn state_bad<'a>(
     plan: &'a [u8],
     edges: &'a Edges,
@@ -28,7 +30,7 @@ pub fn state_bad<'a>(
 ) -> bool
     ensures { λ r. ⌜ r ≡ stateBad (wordsOf (now (plan .entry))) (now (edges .entry)) (now (noted .entry)) (now (log .entry)) cursor ⌝ }
 {
-    if plan_ok(plan, edges) {
+    if counts_ok(plan) {
         if log_short(plan, log.len()) {
             return true;
         }
@@ -91,7 +93,7 @@ pub fn literal_refusal(plan: &[u8], lit: i32) -> u32
     0
 }
 
-// 7 and 8. Initialize tests 10 later, literal by literal.
+// 7 and 8. Initialize tests 10 later, literal by literal. It saves and restores the table's entries of variables in range.
 pub fn initialize_refusal<'a>(
     plan: &'a [u8],
     edges: &'a Edges,
@@ -105,6 +107,9 @@ pub fn initialize_refusal<'a>(
     ensures { λ r. ⌜ r ≡ initializeRefusal (wordsOf (now (plan .entry))) (now (edges .entry)) (now (noted .entry)) (now (table .entry)) «list_len» (now (log .entry)) cursor initialized ⌝ }
 {
     if table_state_bad(plan, edges, noted, table, list_len, log, cursor) {
+        return 7;
+    }
+    if variables_high(plan) {
         return 7;
     }
     if initialized {
