@@ -52,6 +52,11 @@ pub putLongs-length : (l : List ℕ) (from n : ℕ) (b : List ℕ) → length (p
 unfolding putLongs
 putLongs-length l from n b = iter-length _ (λ i c. putLong-length _ _ c) n b
 
+-- nothing is stored of a place that is not proposed
+pub putReason-idle : (words : List ℕ) (p : ℕ) (b : List ℕ) → proposedAt words p ≡ false → b ≡ putReason words p b
+unfolding putReason
+putReason-idle words p b e = sym (pick-no _ _ e)
+
 pub putReason-length : (words : List ℕ) (p : ℕ) (b : List ℕ) → length (putReason words p b) ≡ length b
 unfolding putReason
 putReason-length words p b =

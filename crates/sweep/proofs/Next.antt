@@ -47,9 +47,12 @@ module _ (words : List ℕ) (from : ℕ) where
   unfolding here
   none-here r f k h = and-either {a = leb from k} {b = proposedAt words k} (λ e. f .at k (leb-true from k e) h)
 
-  pub next-is : (n r : ℕ) → from ≤ r → r < n → NoneIn words from r → proposedAt words r ≡ true → r ≡ nextProposed words from n
+  pub next-is : (n r : ℕ) → from ≤ r → r < n → NoneIn words from r → proposedAt words r ≡ true →
+      r ≡ nextProposed words from n
   unfolding nextProposed here
-  next-is n r a h f e = lowest-is here n r h (none-here r f) (sym (and-next {a = leb from r} (proposedAt words r) true (le-leb from r a) (sym e)))
+  next-is n r a h f e =
+      lowest-is here n r h (none-here r f)
+      (sym (and-next {a = leb from r} (proposedAt words r) true (le-leb from r a) (sym e)))
 
   pub next-none : (n : ℕ) → NoneIn words from n → n ≡ nextProposed words from n
   unfolding nextProposed here
@@ -64,24 +67,32 @@ pub record Next (words : List ℕ) (from n r : ℕ) : Type 0 where
 
 next : (words : List ℕ) (from n : ℕ) → Next words from n (nextProposed words from n)
 unfolding nextProposed here
-next words from n = record {
-  most = lowest-le (here words from) n;
-  least = λ (h : from ≤ n). ⊎-elim
-      (λ (e : lowest (here words from) n ≡ n). omega arith)
-      (λ (l : lowest (here words from) n < n). leb-true from (lowest (here words from) n) (and-left (leb from (lowest (here words from) n)) _ (lowest-true (here words from) n l)))
-      (eq-or-lt-of-le {n = lowest (here words from) n} {m = n} (lowest-le (here words from) n));
-  below = record { at = λ k a h. and-rest (leb from k) (proposedAt words k) (le-leb from k a) (lowest-below (here words from) n k h) };
-  on = λ l. and-right (leb from (lowest (here words from) n)) _ (lowest-true (here words from) n l);
-}
+next words from n =
+    let t = here words from in
+    let r = lowest t n in
+    record {
+      most = lowest-le t n;
+      least = λ (h : from ≤ n). ⊎-elim
+          (λ (e : r ≡ n). omega arith)
+          (λ (l : r < n). leb-true from r (and-left (leb from r) (proposedAt words r) (lowest-true t n l)))
+          (eq-or-lt-of-le {n = r} {m = n} (lowest-le t n));
+      below = record {
+        at = λ k a h.
+            and-rest (leb from k) (proposedAt words k) (le-leb from k a) (lowest-below t n k h);
+      };
+      on = λ l. and-right (leb from r) (proposedAt words r) (lowest-true t n l);
+    }
 
 pub next-told : {words : List ℕ} {from n r : ℕ} → r ≡ nextProposed words from n → Next words from n r
 next-told {words} {from} {n} e = subst (Next words from n) (sym e) (next words from n)
 
 -- two runs without a proposed place, one after the other
 pub none-join : {words : List ℕ} {from mid to : ℕ} → NoneIn words from mid → NoneIn words mid to → NoneIn words from to
-none-join {words} {from} {mid} {to} f g = record { at = λ k a h. ⊎-elim (λ l. g .at k l h) (λ l. f .at k a l) (le-or-lt mid k) }
+none-join {words} {from} {mid} {to} f g =
+    record { at = λ k a h. ⊎-elim (λ l. g .at k l h) (λ l. f .at k a l) (le-or-lt mid k) }
 
-pub none-more : {words : List ℕ} {from p : ℕ} → NoneIn words from p → proposedAt words p ≡ false → NoneIn words from (p + 1)
+pub none-more : {words : List ℕ} {from p : ℕ} → NoneIn words from p → proposedAt words p ≡ false →
+    NoneIn words from (p + 1)
 none-more {words} {from} {p} f e = record {
   at = λ k a h. ⊎-elim
       (λ (q : k ≡ p). ap (proposedAt words) q ∙ e)
@@ -113,11 +124,14 @@ module _ (words : List ℕ) (p : ℕ) where
   unfolding firstWords iter
   words-all zero f = refl
   words-all (suc n) f =
-      ap₂ bitOr (words-all n (none-less (p + n) f (omega arith))) (not-zero words (p + n) (f .at (p + n) (omega arith) (omega arith)))
+      ap₂ bitOr
+      (words-all n (none-less (p + n) f (omega arith)))
+      (not-zero words (p + n) (f .at (p + n) (omega arith) (omega arith)))
 
 -- ---- the next place from a later start and below an earlier end
 -- none is proposed before the later start
-pub next-later : (words : List ℕ) (from mid n r : ℕ) → from ≤ mid → mid ≤ n → NoneIn words from mid → r ≡ nextProposed words mid n → r ≡ nextProposed words from n
+pub next-later : (words : List ℕ) (from mid n r : ℕ) → from ≤ mid → mid ≤ n → NoneIn words from mid →
+    r ≡ nextProposed words mid n → r ≡ nextProposed words from n
 next-later words from mid n r a b f e =
     let t = next-told e in
     let g = none-join f (t .below) in
@@ -127,23 +141,28 @@ next-later words from mid n r a b f e =
     (eq-or-lt-of-le {n = r} {m = n} (t .most))
 
 -- one is found below the earlier end
-pub next-sooner : (words : List ℕ) (from m n r : ℕ) → from ≤ m → m ≤ n → r < m → r ≡ nextProposed words from m → r ≡ nextProposed words from n
+pub next-sooner : (words : List ℕ) (from m n r : ℕ) → from ≤ m → m ≤ n → r < m →
+    r ≡ nextProposed words from m → r ≡ nextProposed words from n
 next-sooner words from m n r a b h e =
     let t = next-told e in
     let l = t .least a in
     next-is words from n r l (omega arith) (t .below) (t .on h)
 
 -- the first words say that one of the eight is proposed
-pub next-block : (words : List ℕ) (p k n r : ℕ) → 0 < firstWords words p k → p + k ≤ n → r ≡ nextProposed words p (p + k) → r ≡ nextProposed words p n
+pub next-block : (words : List ℕ) (p k n r : ℕ) → 0 < firstWords words p k → p + k ≤ n →
+    r ≡ nextProposed words p (p + k) → r ≡ nextProposed words p n
 next-block words p k n r h b e =
     let t = next-told e in
     ⊎-elim
-    (λ (q : r ≡ p + k). let z = words-all words p k (none-less (p + k) (t .below) (omega arith)) in absurd (omega arith))
+    (λ (q : r ≡ p + k).
+    let z = words-all words p k (none-less (p + k) (t .below) (omega arith)) in
+    absurd (omega arith))
     (λ (q : r < p + k). next-sooner words p (p + k) n r (omega arith) b q e)
     (eq-or-lt-of-le {n = r} {m = p + k} (t .most))
 
 -- none is proposed past the words
-pub next-past : (words : List ℕ) (from m n : ℕ) → min n (length words - length words / 2) ≤ m → NoneIn words from m → n ≡ nextProposed words from n
+pub next-past : (words : List ℕ) (from m n : ℕ) → min n (length words - length words / 2) ≤ m → NoneIn words from m →
+    n ≡ nextProposed words from n
 next-past words from m n h f = next-none words from n (record {
   at = λ k a l. ⊎-elim
       (λ (q : m ≤ k). past-not words k (omega arith))
@@ -158,7 +177,9 @@ module _ {A : Type 0} (f : ℕ → A → A) (a : A) where
   iter-idle m zero h g = ap (λ (j : ℕ). iter f j a) {x = m} {y = 0} (omega arith)
   iter-idle m (suc n) h g = ⊎-elim
       (λ (e : m ≡ suc n). ap (λ (j : ℕ). iter f j a) e)
-      (λ (q : m < suc n). iter-idle m n (omega arith) (λ k x u v. g k x u (le-step v)) ∙ g n (iter f n a) (omega arith) (lt-suc-self n))
+      (λ (q : m < suc n).
+      iter-idle m n (omega arith) (λ k x u v. g k x u (le-step v))
+      ∙ g n (iter f n a) (omega arith) (lt-suc-self n))
       (eq-or-lt-of-le {n = m} {m = suc n} h)
 
   -- from one proposed place to the next, where a turn at any other place changes nothing

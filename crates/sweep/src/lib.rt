@@ -65,12 +65,12 @@ fn scan(proposals: &[u64], from: usize, end: usize) -> usize
     requires { ⌜ (from ≤ end) × (2 * end ≤ length (now proposals) + 1) ⌝ }
     ensures { λ r. ⌜ r ≡ nextProposed (now (proposals .entry)) from end ⌝ }
 {
-    let mut p = from;
-    while p < end {
-        if 0 < proposals[2 * p] {
-            return p;
+    let mut q = from;
+    while q < end {
+        if 0 < proposals[2 * q] {
+            return q;
         }
-        p += 1;
+        q += 1;
     }
     end
 }
@@ -105,9 +105,9 @@ pub fn next_proposed(proposals: &[u64], from: usize, n: usize) -> usize
 {
     let end = lesser(n, proposals.len() - proposals.len() / 2);
     if from < end {
-        let p = skip(proposals, from, end);
-        if p < end {
-            return p;
+        let found = skip(proposals, from, end);
+        if found < end {
+            return found;
         }
     }
     n

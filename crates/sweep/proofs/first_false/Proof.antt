@@ -11,7 +11,8 @@ use Rattle.sweep.proofs.first_false.Statement.{statement}
 use Rattle.sweep.proofs.first_false.Tie as tie
 
 abbrev Inv-loop : tie.InvT-loop
-Inv-loop plan proposals table n p₀ p = (p ≤ n) × ((n ≡ 2 * variablesOf plan) × ((k : ℕ) → k < p → falseAt plan proposals table k ≡ false))
+Inv-loop plan proposals table n p₀ p =
+    (p ≤ n) × ((n ≡ 2 * variablesOf plan) × ((k : ℕ) → k < p → falseAt plan proposals table k ≡ false))
 
 abbrev μ-loop : tie.MeasureT-loop
 μ-loop plan proposals table n p₀ p = n - p
@@ -51,7 +52,8 @@ loop-again : tie.Need-loop-again Inv-loop μ-loop
 loop-again c =
     let t = next-told (c .next-proposed2 .ensures) in
     let l = c .before .before .before .before in
-    (t .most, (l .loop .inv .1 .0, false-more _ _ _ (l .loop .inv .1 .1) (sym (c .before .before .false-at .ensures) ∙ (c .before .if1 .left)) t))
+    let e = sym (c .before .before .false-at .ensures) ∙ c .before .if1 .left in
+    (t .most, (l .loop .inv .1 .0, false-more _ _ _ (l .loop .inv .1 .1) e t))
 
 returns-2 : tie.Need-returns-2 Inv-loop μ-loop
 unfolding firstFalseAt

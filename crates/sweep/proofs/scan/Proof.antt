@@ -7,10 +7,10 @@ use Rattle.sweep.proofs.scan.Statement.{statement}
 use Rattle.sweep.proofs.scan.Tie as tie
 
 abbrev Inv-loop : tie.InvT-loop
-Inv-loop proposals from end p₀ p = (from ≤ p) × (p ≤ end) × NoneIn proposals from p
+Inv-loop proposals from end q₀ q = (from ≤ q) × (q ≤ end) × NoneIn proposals from q
 
 abbrev μ-loop : tie.MeasureT-loop
-μ-loop proposals from end p₀ p = end - p
+μ-loop proposals from end q₀ q = end - q
 
 loop-holds : tie.Need-loop-holds Inv-loop μ-loop
 loop-holds c = (omega arith, omega arith, none-yet _ _ _ (omega arith))
@@ -26,17 +26,21 @@ shared-slice-read-if1 c = omega arith
 
 returns : tie.Need-returns Inv-loop μ-loop
 unfolding proposedAt
-returns c = next-is _ _ _ _ (omega arith) (omega arith) (c .before .before .before .loop .inv .2) (lt-ltb _ _ (c .if1 .taken))
+returns c =
+    let l = c .before .before .before in
+    next-is _ _ _ _ (omega arith) (omega arith) (l .loop .inv .2) (lt-ltb _ _ (c .if1 .taken))
 
-add-p : tie.Need-add-p Inv-loop μ-loop
-add-p c = omega arith
+add-q : tie.Need-add-q Inv-loop μ-loop
+add-q c = omega arith
 
 loop-less : tie.Need-loop-less Inv-loop μ-loop
 loop-less c = omega arith
 
 loop-again : tie.Need-loop-again Inv-loop μ-loop
 unfolding proposedAt
-loop-again c = (omega arith, omega arith, none-more (c .before .before .before .loop .inv .2) (le-ltb _ _ (c .if1 .left)))
+loop-again c =
+    let l = c .before .before .before in
+    (omega arith, omega arith, none-more (l .loop .inv .2) (le-ltb _ _ (c .if1 .left)))
 
 returns-2 : tie.Need-returns-2 Inv-loop μ-loop
 returns-2 c = next-none _ _ _ (none-less _ (c .before .loop .inv .2) (omega arith))
@@ -52,7 +56,7 @@ scan-spec =
     mul-if1-2
     shared-slice-read-if1
     returns
-    add-p
+    add-q
     loop-less
     loop-again
     returns-2)

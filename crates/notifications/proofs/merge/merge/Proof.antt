@@ -51,9 +51,14 @@ loop-again : tie.Need-loop-again Inv-loop μ-loop
 loop-again c =
     let e = c .next-proposed2 .ensures in
     let x = c .before .before .before in
-    let l = x .before .before .before in
-    (next-told e .most, (l .loop .inv .1 .0, next-turn _ _ _ (merged-idle _) _ _ _ _ (omega arith) e
-    (iter-more _ _ _ _ _ (l .loop .inv .1 .1) (x .merge-at .ensures))))
+    let l = x .before .before .before in (
+      next-told e .most,
+      (
+        l .loop .inv .1 .0,
+        next-turn _ _ _ (merged-idle _) _ _ _ _ (omega arith) e
+            (iter-more _ _ _ _ _ (l .loop .inv .1 .1) (x .merge-at .ensures)),
+      ),
+    )
 
 same-length : tie.Need-same-length Inv-loop μ-loop
 same-length c = ap length (c .before .loop .inv .1 .1) ∙ merged-length _ _ (c .before .loop .p)
