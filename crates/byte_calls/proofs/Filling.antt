@@ -24,6 +24,11 @@ pub filled-more : (f : ℕ → ℕ) (a i k : ℕ) (l x : List ℕ) (v : ℕ) →
 unfolding filled iter
 filled-more f a i k l x v e q h = rw add-one (λ j. set (e j) (q j) (h j))
 
+-- nothing is stored of a place that is not proposed
+pub putReason-idle : (words : List ℕ) (p : ℕ) (b : List ℕ) → proposedAt words p ≡ false → b ≡ putReason words p b
+unfolding putReason
+putReason-idle words p b e = sym (pick-no _ _ e)
+
 pub putReason-length : (words : List ℕ) (p : ℕ) (b : List ℕ) → length (putReason words p b) ≡ length b
 unfolding putReason
 putReason-length words p b =

@@ -30,10 +30,10 @@ pub(crate) fn store_reasons(state: &mut [u8], proposals: &[u64])
     ensures { λ _. ⌜ now (state .exit) ≡ putReasons (wordsOf (now (state .entry))) (now (proposals .entry)) (now (state .entry)) ⌝ }
 {
     let n = capped(2 * (plan::num_variables(state) as usize), 4352);
-    let mut p = 0;
+    let mut p = sweep::next_proposed(proposals, 0, n);
     while p < n {
         store_reason(state, proposals, p);
-        p += 1;
+        p = sweep::next_proposed(proposals, p + 1, n);
     }
 }
 

@@ -28,9 +28,9 @@ pub fn merge(plan: &[u8], proposals: &[u64], words: &mut [u64])
     ensures { λ _. ⌜ now (words .exit) ≡ merged (wordsOf (now (plan .entry))) (now (proposals .entry)) (now (words .entry)) ⌝ }
 {
     let n = 2 * (plan::num_variables(plan) as usize);
-    let mut p = 0;
+    let mut p = sweep::next_proposed(proposals, 0, n);
     while p < n {
         merge_at(proposals, words, p);
-        p += 1;
+        p = sweep::next_proposed(proposals, p + 1, n);
     }
 }
