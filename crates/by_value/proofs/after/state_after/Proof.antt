@@ -14,9 +14,6 @@ use Rattle.by_value.proofs.after.state_after.Tie as tie
 plan-bytes-requires : tie.Need-plan-bytes-requires
 plan-bytes-requires c κs = search needs
 
-slice-aggregate-record : tie.Need-slice-aggregate-record
-slice-aggregate-record c = search needs
-
 record-requires : tie.Need-record-requires
 record-requires c κs = search needs
 
@@ -36,4 +33,4 @@ returns-2 c =
     sym (pick-no _ _ h)
 
 pub state-after-spec : {M : Type 1} → statement M
-state-after-spec = tie.close (tie.spec plan-bytes-requires slice-aggregate-record record-requires returns returns-2)
+state-after-spec = tie.close (tie.spec plan-bytes-requires record-requires returns returns-2)
