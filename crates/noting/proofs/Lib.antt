@@ -18,9 +18,11 @@ pub mod Noted
 pub mod Unnoted
 pub mod Prefix
 pub mod Following
+pub mod Passed
 pub mod Logged
 pub mod Appending
 pub mod Differs
+pub mod Words
 pub mod Distinct
 pub mod Replaying
 pub mod Room
