@@ -1,5 +1,6 @@
 pub mod Pushing
 pub mod Sizes
+pub mod Filling
 pub mod Steps
 pub mod Place
 pub mod Back

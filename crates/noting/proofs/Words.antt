@@ -16,6 +16,7 @@ use Rattle.base.proofs.Tests.{or-both, le-or-lt}
 use Rattle.base.proofs.Some.{some-found}
 use Rattle.plan.specs.Words.{verticesOf, edgesOf}
 use Rattle.noting.specs.Words.{edgeStateOf, boundAt, capped}
+use Rattle.noting.proofs.Sizes.{capped-le}
 use Rattle.noting.specs.Replay.{edgeDiffers, vertexDiffers, notedDiffers}
 use Rattle.noting.specs.Following.{wordDiffers}
 
@@ -54,10 +55,6 @@ some-capped : (t : ℕ → Bool) (n m : ℕ) → ((i : ℕ) → m ≤ i → t i 
 unfolding capped
 some-capped t n m f =
     pick-ind (λ (k : ℕ). some t n ≡ some t k) (ltb n m) n m (λ _. refl) (λ h. sym (some-rest t m n (ltb-false n m h) f))
-
-pub capped-most : (n m : ℕ) → capped n m ≤ m
-unfolding capped
-capped-most n m = pick-ind (λ (k : ℕ). k ≤ m) (ltb n m) n m (λ h. let k = ltb-true n m h in omega arith) (λ _. omega arith)
 
 -- one word more
 module _ (a b : List ℕ) (from i : ℕ) where
@@ -107,13 +104,13 @@ module _ (a b : List ℕ) where
     edges-differ =
         some-capped (edgeDiffers a b) (edgesOf ws) 128 edge-past
         ∙ ap (some (edgeDiffers a b)) (sym he)
-        ∙ some-alike (edgeDiffers a b) (D 0) edges (λ g h. edge-word g (omega (arith, he, capped-most (edgesOf ws) 128)))
+        ∙ some-alike (edgeDiffers a b) (D 0) edges (λ g h. edge-word g (omega (arith, he, capped-le (edgesOf ws) 128)))
 
     vertices-differ : some (vertexDiffers a b) (verticesOf ws) ≡ (some (D 128) n || (some (D 192) n || (some (D 256) n || some (D 320) n)))
     vertices-differ =
         some-capped (vertexDiffers a b) (verticesOf ws) 64 vertex-past
         ∙ ap (some (vertexDiffers a b)) (sym hn)
-        ∙ some-alike (vertexDiffers a b) (λ v. D 128 v || (D 192 v || (D 256 v || D 320 v))) n (λ v h. vertex-words v (omega (arith, hn, capped-most (verticesOf ws) 64)))
+        ∙ some-alike (vertexDiffers a b) (λ v. D 128 v || (D 192 v || (D 256 v || D 320 v))) n (λ v h. vertex-words v (omega (arith, hn, capped-le (verticesOf ws) 64)))
         ∙ some-or (D 128) (λ v. D 192 v || (D 256 v || D 320 v)) n
         ∙ ap (λ (c : Bool). some (D 128) n || c) (some-or (D 192) (λ v. D 256 v || D 320 v) n ∙ ap (λ (c : Bool). some (D 192) n || c) (some-or (D 256) (D 320) n))
 
