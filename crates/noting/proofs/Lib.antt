@@ -1,5 +1,6 @@
 pub mod Pushing
 pub mod Sizes
+pub mod Filling
 pub mod Steps
 pub mod Place
 pub mod Back
@@ -18,9 +19,11 @@ pub mod Noted
 pub mod Unnoted
 pub mod Prefix
 pub mod Following
+pub mod Passed
 pub mod Logged
 pub mod Appending
 pub mod Differs
+pub mod Words
 pub mod Distinct
 pub mod Replaying
 pub mod Room

@@ -118,26 +118,17 @@ fn fill(noted: &mut Noted, from: usize, n: usize, x: u32)
     }
 }
 
-fn fill_first(plan: &[u8], noted: &mut Noted, n: usize)
+// First and last sizes, a vertex at a time.
+fn fill_sizes(plan: &[u8], noted: &mut Noted, n: usize)
     requires { ⌜ n ≤ 64 ⌝ }
-    ensures { λ r. ⌜ now (noted .exit) ≡ filled 128 n (firstSize (wordsOf (now (plan .entry)))) (now (noted .entry)) ⌝ }
+    ensures { λ r. ⌜ now (noted .exit) ≡ filled 192 n (lastSize (wordsOf (now (plan .entry)))) (filled 128 n (firstSize (wordsOf (now (plan .entry)))) (now (noted .entry))) ⌝ }
 {
     let mut i = 0;
     while i < n {
         let x = first_size(plan, i);
+        let y = last_size(plan, i);
         noted[128 + i] = x;
-        i += 1;
-    }
-}
-
-fn fill_last(plan: &[u8], noted: &mut Noted, n: usize)
-    requires { ⌜ n ≤ 64 ⌝ }
-    ensures { λ r. ⌜ now (noted .exit) ≡ filled 192 n (lastSize (wordsOf (now (plan .entry)))) (now (noted .entry)) ⌝ }
-{
-    let mut i = 0;
-    while i < n {
-        let x = last_size(plan, i);
-        noted[192 + i] = x;
+        noted[192 + i] = y;
         i += 1;
     }
 }
@@ -149,8 +140,7 @@ pub fn fresh(plan: &[u8], noted: &mut Noted)
     let vertices = capped(plan::num_vertices(plan), 64);
     let edges = capped(plan::num_edges(plan), 128);
     fill(noted, 0, edges, UNDECIDED);
-    fill_first(plan, noted, vertices);
-    fill_last(plan, noted, vertices);
+    fill_sizes(plan, noted, vertices);
     fill(noted, 320, vertices, NO_BOUND_LIT);
     fill(noted, 256, vertices, NO_BOUND_LIT);
 }

@@ -77,7 +77,7 @@ fn size_effect(plan: &[u8], noted: &Noted, holds: bool, v: usize, j: usize) -> E
     }
 }
 
-fn edge_effect(holds: bool, g: usize) -> Effect
+pub(crate) fn edge_effect(holds: bool, g: usize) -> Effect
     requires { ⌜ g < 128 ⌝ }
     ensures { λ r. ⌜ r ≡ edgeEffect holds g ⌝ }
 {
@@ -95,7 +95,7 @@ fn edge_effect(holds: bool, g: usize) -> Effect
     }
 }
 
-pub(crate) fn effect_of(plan: &[u8], noted: &Noted, lit: u16, s: usize) -> Effect
+fn effect_of(plan: &[u8], noted: &Noted, lit: u16, s: usize) -> Effect
     ensures { λ r. ⌜ r ≡ effectOf (wordsOf (now (plan .entry))) (now (noted .entry)) lit s ⌝ }
 {
     let holds = plan::lit(plan, s) == lit as u32;
@@ -308,7 +308,7 @@ fn less(a: u32, b: u32) -> usize
     0
 }
 
-fn place_from_first(plan: &[u8], x: u32) -> usize
+pub(crate) fn place_from_first(plan: &[u8], x: u32) -> usize
     ensures { λ r. ⌜ (r ≡ placeFromFirst (wordsOf (now (plan .entry))) x) × (r ≤ 4294967296) ⌝ }
 {
     less(x, plan::variable_at(plan, 0))
