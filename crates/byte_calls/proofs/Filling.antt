@@ -13,6 +13,7 @@ use native.Mathlib.Nat.{zero-add}
 use lib.ListN.{length, getD, set, replicate, length-set}
 use Rattle.base.specs.Iter.{iter, pick}
 use Rattle.base.specs.Lists.{filled}
+use Rattle.base.proofs.Bytes.{putHalf-length, putWord-length, putLong-length, iter-length, putHalves-length, putWords-length, putLongs-length}
 use Rattle.base.proofs.Loop.{iter-ind, iter-zero, pick-ind, pick-yes, pick-no, tested}
 use Rattle.sweep.specs.Sweep.{proposedAt}
 use Rattle.base.specs.Bytes.{wordAt, putHalf, putWord, putLong, putHalves, putWords, putLongs}
@@ -67,11 +68,6 @@ cap-most r n m e = omega (arith, e, capped-most n m)
 
 pub cap-less : (r n m : ℕ) → r ≡ capped n m → r ≤ n
 cap-less r n m e = omega (arith, e, capped-less n m)
-
--- words that are read where the plan's stand, and where others do
-pub read-window : (b : List ℕ) (from n : ℕ) (ws x : List ℕ) → x ≡ filled from n (λ i. wordAt b (0 + 4 * (from + i))) ws → x ≡ window (λ i. wordAt b (4 * i)) from n ws
-unfolding window
-read-window b from n ws x e = e ∙ (λ j. filled from n (λ i. wordAt b (zero-add (4 * (from + i)) j)) ws)
 
 pub read-words-in : (b : List ℕ) (a n : ℕ) (x y : List ℕ) → y ≡ replicate n 0 → x ≡ filled 0 n (λ i. wordAt b (a + 4 * (0 + i))) y → x ≡ wordsIn b a n
 unfolding wordsIn

@@ -15,7 +15,7 @@ use Rattle.recorded.specs.declared.Reasons.{Reasons}
 use Rattle.recorded.specs.Recorded.{holding}
 use Rattle.graph_division.specs.declared.GraphDivision.{GraphDivision}
 use Rattle.lent.specs.Lent.{stateOf}
-use Rattle.base.specs.Bytes.{wordAt, longAt}
+use Rattle.base.specs.Bytes.{wordAt, longAt, wordsIn}
 
 -- the plan's words, which a call reads where they are
 unfoldable pub planIn : List ℕ → List ℕ

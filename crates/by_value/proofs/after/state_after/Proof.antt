@@ -20,9 +20,9 @@ record-requires c κs = search needs
 returns : tie.Need-returns
 unfolding stateAfter withJudged
 returns c =
-    let a = c .before .before .before .before .before .before .before .before .args in
+    let a = c .before .before .before .before .before .before .before .before .before .before .args in
     let h : a .done .judged ≡ true = cc in
-    ap (λ (rs : Reasons). record { plan = a .t1 .plan; edges = a .t1 .edges; noted = a .noted; reasons = rs; last = a .left; «last_len» = a .done .len; initialized = a .t1 .initialized }) (c .before .before .«record» .ensures ∙ ap (λ (ws : List ℕ). recorded ws (a .proposals .now) (a .t1 .reasons)) (c .before .before .before .plan-bytes .ensures))
+    ap (λ (rs : Reasons). record { plan = a .s .plan; edges = a .s .edges; noted = a .noted; reasons = rs; last = a .left; «last_len» = a .done .len; initialized = a .s .initialized }) (c .before .before .«record» .ensures ∙ ap (λ (ws : List ℕ). recorded ws (a .proposals .now) (a .s .reasons)) (c .before .before .before .before .before .before .before .plan-bytes .ensures))
     ∙ sym (pick-yes _ _ h)
 
 returns-2 : tie.Need-returns-2

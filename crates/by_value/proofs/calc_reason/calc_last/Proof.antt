@@ -19,7 +19,7 @@ same-length : tie.Need-same-length
 same-length c = search needs
 
 returns : tie.Need-returns
-returns c = last-shell (c .before .before .before .before .before .before .before .before .before .before .before .before .before .args .t1) _ _ (c .before .before .before .before .before .before .before .before .before .table-of .ensures) _ (c .before .before .before .before .before .before .before .before .before .before .plan-bytes .ensures) _ _ _ (c .before .before .calc-last .ensures)
+returns c = last-shell (c .before .before .before .before .before .before .before .before .before .before .before .before .before .before .before .before .args .t1) _ _ (c .before .before .before .before .before .before .before .before .before .before .before .table-of .ensures) _ (c .before .before .before .before .before .before .before .before .before .before .before .before .before .plan-bytes .ensures) _ _ _ (c .before .before .calc-last .ensures)
 
 pub calc-last-spec : {M : Type 1} → statement M
 calc-last-spec =

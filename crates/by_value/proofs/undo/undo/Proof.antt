@@ -16,7 +16,7 @@ undo-requires c κs = search needs
 
 returns : tie.Need-returns
 unfolding withNoted
-returns c = undo-shell (c .before .before .before .before .before .before .before .before .before .before .before .before .before .args .t1) _ _ (c .before .before .before .before .before .before .before .before .before .before .table-of .ensures) _ (c .before .before .before .before .before .before .before .before .before .before .before .plan-bytes .ensures) _ _ _ _ _ _ (toZ-ofZ (c .before .before .before .before .before .before .before .before .before .before .before .before .before .fits .lit)) (c .before .before .before .before .before .undo .ensures .0)
+returns c = undo-shell (c .before .before .before .before .before .before .before .before .before .before .before .before .before .before .before .args .s) _ _ (c .before .before .before .before .before .before .before .before .before .before .before .table-of .ensures) _ (c .before .before .before .before .before .before .before .before .before .before .before .before .before .plan-bytes .ensures) _ _ _ _ _ _ (toZ-ofZ (c .before .before .before .before .before .before .before .before .before .before .before .before .before .before .before .fits .lit)) (c .before .before .before .before .before .undo .ensures .0)
 
 pub undo-spec : {M : Type 1} → statement M
 undo-spec = tie.close (tie.spec plan-bytes-requires table-of-requires undo-requires returns)
