@@ -13,7 +13,7 @@ fn num_words(words: &[u32]) -> usize
 }
 
 // The plan's array is lent as a slice first: from that on it is known how many words it has.
-pub(crate) fn plan_bytes(s: GraphDivision) -> PlanBytes
+pub fn plan_bytes(s: GraphDivision) -> PlanBytes
     ensures { λ r. ⌜ wordsOf (r .bytes) ≡ s .plan ⌝ }
 {
     num_words(&s.plan);

@@ -3,7 +3,7 @@ pub mod after;
 pub mod calc_reason;
 pub mod check;
 pub mod initialize;
-mod lending;
+pub mod lending;
 pub mod page;
 pub mod propagate;
 pub mod run;

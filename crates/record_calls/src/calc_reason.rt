@@ -25,8 +25,7 @@ pub(crate) fn calc_reason_words(
 ) -> Answer
     ensures { λ r. ⌜ fetched r (now (buffer .exit)) ≡ pick (reaches (s .plan) (s .edges .ends) len cursor) (reasonFetched s cursor (now (words .entry)) lit (now (buffer .entry))) (fetched (Refused 7) (now (buffer .entry))) ⌝ }
 {
-    let held = s.edges;
-    if reaches(&s.plan, held, len, cursor) {
+    if reaches(s, len, cursor) {
         return by_value::calc_reason::calc_reason(s, words, cursor, lit, buffer);
     }
     Answer::Refused { number: 7 }
@@ -58,8 +57,7 @@ pub(crate) fn calc_last_words(
 ) -> Answer
     ensures { λ r. ⌜ fetched r (now (buffer .exit)) ≡ pick (reaches (s .plan) (s .edges .ends) len cursor) (lastFetched s cursor (now (words .entry)) (now (buffer .entry))) (fetched (Refused 7) (now (buffer .entry))) ⌝ }
 {
-    let held = s.edges;
-    if reaches(&s.plan, held, len, cursor) {
+    if reaches(s, len, cursor) {
         return by_value::calc_reason::calc_last(s, words, cursor, buffer);
     }
     Answer::Refused { number: 7 }

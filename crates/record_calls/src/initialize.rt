@@ -27,8 +27,7 @@ pub(crate) fn initialize_words(
 ) -> Outcome
     ensures { λ r. ⌜ called r (now (table .exit)) (now (list .exit)) (now (words .exit)) ≡ pick (reaches (s .plan) (s .edges .ends) len cursor) (initialized s cursor (now (table .entry)) (now (words .entry)) (now (list .entry))) (called (refuse 7 s cursor) (now (table .entry)) (now (list .entry)) (now (words .entry))) ⌝ }
 {
-    let held = s.edges;
-    if reaches(&s.plan, held, len, cursor) {
+    if reaches(s, len, cursor) {
         return by_value::initialize::initialize(s, table, list, words, cursor);
     }
     refuse(s, cursor)

@@ -7,33 +7,41 @@ pub mod initialize;
 pub mod propagate;
 pub mod undo;
 
-use edge_table::EdgeTable;
+use by_value::check::check;
+use by_value::lending::plan_bytes;
 use graph_division::Answer;
 use graph_division::GraphDivision;
 use graph_division::Outcome;
-use plan::Plan;
+use noting::buffers::log_short;
 use undo_log::Cursor;
 ghost use mathlib.Core.Path.{_≡_};
 ghost use Rattle.plan.specs.Check.{planBad};
+ghost use Rattle.noting.specs.Buffers.{logShort};
 ghost use Rattle.graph_division.specs.Calls.{refuse};
 ghost use Rattle.record_calls.specs.Reach.{reaches};
 
-fn plan_fails(plan: &Plan, held: EdgeTable) -> bool
-    ensures { λ r. ⌜ r ≡ planBad (now (plan .entry)) (held .ends) ⌝ }
+fn plan_fails(s: GraphDivision) -> bool
+    ensures { λ r. ⌜ r ≡ planBad (s .plan) (s .edges .ends) ⌝ }
 {
-    let edges = edge_table::table_of(held);
-    !plan::check::plan_ok(plan, &edges)
+    !check(s)
+}
+
+fn is_short(s: GraphDivision, len: usize) -> bool
+    ensures { λ r. ⌜ r ≡ logShort (s .plan) len ⌝ }
+{
+    let plan = plan_bytes(s);
+    log_short(&plan.bytes, len)
 }
 
 // Whether a log of `len` records can be loaded: the flat calls see one of 4352 words, so its length is tested here. That many
 // words hold the log of a plan that passes its own test.
-pub(crate) fn reaches(plan: &Plan, held: EdgeTable, len: usize, cursor: Cursor) -> bool
-    ensures { λ r. ⌜ r ≡ reaches (now (plan .entry)) (held .ends) len cursor ⌝ }
+pub(crate) fn reaches(s: GraphDivision, len: usize, cursor: Cursor) -> bool
+    ensures { λ r. ⌜ r ≡ reaches (s .plan) (s .edges .ends) len cursor ⌝ }
 {
-    if plan_fails(plan, held) {
+    if plan_fails(s) {
         return false;
     }
-    if noting::buffers::log_short(plan, len) {
+    if is_short(s, len) {
         return false;
     }
     let used = cursor.used;

@@ -28,8 +28,7 @@ pub(crate) fn propagate_words(
 ) -> Outcome
     ensures { λ r. ⌜ called r (now (table .exit)) (now (list .exit)) (now (words .exit)) ≡ pick (reaches (s .plan) (s .edges .ends) len cursor) (propagated s cursor lit «num_pending_propagations» (now (table .entry)) (now (list .entry)) (now (words .entry))) (called (refuse 7 s cursor) (now (table .entry)) (now (list .entry)) (now (words .entry))) ⌝ }
 {
-    let held = s.edges;
-    if reaches(&s.plan, held, len, cursor) {
+    if reaches(s, len, cursor) {
         return by_value::propagate::propagate(
             s,
             table,

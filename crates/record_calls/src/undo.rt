@@ -25,8 +25,7 @@ pub(crate) fn undo_words(
 ) -> Outcome
     ensures { λ r. ⌜ r ≡ pick (reaches (s .plan) (s .edges .ends) len cursor) (undone s cursor lit (now (words .entry))) (refuse 7 s cursor) ⌝ }
 {
-    let held = s.edges;
-    if reaches(&s.plan, held, len, cursor) {
+    if reaches(s, len, cursor) {
         return by_value::undo::undo(s, words, cursor, lit);
     }
     refuse(s, cursor)

@@ -14,14 +14,14 @@ returns : tie.Need-returns
 unfolding reaches
 returns c = ap not (or-yes _ (sym (c .before .plan-fails .ensures) ∙ c .if1 .taken))
 
-log-short-requires : tie.Need-log-short-requires
-log-short-requires c κs = search needs
+is-short-requires : tie.Need-is-short-requires
+is-short-requires c κs = search needs
 
 returns-2 : tie.Need-returns-2
 unfolding reaches
 returns-2 c =
     let p = c .before .before in
-    ap not (or-next _ true (sym (p .before .plan-fails .ensures) ∙ p .if1 .left) (or-yes _ (sym (c .before .log-short .ensures) ∙ c .if2 .taken)))
+    ap not (or-next _ true (sym (p .before .plan-fails .ensures) ∙ p .if1 .left) (or-yes _ (sym (c .before .is-short .ensures) ∙ c .if2 .taken)))
 
 returns-3 : tie.Need-returns-3
 unfolding reaches
@@ -29,7 +29,7 @@ returns-3 c =
     let l = c .before in
     let p = l .before .before in
     ap not (or-next _ true (sym (p .before .plan-fails .ensures) ∙ p .if1 .left)
-    (or-next _ true (sym (l .before .log-short .ensures) ∙ l .if2 .left) (or-yes _ (lt-ltb _ _ (c .if3 .taken)))))
+    (or-next _ true (sym (l .before .is-short .ensures) ∙ l .if2 .left) (or-yes _ (lt-ltb _ _ (c .if3 .taken)))))
 
 returns-4 : tie.Need-returns-4
 unfolding reaches
@@ -37,7 +37,7 @@ returns-4 c =
     let l = c .before .before in
     let p = l .before .before in
     ap not (or-next _ true (sym (p .before .plan-fails .ensures) ∙ p .if1 .left)
-    (or-next _ true (sym (l .before .log-short .ensures) ∙ l .if2 .left)
+    (or-next _ true (sym (l .before .is-short .ensures) ∙ l .if2 .left)
     (or-next _ true (le-ltb _ _ (c .before .if3 .left)) (sym (lt-ltb _ _ (c .if4 .taken))))))
 
 returns-5 : tie.Need-returns-5
@@ -46,9 +46,9 @@ returns-5 c =
     let l = c .before .before in
     let p = l .before .before in
     ap not (sym (or-both (sym (p .before .plan-fails .ensures) ∙ p .if1 .left)
-    (or-both (sym (l .before .log-short .ensures) ∙ l .if2 .left)
+    (or-both (sym (l .before .is-short .ensures) ∙ l .if2 .left)
     (or-both (le-ltb _ _ (c .before .if3 .left)) (le-ltb _ _ (c .if4 .left))))))
 
 pub reaches-spec : {M : Type 1} → statement M
 reaches-spec =
-    tie.close (tie.spec plan-fails-requires returns log-short-requires returns-2 returns-3 returns-4 returns-5)
+    tie.close (tie.spec plan-fails-requires returns is-short-requires returns-2 returns-3 returns-4 returns-5)

@@ -65,7 +65,7 @@ returns c =
     let f = c .before .before .before .before .before .before .before .before .finish in
     let s : GraphDivision = stateIn (a .state .now) in
     let y : Called = propagatedIn (a .state .now) (a .table .now) (a .list .now) (a .log .now) (a .cursor .now) (a .lit) (a .num-pending-propagations) in
-    let e : calledOf s _ _ _ _ _ _ _ ≡ y = (c .before .before .before .before .before .before .before .before .before .before .before .before .before .before .before .before .before .before .before .before .before .before .before .before .before .before .before .before .before .before .before .propagate .ensures) s (parts-in (a .state .now) (plan-here (a .state .now) (p .0)) (p .1) (p .2))
+    let e : calledOf s _ _ _ _ _ _ _ ≡ y = (c .before .before .before .before .before .before .before .before .before .before .before .before .before .before .before .before .before .before .before .before .before .before .before .before .before .before .before .propagate .ensures) s (parts-in (a .state .now) (plan-here (a .state .now) (p .0)) (p .1) (p .2))
     ∙ ((λ i. propagatedOver s ((p .4) i) ((c .before .before .before .before .before .before .before .before .before .before .before .before .before .before .before .before .before .before .before .before .before .before .before .before .before .before .before .before .before .before .before .before .before .before .before .before .no-words .ensures) i) ((c .before .before .before .before .before .before .before .before .before .before .before .before .before .before .before .before .before .before .before .before .before .before .before .before .before .before .before .before .before .before .before .before .before .before .before .no-list .ensures) i) (toZ-ofZ (c .before .before .before .before .before .before .before .before .before .before .before .before .before .before .before .before .before .before .before .before .before .before .before .before .before .before .before .before .before .before .before .before .before .before .before .before .before .before .before .before .before .before .before .before .fits .lit) i) (toZ-ofZ (c .before .before .before .before .before .before .before .before .before .before .before .before .before .before .before .before .before .before .before .before .before .before .before .before .before .before .before .before .before .before .before .before .before .before .before .before .before .before .before .before .before .before .before .before .fits .num-pending-propagations) i) (a .table .now) ((p .3) i) (((p .5) ∙ ap (λ (q : Cursor). logIn q (a .log .now)) (p .4)) i))
     ∙ over-zeros s (cursorIn (a .cursor .now)) (a .lit) (a .num-pending-propagations) (a .table .now) (listIn (a .list .now)) (logIn (cursorIn (a .cursor .now)) (a .log .now))) in (
       left-back (cursorIn (a .cursor .now)) y _ _ _ _ _ _ _ _ (leaves _ (a .before) _ _ _ _ _ _ _ y e _ _ _ _ _ _ _ (f .ensures .0) ∙ ap (λ (q : Cursor). leftOf q y (a .list .now) (a .log .now) (a .cursor .now)) (p .4)),

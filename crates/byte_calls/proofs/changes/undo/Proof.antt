@@ -36,13 +36,13 @@ part-take-back-start : tie.Need-part-take-back-start
 part-take-back-start c = search needs
 
 part-take-back-end : tie.Need-part-take-back-end
-part-take-back-end c = part-fits _ _ _ (c .before .before .before .before .room-of .ensures) (records-length _ _ _ (c .before .before .before .before .before .before .before .before .before .decode .ensures))
+part-take-back-end c = part-fits _ _ _ (c .before .before .before .room-of .ensures) (records-length _ _ _ (c .before .before .before .before .before .before .before .before .decode .ensures))
 
 take-back-requires : tie.Need-take-back-requires
 take-back-requires c κs =
     let p = c .before .before .before .before .before .before .before .before .before .before .before .before .before .before .before .before .before .before .before .before .pre in
-    let d = c .before .before .before .before .before .before .before .before .before .before .before .decode .ensures in
-    (p .0, p .1, c .before .before .before .before .before .before .before .read-edges .ensures, noted-decoded _ _ _ d)
+    let d = c .before .before .before .before .before .before .before .before .before .before .decode .ensures in
+    (p .0, p .1, c .before .before .before .before .before .before .read-edges .ensures, noted-decoded _ _ _ d)
 
 same-length : tie.Need-same-length
 same-length c = search needs
@@ -53,10 +53,10 @@ same-length-2 c = search needs
 returns : tie.Need-returns
 unfolding undoneIn
 returns c =
-    let d = c .before .before .before .before .before .before .before .before .before .before .before .before .before .before .before .before .decode .ensures in
+    let d = c .before .before .before .before .before .before .before .before .before .before .before .before .before .before .before .decode .ensures in
     let cursor = c .before .before .before .before .before .before .before .before .before .before .before .before .before .before .before .before .before .before .before .before .before .before .before .before .before .args .cursor .now in
     let lit = toZ-ofZ (c .before .before .before .before .before .before .before .before .before .before .before .before .before .before .before .before .before .before .before .before .before .before .before .before .before .fits .lit) in
-    let y = undone-read _ (cursor-decoded _ _ _ d) lit (records-in _ _ _ d (c .before .before .before .before .before .before .before .before .before .before .before .room-of .ensures)) in
+    let y = undone-read _ (cursor-decoded _ _ _ d) lit (records-in _ _ _ d (c .before .before .before .before .before .before .before .before .before .before .room-of .ensures)) in
     (undo-back _ _ _ _ (c .before .before .before .before .take-back .ensures .0 ∙ ap (λ (y : Outcome). backBy y cursor) y), undo-after _ _ _ _ y (c .before .before .before .before .take-back .ensures .1))
 
 pub undo-spec : {M : Type 1} → statement M

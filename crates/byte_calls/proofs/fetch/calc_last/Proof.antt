@@ -42,7 +42,7 @@ part-give-last-start : tie.Need-part-give-last-start
 part-give-last-start c = search needs
 
 part-give-last-end : tie.Need-part-give-last-end
-part-give-last-end c = part-fits _ _ _ (c .before .before .before .before .before .room-of .ensures) (records-length _ _ _ (c .before .before .before .before .before .before .before .before .before .decode .ensures))
+part-give-last-end c = part-fits _ _ _ (c .before .before .before .before .room-of .ensures) (records-length _ _ _ (c .before .before .before .before .before .before .before .before .decode .ensures))
 
 sub-give-last-2 : tie.Need-sub-give-last-2
 sub-give-last-2 c = search needs
@@ -51,23 +51,23 @@ part-out-start : tie.Need-part-out-start
 part-out-start c = search needs
 
 part-out-end : tie.Need-part-out-end
-part-out-end c = buffer-fits _ _ _ (c .before .before .before .before .capped .ensures) (buffer-long _ (c .before .before .before .before .before .no-list .ensures))
+part-out-end c = buffer-fits _ _ _ (c .before .before .before .capped .ensures) (buffer-long _ (c .before .before .before .before .no-list .ensures))
 
 give-last-requires : tie.Need-give-last-requires
 give-last-requires c κs =
-    let d = c .before .before .before .before .before .before .before .before .before .before .before .before .decode .ensures in
+    let d = c .before .before .before .before .before .before .before .before .before .before .before .decode .ensures in
     let b = c .before .before .before .before .before .before .before .before .before .before .before .before .before .before .before .before .before .before .before .before .args .buffer .now in
-    (c .before .before .before .before .before .before .before .before .before .before .before .before .before .before .before .before .before .before .before .before .pre .0, c .before .before .before .before .before .before .before .before .before .read-edges .ensures, noted-decoded _ _ _ d, buffer-less _ b (buffer-part _ _ _ b refl (c .before .before .before .before .before .before .capped .ensures) (c .before .before .before .before .before .before .before .no-list .ensures)))
+    (c .before .before .before .before .before .before .before .before .before .before .before .before .before .before .before .before .before .before .before .before .pre .0, c .before .before .before .before .before .before .before .before .read-edges .ensures, noted-decoded _ _ _ d, buffer-less _ b (buffer-part _ _ _ b refl (c .before .before .before .before .before .capped .ensures) (c .before .before .before .before .before .before .no-list .ensures)))
 
 same-length : tie.Need-same-length
 same-length c = search needs
 
 returns : tie.Need-returns
 returns c =
-    let d = c .before .before .before .before .before .before .before .before .before .before .before .before .before .before .before .before .decode .ensures in
+    let d = c .before .before .before .before .before .before .before .before .before .before .before .before .before .before .before .decode .ensures in
     let b = c .before .before .before .before .before .before .before .before .before .before .before .before .before .before .before .before .before .before .before .before .before .before .before .before .args .buffer .now in
-    let records = records-in _ _ _ d (c .before .before .before .before .before .before .before .before .before .before .before .before .room-of .ensures) in
-    let y = last-read _ (cursor-decoded _ _ _ d) records (buffer-part _ _ _ b refl (c .before .before .before .before .before .before .before .before .before .before .capped .ensures) (c .before .before .before .before .before .before .before .before .before .before .before .no-list .ensures)) in
+    let records = records-in _ _ _ d (c .before .before .before .before .before .before .before .before .before .before .before .room-of .ensures) in
+    let y = last-read _ (cursor-decoded _ _ _ d) records (buffer-part _ _ _ b refl (c .before .before .before .before .before .before .before .before .before .capped .ensures) (c .before .before .before .before .before .before .before .before .before .before .no-list .ensures)) in
     given-back _ _ _ _ (c .before .before .before .give-last .ensures ∙ ap (λ (y : Fetched). givenIn y b) y)
 
 pub calc-last-spec : {M : Type 1} → statement M

@@ -42,7 +42,7 @@ part-give-reason-start : tie.Need-part-give-reason-start
 part-give-reason-start c = search needs
 
 part-give-reason-end : tie.Need-part-give-reason-end
-part-give-reason-end c = part-fits _ _ _ (c .before .before .before .before .before .room-of .ensures) (records-length _ _ _ (c .before .before .before .before .before .before .before .before .before .decode .ensures))
+part-give-reason-end c = part-fits _ _ _ (c .before .before .before .before .room-of .ensures) (records-length _ _ _ (c .before .before .before .before .before .before .before .before .decode .ensures))
 
 sub-give-reason-2 : tie.Need-sub-give-reason-2
 sub-give-reason-2 c = search needs
@@ -51,23 +51,23 @@ part-out-start : tie.Need-part-out-start
 part-out-start c = search needs
 
 part-out-end : tie.Need-part-out-end
-part-out-end c = buffer-fits _ _ _ (c .before .before .before .before .capped .ensures) (buffer-long _ (c .before .before .before .before .before .no-list .ensures))
+part-out-end c = buffer-fits _ _ _ (c .before .before .before .capped .ensures) (buffer-long _ (c .before .before .before .before .no-list .ensures))
 
 give-reason-requires : tie.Need-give-reason-requires
 give-reason-requires c κs =
-    let d = c .before .before .before .before .before .before .before .before .before .before .before .before .decode .ensures in
+    let d = c .before .before .before .before .before .before .before .before .before .before .before .decode .ensures in
     let b = c .before .before .before .before .before .before .before .before .before .before .before .before .before .before .before .before .before .before .before .before .args .buffer .now in
-    (c .before .before .before .before .before .before .before .before .before .before .before .before .before .before .before .before .before .before .before .before .pre .0, c .before .before .before .before .before .before .before .before .before .read-edges .ensures, noted-decoded _ _ _ d, buffer-less _ b (buffer-part _ _ _ b refl (c .before .before .before .before .before .before .capped .ensures) (c .before .before .before .before .before .before .before .no-list .ensures)))
+    (c .before .before .before .before .before .before .before .before .before .before .before .before .before .before .before .before .before .before .before .before .pre .0, c .before .before .before .before .before .before .before .before .read-edges .ensures, noted-decoded _ _ _ d, buffer-less _ b (buffer-part _ _ _ b refl (c .before .before .before .before .before .capped .ensures) (c .before .before .before .before .before .before .no-list .ensures)))
 
 same-length : tie.Need-same-length
 same-length c = search needs
 
 returns : tie.Need-returns
 returns c =
-    let d = c .before .before .before .before .before .before .before .before .before .before .before .before .before .before .before .before .decode .ensures in
+    let d = c .before .before .before .before .before .before .before .before .before .before .before .before .before .before .before .decode .ensures in
     let b = c .before .before .before .before .before .before .before .before .before .before .before .before .before .before .before .before .before .before .before .before .before .before .before .before .args .buffer .now in
-    let records = records-in _ _ _ d (c .before .before .before .before .before .before .before .before .before .before .before .before .room-of .ensures) in
-    let y = reason-read _ (cursor-decoded _ _ _ d) records (toZ-ofZ (c .before .before .before .before .before .before .before .before .before .before .before .before .before .before .before .before .before .before .before .before .before .before .before .before .fits .lit)) (buffer-part _ _ _ b refl (c .before .before .before .before .before .before .before .before .before .before .capped .ensures) (c .before .before .before .before .before .before .before .before .before .before .before .no-list .ensures)) in
+    let records = records-in _ _ _ d (c .before .before .before .before .before .before .before .before .before .before .before .room-of .ensures) in
+    let y = reason-read _ (cursor-decoded _ _ _ d) records (toZ-ofZ (c .before .before .before .before .before .before .before .before .before .before .before .before .before .before .before .before .before .before .before .before .before .before .before .before .fits .lit)) (buffer-part _ _ _ b refl (c .before .before .before .before .before .before .before .before .before .capped .ensures) (c .before .before .before .before .before .before .before .before .before .before .no-list .ensures)) in
     given-back _ _ _ _ (c .before .before .before .give-reason .ensures ∙ ap (λ (y : Fetched). givenIn y b) y)
 
 pub calc-reason-spec : {M : Type 1} → statement M

@@ -77,7 +77,7 @@ returns c =
     let f = (c .before .before .before .before .before .before .before .before .before .before .before .before .finish) in
     let y : Called = initializedIn (a .state .now) (a .table .now) (a .list .now) (a .log .now) (a .cursor .now) in
     let s : GraphDivision = stateIn (a .state .now) in
-    let e : begunOf s _ _ _ _ _ _ _ ≡ y = (c .before .before .before .before .before .before .before .before .before .before .before .before .before .before .before .before .before .before .before .before .before .before .before .before .before .before .before .before .before .before .before .before .before .before .before .before .initialize .ensures) s (parts-in (a .state .now) (plan-here (a .state .now) (p .0)) (p .1) (p .2)) (p .3) (w .ensures) (k .ensures)
+    let e : begunOf s _ _ _ _ _ _ _ ≡ y = (c .before .before .before .before .before .before .before .before .before .before .before .before .before .before .before .before .before .before .before .before .before .before .before .before .before .before .before .before .before .before .before .before .initialize .ensures) s (parts-in (a .state .now) (plan-here (a .state .now) (p .0)) (p .1) (p .2)) (p .3) (w .ensures) (k .ensures)
     ∙ ((λ i. initializedOver s ((p .5) i) ((c .before .before .before .before .before .before .before .before .before .before .before .before .before .before .before .before .before .before .before .before .before .before .before .before .before .before .before .before .before .before .before .before .before .before .before .before .before .before .before .before .before .before .before .before .no-words .ensures) i) (a .table .now) (((p .6) ∙ ap (λ (q : Cursor). logIn q (a .log .now)) (p .5)) i) ((p .4) i))
     ∙ begun-over-zeros s (cursorIn (a .cursor .now)) (a .table .now) (logIn (cursorIn (a .cursor .now)) (a .log .now)) (listIn (a .list .now))) in (
       left-back (cursorIn (a .cursor .now)) y _ _ _ _ _ _ _ _ (begun-leaves _ (a .before) _ _ _ _ _ _ _ y e _ _ _ _ _ _ _ ((f .ensures .0)) ∙ ap (λ (q : Cursor). leftOf q y (a .list .now) (a .log .now) (a .cursor .now)) (p .5)),

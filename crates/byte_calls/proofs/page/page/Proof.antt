@@ -37,7 +37,7 @@ part-page-start c = search needs
 
 part-page-end : tie.Need-part-page-end
 part-page-end c =
-    part-fits _ _ _ (c .before .before .before .room-of .ensures) (records-length _ _ _ (c .before .before .before .before .before .before .before .decode .ensures))
+    part-fits _ _ _ (c .before .before .room-of .ensures) (records-length _ _ _ (c .before .before .before .before .before .before .decode .ensures))
 
 page-requires : tie.Need-page-requires
 page-requires c κs = search needs
@@ -51,9 +51,9 @@ same-length c = search needs
 returns : tie.Need-returns
 unfolding pageIn
 returns c =
-    let r = c .before .before .before .before .before .before .before .before .before in
+    let r = c .before .before .before .before .before .before .before .before in
     let d = r .before .before .before .before .decode .ensures in
-    let a = r .before .before .before .before .before .before .before .before .before .before .before .before in
+    let a = r .before .before .before .before .before .before .before .before .before .before .before .before .before in
     let p = parts-in (a .args .state .now) (plan-here (a .args .state .now) (a .pre .0)) (r .before .read-edges .ensures) (noted-decoded _ _ _ d) in
     page-back _ _ _ _ (c .code-of .ensures) ((c .before .before .before .page .ensures) (stateIn (a .args .state .now)) p
     ∙ page-read _ _ (cursor-decoded _ _ _ d) (records-in _ _ _ d (r .room-of .ensures)))

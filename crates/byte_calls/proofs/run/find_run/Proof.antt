@@ -36,7 +36,7 @@ part-run-start c = search needs
 
 part-run-end : tie.Need-part-run-end
 part-run-end c =
-    part-fits _ _ _ (c .before .before .before .room-of .ensures) (records-length _ _ _ (c .before .before .before .before .before .before .before .decode .ensures))
+    part-fits _ _ _ (c .before .before .room-of .ensures) (records-length _ _ _ (c .before .before .before .before .before .before .decode .ensures))
 
 run-requires : tie.Need-run-requires
 run-requires c κs = search needs
@@ -46,9 +46,9 @@ same-length c = search needs
 
 returns : tie.Need-returns
 returns c =
-    let r = c .before .before .before .before .before .before .before .before in
+    let r = c .before .before .before .before .before .before .before in
     let d = r .before .before .before .before .decode .ensures in
-    let a = r .before .before .before .before .before .before .before .before .before .before .before .before in
+    let a = r .before .before .before .before .before .before .before .before .before .before .before .before .before in
     (c .before .before .run .ensures) (stateIn (a .args .state .now))
     (parts-in (a .args .state .now) (plan-here (a .args .state .now) (a .pre .0)) (r .before .read-edges .ensures) (noted-decoded _ _ _ d))
     ∙ run-read _ (cursor-decoded _ _ _ d) (records-in _ _ _ d (r .room-of .ensures)) (toZ-ofZ (a .fits .from)) (toZ-ofZ (a .fits .to)) refl

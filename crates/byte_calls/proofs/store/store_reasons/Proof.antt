@@ -76,7 +76,7 @@ returns c =
     let a = x .before .before .before .before .before .args in
     iter-done _ _ _ _ _ (c .before .loop .inv .1) (omega arith) (omega arith)
     ∙ ap (λ (k : ℕ). iter (putReason (a .proposals .now)) k (a .state .now))
-    (x .capped .ensures ∙ ap (λ (k : ℕ). capped (2 * k) 4352) (x .before .before .before .before .before .before .num-variables .ensures))
+    (x .capped .ensures ∙ ap (λ (k : ℕ). capped (2 * k) 4352) (x .before .num-variables .ensures))
 
 pub store-reasons-spec : {M : Type 1} → statement M
 store-reasons-spec =

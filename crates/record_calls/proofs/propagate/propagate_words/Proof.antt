@@ -25,7 +25,7 @@ same-length-3 c = search needs
 
 returns : tie.Need-returns
 returns c = ((c .before .before .before .before .before .before .propagate .ensures))
-    ∙ (λ i. propagated ((c .before .before .before .before .before .before .before .before .before .before .before .before .before .before .before .before .before .args .t1)) ((c .before .before .before .before .before .before .before .before .before .before .before .before .before .before .before .before .before .args .cursor)) (toZ-ofZ ((c .before .before .before .before .before .before .before .before .before .before .before .before .before .before .before .before .before .fits .lit)) i) (toZ-ofZ ((c .before .before .before .before .before .before .before .before .before .before .before .before .before .before .before .before .before .fits .num-pending-propagations)) i) ((c .before .before .before .before .before .before .before .before .before .before .before .before .before .before .before .before .before .args .table .now)) ((c .before .before .before .before .before .before .before .before .before .before .before .before .before .before .before .before .before .args .list .now)) ((c .before .before .before .before .before .before .before .before .before .before .before .before .before .before .before .before .before .args .words .now)))
+    ∙ (λ i. propagated ((c .before .before .before .before .before .before .before .before .before .before .before .before .before .before .before .before .before .args .s)) ((c .before .before .before .before .before .before .before .before .before .before .before .before .before .before .before .before .before .args .cursor)) (toZ-ofZ ((c .before .before .before .before .before .before .before .before .before .before .before .before .before .before .before .before .before .fits .lit)) i) (toZ-ofZ ((c .before .before .before .before .before .before .before .before .before .before .before .before .before .before .before .before .before .fits .num-pending-propagations)) i) ((c .before .before .before .before .before .before .before .before .before .before .before .before .before .before .before .before .before .args .table .now)) ((c .before .before .before .before .before .before .before .before .before .before .before .before .before .before .before .before .before .args .list .now)) ((c .before .before .before .before .before .before .before .before .before .before .before .before .before .before .before .before .before .args .words .now)))
     ∙ sym (pick-yes _ _ (sym ((c .before .before .before .before .before .before .before .before .before .before .before .reaches .ensures)) ∙ ((c .before .before .before .before .before .before .before .before .before .before .if1 .taken))))
 
 refuse-requires : tie.Need-refuse-requires
