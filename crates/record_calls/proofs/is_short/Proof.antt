@@ -13,7 +13,7 @@ log-short-requires : tie.Need-log-short-requires
 log-short-requires c κs = search needs
 
 returns : tie.Need-returns
-returns c = c .log-short .ensures ∙ ap (λ (ws : List ℕ). logShort ws _) (c .before .before .before .plan-bytes .ensures)
+returns c = c .log-short .ensures ∙ ap (λ (ws : List ℕ). logShort ws (c .before .before .before .before .before .args .len)) (c .before .before .before .before .plan-bytes .ensures)
 
 pub is-short-spec : {M : Type 1} → statement M
 is-short-spec = tie.close (tie.spec plan-bytes-requires log-short-requires returns)
