@@ -51,7 +51,10 @@ fn meaning(refusal: i32) -> &'static str {
         10 => "the literal to be notified stands already, or its negation does",
         11 => "the literal to be undone is not the newest",
         13 => "same-size option: something would follow from a fixed size of 0",
-        14 => "what follows is false in the table, and neither it nor what it follows from was set at the current level",
+        14 => {
+            "what follows is false in the table, and neither it nor what it follows from was set at the current \
+             level"
+        }
         15 => "no reason is recorded for the literal",
         16 => "the open gates that the reason goes by are not open any more",
         _ => "an unknown number",
