@@ -21,11 +21,14 @@ def is_open(lit, true):
 def columns_of(pens, gates):
     """How many pens the yard has in a row, if the pens stand row by row and every gate is between neighbours; None
     where no such picture can be drawn."""
-    fitting = [n for n in range(2, len(pens) + 1) if len(pens) % n == 0 and fits(gates, n)]
+    fitting = [n for n in range(2, len(pens) + 1) if fits(pens, gates, n)]
     return fitting[0] if fitting and gates else None
 
 
-def fits(gates, columns):
+def fits(pens, gates, columns):
+    """Whether the pens fill rows of this length, and every gate is between neighbours."""
+    if columns < 1 or len(pens) % columns:
+        return False
     pairs = [sorted((u, v)) for u, v, _ in gates]
     return all(v - u == columns or v - u == 1 and v % columns > 0 for u, v in pairs)
 
@@ -36,7 +39,7 @@ def picture(pens, gates, true, columns):
     labels = heads_by_part(pens, regions(pens, gates, true), joined, columns)
     lines = []
     for first in range(0, len(pens), columns):
-        row = range(first, min(first + columns, len(pens)))
+        row = range(first, first + columns)
         lines.append("+" + "".join((" " if (p - columns, p) in joined else "-") * WIDE + "+" for p in row))
         lines.append("|" + "".join("{:^{}}".format("pen %d" % p, WIDE) + wall(p, joined) for p in row))
         lines.append("|" + "".join("{:^{}}".format(labels.get(part[0], ""), (WIDE + 1) * len(part) - 1) + "|"
@@ -84,6 +87,6 @@ def listing(pens, gates, true):
 
 
 def shown(pens, gates, true, columns=None):
-    """The picture, with this many pens in a row or as the gates allow; else the list."""
+    """The picture, with this many pens in a row or with as many as fit; else the list."""
     columns = columns or columns_of(pens, gates)
     return picture(pens, gates, true, columns) if columns else listing(pens, gates, true)

@@ -3,6 +3,8 @@ standard input, and prints a valid division, or every one, and what it took. It 
 
 Usage: z3_yard.py [--all] [--columns N] [--library FILE] < PLAN
 
+The exit status is 0 where a division was found, 1 where there is none or the plan cannot be read or built.
+
     --all           every valid division, not only one
     --columns N     N pens stand in a row of the picture; without it that is read off the gates where it can be
     --library FILE  the shared library, if it is not target/c/libzuntjev.so (zuntjev.py says how it is made)
@@ -90,8 +92,11 @@ class Propagator(z3.UserPropagateBase):
     def on_final(self):
         """Z3 has fixed all: with nothing waiting and no conflict this is a valid division."""
         self.notify()
-        if not self.in_conflict and len(self.standing) == len(self.bools):
-            self.take_division(self, {v for v, (_, lit) in self.value.items() if lit % 2 == 0})
+        if self.in_conflict:
+            return
+        if len(self.standing) < len(self.bools):
+            raise RuntimeError("Z3 ended with a variable unset")
+        self.take_division(self, {v for v, (_, lit) in self.value.items() if lit % 2 == 0})
 
     def notify(self):
         """Notifies what waits, level by level; all of a level but the last is only noted."""
@@ -147,8 +152,8 @@ def solve(plan, every=False, library=None, divider=None):
         propagator.conflicts += 1
     elif not divider.variables:
         divisions.append(set())
-    else:
-        solver.check()
+    elif solver.check() == z3.unknown and propagator.failure is None:
+        raise RuntimeError("Z3 gave up: " + solver.reason_unknown())
     if propagator.failure is not None:
         raise propagator.failure
     return divisions, propagator
@@ -162,8 +167,12 @@ def main(arguments):
     chosen = parser.parse_args(arguments)
     try:
         plan = zuntjev.read_plan(sys.stdin.read())
+        if plan.same_size or plan.extra_walls:
+            sys.exit("z3_yard.py: an option is on: it is not promised then that what is found is a division")
+        if chosen.columns is not None and not picture.fits(plan.pens, plan.gates, chosen.columns):
+            sys.exit("z3_yard.py: with %d pens in a row some gate is not between neighbours" % chosen.columns)
         divisions, took = solve(plan, chosen.all, zuntjev.load(chosen.library))
-    except (zuntjev.Refused, OSError) as failure:
+    except (zuntjev.Refused, OSError, RuntimeError) as failure:
         sys.exit("z3_yard.py: %s" % failure)
     for true in divisions:
         print(picture.shown(plan.pens, plan.gates, true, chosen.columns))

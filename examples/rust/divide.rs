@@ -3,6 +3,9 @@
 //!
 //! Usage: divide [--all] < PLAN
 //!
+//! The exit status is 0 where a division was found, 1 where there is none, and another where the plan cannot be read or
+//! built.
+//!
 //! To build it, after `./build-c target/c`:
 //!
 //!     rustc -O --edition 2021 examples/rust/divide.rs -L target/c -l static=zuntjev -o target/c/divide
@@ -112,6 +115,9 @@ fn main() {
         if plan.read_line(line).is_none() {
             stop(&format!("line {} is malformed", i + 1));
         }
+    }
+    if plan.opts.require_extra_constraints() {
+        stop("an option is on: it is not promised then that what is found is a division");
     }
     let Plan { domains, dom_lits, vertex_weights, edges, edge_lits, opts } = &plan;
     let mut propagator = GraphDivision::new(domains, dom_lits, vertex_weights, edges, edge_lits, opts);

@@ -58,7 +58,8 @@ class Divide(Client):
         ran = subprocess.run([self.program] + ["--all"] * every, input=judge.lines(pens, gates), capture_output=True,
                              text=True, timeout=60)
         *lines, last = ran.stdout.splitlines() or [""]
-        count = re.fullmatch(r"(\d+) valid divisions?(?: in all)?: (\d+) calls, (\d+) conflicts, (\d+) propagations", last)
+        count = re.fullmatch(r"(\d+) valid divisions?(?: in all)?: (\d+) calls, (\d+) conflicts, (\d+) propagations",
+                             last)
         if ran.stderr or not count:
             raise RuntimeError(ran.stderr.strip() or "no line that counts: " + last)
         self.took(*map(int, count.groups()[1:]))

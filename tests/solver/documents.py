@@ -74,10 +74,28 @@ def run_all(tally, missing):
         tally.test("docs/SOLVERS.md: " + command, good, ran.stdout, ran.stderr)
 
 
+def messages(tally, missing):
+    """What the clients say of input that is not a plan, a plan that cannot be built, an option, and no division."""
+    clients = [("z3", "python3 examples/python/z3_yard.py", "z3_yard.py"), ("rustc", "target/c/divide", "divide")]
+    given = [("P\n", ": line 1 is "), ("P\t1\t0\nG\t0\t1\t0\n", "is refused with 6: an end of a gate is no pen"),
+             ("O\t1\t0\n", ": an option is on"),
+             ("P\t3\t1\t2\n", "0 valid divisions in all: 1 calls, 1 conflicts, 0 propagations")]
+    for tool, command, name in clients:
+        if tool in missing:
+            tally.skip("no %s: what %s says of mistakes" % (tool, name))
+            continue
+        for text, said in given:
+            ran = subprocess.run(command + " --all", shell=True, input=text, cwd=ROOT, capture_output=True, text=True)
+            written = ran.stdout + ran.stderr
+            good = written.count("\n") == 1 and said in written and ran.returncode != 0
+            tally.test("%s of %r" % (name, text), good, written)
+
+
 def main(missing):
     tally = Tally()
     hand_drawn(tally)
     run_all(tally, missing)
+    messages(tally, missing)
     swapped = re.search(r"```rust\n(.*?)```", DOCUMENT, re.S)[1]
     tally.test("the line to swap", swapped in (ROOT / "examples" / "rust" / "divide.rs").read_text())
     tally.test("lines of at most 120 characters", max(map(len, DOCUMENT.split("\n"))) <= 120)

@@ -124,9 +124,9 @@ def yard(random):
     return pens, gates
 
 
-def grid(random, rows, columns, share, most_heads=9):
-    """A grid with planted groups: a pen has sizes, the planted one among them, with this probability. Gate g has
-    literal 2g, the size literals follow."""
+def grid(random, rows, columns, share, most_others=2, most_heads=9):
+    """A grid with planted groups: with this probability a pen has sizes, the planted one and up to most_others others.
+    Gate g has literal 2g, the size literals follow."""
     n = rows * columns
     ends = [(p, p + 1) for p in range(n) if (p + 1) % columns] + [(p, p + columns) for p in range(n - columns)]
     weights = [random.randint(1, most_heads) for _ in range(n)]
@@ -136,7 +136,7 @@ def grid(random, rows, columns, share, most_heads=9):
     for p in range(n):
         sizes = []
         if random.random() < share:
-            others = {random.randint(1, 4 * most_heads) for _ in range(random.randint(0, 2))}
+            others = {random.randint(1, 4 * most_heads) for _ in range(random.randint(0, most_others))}
             sizes = sorted(others | {sizes_planted[p]})
         pens.append((weights[p], sizes, [lit + 2 * j for j in range(len(sizes) - 1)]))
         lit += 2 * max(len(sizes) - 1, 0)

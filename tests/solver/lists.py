@@ -1,6 +1,6 @@
-"""lists.py LIBRARY SEED: conflict lists and reasons, from random walks over the divider and from Z3's searches, on grids
-and yards where enumeration ends. No valid division has all literals of a list; or all of a reason, and the negation of
-what follows from it. Two judges say so: judge.py, by enumeration, and clingo, on division.lp."""
+"""lists.py LIBRARY SEED: conflict lists and reasons, from random walks over the divider and from Z3's searches, on
+grids and yards where enumeration ends. No valid division has all literals of a list; or all of a reason, and the
+negation of what follows from it. Two judges say so: judge.py, by enumeration, and clingo, on division.lp."""
 import json
 import random
 import shutil

@@ -77,7 +77,7 @@ def meanings(tally):
                "propagator.rs %s" % in_rust)
     two = zuntjev.Divider([zuntjev.Pen(1, [], [])] * 2, [zuntjev.Gate(0, 1, 0)], library=LIBRARY)
     for call, said in (
-            (lambda: zuntjev.Divider([zuntjev.Pen(2**40, [], [])], [], library=LIBRARY), "build is refused with 2: heads"),
+            (lambda: zuntjev.Divider([zuntjev.Pen(2**40, [], [])], [], library=LIBRARY), "build is refused with 2: "),
             (lambda: two.propagate(2**32), "propagate is refused with 9: a literal that"),
             (lambda: two.undo(0), "undo is refused with 11: the literal to be undone"),
             (lambda: two.reason(0), "calc_reason is refused with 15: no reason"),
