@@ -32,20 +32,35 @@ class Client:
         return "%d calls, %d conflicts, %d propagations" % (self.calls, self.conflicts, self.propagations)
 
 
+class Levelled(Keeping):
+    """A divider that tests the table: the literal to be notified is of the current level there. What stood before at
+    other levels is counted. The end of a search tells nothing of it: refusal 14 comes only where what follows is false
+    in the table, and what stands is never proposed."""
+
+    earlier = 0
+
+    def propagate(self, lit, pending=0):
+        if self.table[lit // 2] != 3 + lit % 2:
+            raise RuntimeError("%d is notified, and its code is %d" % (lit, self.table[lit // 2]))
+        self.earlier += sum(0 < code < 3 for code in self.table)
+        return super().propagate(lit, pending)
+
+
 class Z3(Client):
     def __init__(self, library):
         super().__init__("Z3 %s" % z3.get_version_string())
-        self.library = library
+        self.library, self.earlier = library, 0
 
     def divisions(self, pens, gates, every):
         """The propagator's own count of calls is compared with the divider's, which counts by itself: building and
         the fetches of conflicts' lists are not in it."""
-        divider = Keeping(*plan(pens, gates), library=self.library)
+        divider = Levelled(*plan(pens, gates), library=self.library)
         found, took = z3_yard.solve(plan(pens, gates), every, divider=divider)
         assert took.calls == divider.calls - 1 - len(divider.conflict_lists), "calls are counted wrong"
         assert took.conflicts == len(divider.conflict_lists) and took.propagations == len(divider.reason_lists)
         self.took(took.calls, took.conflicts, took.propagations)
         self.noted += divider.noted
+        self.earlier += divider.earlier
         return [frozenset(true) for true in found]
 
 
@@ -132,6 +147,7 @@ def main(library, divide, seed, yard_count, grid_count):
     yards(tally, clients, seed, int(yard_count))
     if z3 is not None:
         tally.test("literals come to Z3's propagator in bursts", clients[0].noted > 0)
+        tally.test("the table has earlier levels", clients[0].earlier > 0)
     grids(tally, clients, seed, int(grid_count))
     print("%d s" % (time.time() - started))
     tally.end()
