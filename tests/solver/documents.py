@@ -17,7 +17,7 @@ NEEDS = {"cc ": "cc", "python3 ": "z3", "rustc ": "rustc", "target/c/divide": "r
 
 def commands():
     """Each command with the indented lines that follow its block, if it is the last one there."""
-    for block, after in re.findall(r"```sh\n(.*?)```\n((?:\n(?:    .*\n)+)?)", DOCUMENT, re.S):
+    for block, after in re.findall(r"```sh\n(.*?)```\n((?:\n(?:    [^\n]*\n)+)?)", DOCUMENT, re.S):
         *lines, last = block.splitlines()
         yield from ((line, "") for line in lines)
         yield last, "".join(line[4:] + "\n" for line in after.strip("\n").splitlines())
@@ -58,6 +58,7 @@ def run_all(tally, missing):
     """Every command ends well and says nothing on standard error but the progress of building."""
     pictures = {picture.shown(DOZEN.pens, DOZEN.gates, true) for true in judge.by_gates(DOZEN.pens, DOZEN.gates)}
     tally.test("five divisions of the dozen pens", len(pictures) == 5)
+    tally.test("commands of docs/SOLVERS.md", len(list(commands())) == 5)
     for command, shown in commands():
         lacks = [tool for start, tool in NEEDS.items() if command.startswith(start) and tool in missing]
         if lacks:
