@@ -148,7 +148,8 @@ def main(library, divide, seed, yard_count, grid_count):
     if z3 is not None:
         tally.test("literals come to Z3's propagator in bursts", clients[0].noted > 0)
         tally.test("the table has earlier levels", clients[0].earlier > 0)
-    grids(tally, clients, seed, int(grid_count))
+    if clients:
+        grids(tally, clients, seed, int(grid_count))
     print("%d s" % (time.time() - started))
     tally.end()
 
