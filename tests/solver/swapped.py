@@ -23,7 +23,7 @@ def main(divide, original, seed):
         expected, written = printed(original, text), printed(divide, text)
         divisions += expected.count("literals:")
         tally.test("grid %d by examples/rust and by the original" % n, written == expected, text, written, expected)
-    tally.test("divisions to compare", divisions > 100)
+    tally.test("divisions to compare", divisions >= 100)
     print("100 grids, %d divisions, the same by the Rust original" % divisions)
     tally.end()
 
