@@ -4,6 +4,7 @@ pub mod Filling
 pub mod Steps
 pub mod Place
 pub mod Back
+pub mod Forwards
 pub mod Effects
 pub mod After
 pub mod UndoNote
