@@ -17,7 +17,7 @@ passing : (ws : List ℕ) (ends es : List (List ℕ)) (b : Bool) → es ≡ ends
 passing ws ends es b e f = f ∙ ap (λ (x : List (List ℕ)). not (planBad ws x)) e
 
 returns : tie.Need-returns
-returns c = passing _ _ _ _ (c .before .before .before .before .table-of .ensures) (c .before .before .plan-ok .ensures)
+returns c = passing _ _ _ _ (c .before .before .before .before .table-of .ensures) (c .plan-ok .ensures)
 
 pub check-spec : {M : Type 1} → statement M
 check-spec = tie.close (tie.spec table-of-requires plan-ok-requires returns)

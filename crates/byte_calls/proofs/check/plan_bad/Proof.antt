@@ -31,7 +31,7 @@ fails : (b ws z : List ℕ) (es : List (List ℕ)) (r : Bool) → z ≡ replicat
 fails b ws z es r q e f g = ap not g ∙ Bool·not-not _ ∙ ap₂ planBad (plan-read b ws z q e) f
 
 returns : tie.Need-returns
-returns c = fails _ _ _ _ _ (c .before .before .before .before .before .before .before .no-plan .ensures) (c .before .before .before .before .before .read-plan .ensures) (c .before .before .before .read-edges .ensures) (c .before .before .plan-ok .ensures)
+returns c = fails _ _ _ _ _ (c .before .before .before .before .before .before .before .no-plan .ensures) (c .before .before .before .before .before .read-plan .ensures) (c .before .before .before .read-edges .ensures) (c .plan-ok .ensures)
 
 pub plan-bad-spec : {M : Type 1} → statement M
 plan-bad-spec =
