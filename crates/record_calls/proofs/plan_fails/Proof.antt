@@ -17,7 +17,7 @@ failing : (ws : List ℕ) (ends es : List (List ℕ)) (b : Bool) → es ≡ ends
 failing ws ends es b e f = ap not f ∙ Bool·not-not _ ∙ ap (planBad ws) e
 
 returns : tie.Need-returns
-returns c = failing _ _ _ _ (c .before .before .before .table-of .ensures) (c .plan-ok .ensures)
+returns c = failing _ _ _ _ (c .before .before .table-of .ensures) (c .plan-ok .ensures)
 
 pub plan-fails-spec : {M : Type 1} → statement M
 plan-fails-spec = tie.close (tie.spec table-of-requires plan-ok-requires returns)
