@@ -25,6 +25,6 @@ pub plan-words-length : (vs : List ℤ) (n : ℕ) (es : List ℤ) (m : ℕ) (a b
 unfolding planWords
 plan-words-length vs n es m a b = pick-ind (λ (ws : List ℕ). length ws ≡ 15241) (eqb (refusal vs n es m) 0) _ _
     (λ (t : eqb (refusal vs n es m) 0 ≡ true).
-        let c = counted vs n m (clean vs n es m (eqb-true (refusal vs n es m) 0 t) .counts) in
-        with-index-length (given vs n es m a b) ∙ given-length vs n es m a b (c .vertices) (c .edges) (c .sizes))
+    let c = counted vs n m (clean vs n es m (eqb-true (refusal vs n es m) 0 t) .counts) in
+    with-index-length (given vs n es m a b) ∙ given-length vs n es m a b (c .vertices) (c .edges) (c .sizes))
     (λ (t : eqb (refusal vs n es m) 0 ≡ false). length-replicate {A = ℕ} 15241 0)

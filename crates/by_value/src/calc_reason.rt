@@ -15,7 +15,16 @@ pub fn calc_last(s: GraphDivision, log: &[u64], cursor: Cursor, buffer: &mut [u3
     let edges = edge_table::table_of(held);
     let last = s.last;
     let len = s.last_len;
-    lent::fetch::calc_last(&plan.bytes, edges, &s.noted, log, cursor, &last, len, buffer)
+    lent::fetch::calc_last(
+        &plan.bytes,
+        edges,
+        &s.noted,
+        log,
+        cursor,
+        &last,
+        len,
+        buffer,
+    )
 }
 
 // A literal's reason: the list of what an analysis recorded for it.
@@ -34,5 +43,14 @@ pub fn calc_reason(
     let p = lent::fetch::place_of(&plan.bytes, refusals::lit_number(lit));
     let reasons = s.reasons;
     let reason = recorded::reason_at(reasons, p);
-    lent::fetch::calc_reason(&plan.bytes, edges, &s.noted, log, cursor, lit, reason, buffer)
+    lent::fetch::calc_reason(
+        &plan.bytes,
+        edges,
+        &s.noted,
+        log,
+        cursor,
+        lit,
+        reason,
+        buffer,
+    )
 }

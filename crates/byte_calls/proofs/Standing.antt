@@ -41,7 +41,6 @@ unfolding filled
 filled-same f g a n l h = iter-same _ _ n l (λ i x k. ap (set x (a + i)) (h i k))
 
 module _ (b c : List ℕ) where
-
   pub ends-same : Agree 60964 61220 b c → endsIn b ≡ endsIn c
   unfolding endsIn endsAt
   ends-same h =

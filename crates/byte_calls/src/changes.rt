@@ -34,13 +34,7 @@ ghost use Rattle.byte_calls.specs.Host.{AfterOf, leftWith, leftBy, leftO
 ghost use Rattle.graph_division.specs.Calls.{undone};
 
 // The state's words that a call has changed.
-fn store_state(
-    state: &mut [u8],
-    noted: &[u32],
-    proposals: &[u64],
-    words: &[u32],
-    done: Done,
-)
+fn store_state(state: &mut [u8], noted: &[u32], proposals: &[u64], words: &[u32], done: Done)
     requires { ⌜ (133440 ≤ length (now state)) × (length (now noted) ≡ 384) × (length (now proposals) ≡ 8704) × (length (now words) ≡ 260) ⌝ }
     ensures { λ _. ⌜ (stateAfter (stateIn (now (state .entry))) (now (noted .entry)) (now (proposals .entry)) (now (words .entry)) done .«last_len» < 4294967296 →
         stateIn (now (state .exit)) ≡ stateAfter (stateIn (now (state .entry))) (now (noted .entry)) (now (proposals .entry)) (now (words .entry)) done) ⌝ }

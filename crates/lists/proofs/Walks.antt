@@ -87,7 +87,7 @@ edge-lits-at : (ws : List ℕ) → edgesOf ws ≤ 128 → (g : ℕ) → g < edge
 unfolding edgeLits capped
 edge-lits-at ws r g h =
     let n : capped (edgesOf ws) 128 ≡ edgesOf ws = pick-ind (λ (i : ℕ). i ≡ edgesOf ws) (ltb (edgesOf ws) 128) (edgesOf ws) 128
-        (λ (t : ltb (edgesOf ws) 128 ≡ true). refl) (λ (t : ltb (edgesOf ws) 128 ≡ false). omega (arith, ltb-false (edgesOf ws) 128 t)) in
+    (λ (t : ltb (edgesOf ws) 128 ≡ true). refl) (λ (t : ltb (edgesOf ws) 128 ≡ false). omega (arith, ltb-false (edgesOf ws) 128 t)) in
     filled-in 0 (edgeLitOf ws) (replicate 128 0) (capped (edgesOf ws) 128) g (omega (arith, n)) (omega (arith, n, length-replicate {A = ℕ} 128 0))
 
 -- ---- the walks
