@@ -57,8 +57,8 @@
  * state must have it for itself.
  *
  * STACK that a call needs, as measured on x86-64; nothing is taken from the heap: zuntjev_build about 140 KB,
- * zuntjev_initialize about 312 KB, zuntjev_propagate about 204 KB, zuntjev_undo about 103 KB, a fetch, zuntjev_run
- * and zuntjev_page about 104 KB each. Give a thread that makes calls 512 KB.
+ * zuntjev_initialize about 255 KB, zuntjev_propagate about 146 KB, zuntjev_undo about 44 KB, a fetch, zuntjev_run
+ * and zuntjev_page about 44 KB each. Give a thread that makes calls 512 KB.
  *
  * THE STATE'S BYTES:
  *        0  the plan's words, 15241 of 4 bytes. Bytes 24 to 27 of them hold the mark 1, ZUNTJEV_LAYOUT_VERSION, in a
