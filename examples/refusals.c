@@ -77,6 +77,11 @@ static int32_t page(size_t page_len)
     return zuntjev_page(state, sizeof state, undo_log, sizeof undo_log, cursor, sizeof cursor, buffer, page_len);
 }
 
+static int32_t check(void)
+{
+    return zuntjev_check(state, sizeof state);
+}
+
 /* Two pens of one head and two gates between them, literals 0 and 2. */
 static void two_gates(void)
 {
@@ -123,6 +128,7 @@ int main(void)
     two_gates(); table[1] = 5; show(propagate(0, 0)); /* -7 */
     two_gates(); propagate(0, 0); cursor[0] = 0; show(undo(0)); /* -7 */
     two_gates(); show(last(ZUNTJEV_REASON_LEN_FOR(2, 2) - 1)); /* -7 */
+    two_gates(); state[16928] = 2; show(check()); /* -7 */
     build(0, 0); initialize(); show(initialize()); /* -8 */
     two_gates(); show(propagate(4, 0)); /* -9 */
     two_gates(); propagate(0, 1); show(propagate(1, 0)); /* -10 */

@@ -33,24 +33,32 @@
  *   zuntjev_calc_last    7
  *   zuntjev_run          7, 18
  *   zuntjev_page         7, 19
- * 7 is tested in each call, and only of what that call is lent: the lengths; that the state's plan is one that a
- * build gives; that the log, the cursor and the noted words belong together (the log's literals, noted afresh from
- * the oldest on, give those words); that the whole table has no code over 4. NOT tested are the recorded reasons,
- * whether an initialise was consistent, and the list last left, but for its length: one that is longer than a reason
- * buffer must hold is refused, so that no fetch answers more literals than its buffer has entries. Nor does 7 ask
- * anything of a page buffer: its length is tested by 19, right after 7.
+ *   zuntjev_check        7, of the state alone
+ * 7 is tested in each call, and only of what that call is lent: the lengths; that the state's counts are within their
+ * limits, its options 0 or 1, and that it has the mark of a state that was built; that the log, the cursor and the
+ * noted words belong together (the log's literals, noted afresh from the oldest on, give those words); that the whole
+ * table has no code over 4; in zuntjev_initialize also that no variable of the plan is over 4095.
+ *
+ * NOT TESTED by the calls is the rest of the plan in a state: its weights, sizes, literals, ends and index. Nothing but
+ * zuntjev_build writes them, so a state that is kept whole has them as they were built. zuntjev_check tests them all:
+ * make it when a state comes from elsewhere (a file, another process) before the first call, and as often as you like.
+ * On a state that it would refuse the other calls are safe all the same: they end, read and write within what they are
+ * lent, and leave all bytes where they refuse; but what they answer then is about no plan. Nor tested, by any function,
+ * are the recorded reasons, whether an initialise was consistent, and the list last left, but for its length: one that
+ * is longer than a reason buffer must hold is refused, so that no fetch answers more literals than its buffer has
+ * entries. Nor does 7 ask anything of a page buffer: its length is tested by 19, right after 7.
  *
  * MUST A NOTIFIED LITERAL BE SET IN THE TABLE? No call tests it, and what stands is read from the log, not from the
  * table. But set it, with code 3 or 4, before zuntjev_propagate: a proposal that the table says is false makes a
  * conflict only where some literal of its list is coded 3 or 4, and is refused with 14 elsewhere.
  *
  * THREADS. No function keeps anything, or reads anything, but what it is lent: calls on different buffers may run at
- * the same time, and so may fetches, zuntjev_run and zuntjev_page of one state. A call that changes a state must
- * have it for itself.
+ * the same time, and so may fetches, zuntjev_run, zuntjev_page and zuntjev_check of one state. A call that changes a
+ * state must have it for itself.
  *
  * STACK that a call needs, as measured on x86-64; nothing is taken from the heap: zuntjev_build about 140 KB,
- * zuntjev_initialize about 312 KB, zuntjev_propagate about 204 KB, zuntjev_undo about 103 KB, a fetch, zuntjev_run
- * and zuntjev_page about 104 KB each. Give a thread that makes calls 512 KB.
+ * zuntjev_initialize about 255 KB, zuntjev_propagate about 146 KB, zuntjev_undo about 44 KB, a fetch, zuntjev_run
+ * and zuntjev_page about 44 KB each. Give a thread that makes calls 512 KB.
  *
  * THE STATE'S BYTES:
  *        0  the plan's words, 15241 of 4 bytes. Bytes 24 to 27 of them hold the mark 1, ZUNTJEV_LAYOUT_VERSION, in a
@@ -271,6 +279,13 @@ int32_t zuntjev_run(const uint8_t *state, size_t state_len, const uint8_t *log, 
  */
 int32_t zuntjev_page(const uint8_t *state, size_t state_len, const uint8_t *log, size_t log_len,
                      const uint8_t *cursor, size_t cursor_len, uint8_t *page, size_t page_len);
+
+/*
+ * Whether the state's plan is one that zuntjev_build gives: all of its words and its edges' ends are tested, which no
+ * other call does. Answers 0, or -7 where they are not, or where the state is shorter than its layout. It changes
+ * nothing. 0 after zuntjev_build answered 0 and after any calls since, whether they were refused or not.
+ */
+int32_t zuntjev_check(const uint8_t *state, size_t state_len);
 
 #ifdef __cplusplus
 }

@@ -80,7 +80,7 @@ BESIDE = os.path.join(os.path.dirname(os.path.abspath(__file__)), "..", "..", "t
 
 # What each call is lent: a letter for each argument, b a buffer and its length, n a count, i a number.
 LENT = {"build": "bnbniib", "initialize": "bbbbb", "propagate": "bbbbbii", "undo": "bbbi", "calc_reason": "bbbib",
-        "calc_last": "bbbb", "run": "bbbiib", "page": "bbbb"}
+        "calc_last": "bbbb", "run": "bbbiib", "page": "bbbb", "check": "b"}
 
 
 def load(path=None):
@@ -196,6 +196,10 @@ class Divider:
     def last(self):
         """The list last left: a conflict's, straight after it."""
         return self.numbers(self.buffer, self.call("calc_last", *self.state, *self.log, *self.buffer))
+
+    def check(self):
+        """Tests the state's plan, which no other call does: refused with 7 where a building gives no such plan."""
+        self.call("check", *self.state)
 
     def run(self, start, end):
         """The gates to pass from one pen to another, in order: the run with the fewest undecided gates."""

@@ -445,12 +445,16 @@ impl Hosted {
         answered + &self.damaged()
     }
 
-    // Now and then a call with one thing wrong: nothing to say where it is refused with 7 and leaves all bytes.
+    // Now and then the plan's own test, which must pass, and a call with one thing wrong: nothing to say where it is refused with 7 and
+    // leaves all bytes.
     fn damaged(&mut self) -> String {
         if self.calls % 8 != 3 {
             return String::new();
         }
-        let (lit, which) = (self.some_lit.unwrap_or(0), self.calls / 8 % 10);
+        let (lit, which) = (self.some_lit.unwrap_or(0), self.calls / 8 % 11);
+        if self.host.check() != 0 {
+            return "the plan fails its own test\n".into();
+        }
         let whole = self.host.clone();
         let h = &mut self.host;
         match which {
@@ -466,6 +470,8 @@ impl Hosted {
             8 if self.vertices > 0 => h.state[61220 + 4 * (128 + self.calls % self.vertices)] ^= 1,
             // The plan's number of vertices; a state that ends early.
             9 => h.state[0] = 65,
+            // A vertex's weight, which the plan's own test alone looks at.
+            10 if self.vertices > 0 => h.state[4 * (8 + self.calls % self.vertices) + 3] = 255,
             _ => h.state.truncate(host::STATE_LEN - 1),
         }
         let lent = h.clone();
@@ -474,6 +480,7 @@ impl Hosted {
             0 | 1 | 2 if self.calls / 80 % 2 == 0 => h.initialize(),
             4 | 6 | 8 => h.undo(lit),
             5 => h.reason(lit),
+            10 => h.check(),
             _ => h.propagate(lit, 0),
         };
         let kept = *h == lent;

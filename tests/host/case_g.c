@@ -1,5 +1,5 @@
-/* Document 01's case G over the host's functions, each answer checked, other cases of initialising, crossed bounds, and states that are
- * refused. */
+/* Document 01's case G over the host's functions, each answer checked, other cases of initialising, crossed bounds, states that are
+ * refused, and those that zuntjev_check refuses. */
 #include "zuntjev.h"
 #include <stdio.h>
 #include <stdlib.h>
@@ -295,6 +295,83 @@ static void unbuilt(void)
     }
 }
 
+/* Damage of case G's plan, a word each of the state's first 15241: what stands there, and a number that no build puts there. The last
+ * column says whether the calls refuse it too: they test the counts, the options and the mark. */
+static const struct {
+    const char *what;
+    size_t word;
+    int32_t built, damaged;
+    int counted;
+} damages[] = {
+    {"65 pens", 0, 2, 65, 1},
+    {"129 gates", 1, 1, 129, 1},
+    {"an option of 2", 2, 0, 2, 1},
+    {"the other option", 3, 0, 2, 1},
+    {"2177 variables", 4, 3, 2177, 1},
+    {"2177 slots", 5, 3, 2177, 1},
+    {"another mark", 6, ZUNTJEV_LAYOUT_VERSION, 2, 1},
+    {"a variable less", 4, 3, 2, 0},
+    {"a slot more", 5, 3, 4, 0},
+    {"a heavy pen", 9, 4, 1000001, 0},
+    {"33 sizes", 73, 2, 33, 0},
+    {"a large size", 169, 7, 1000001, 0},
+    {"a size that does not rise", 169, 7, 4, 0},
+    {"another variable's literal", 2216, 2, 0, 0},
+    {"another literal's place", 4392, 2, 3, 0},
+    {"another position", 6568, 1, 0, 0},
+    {"variables that do not rise", 8713, 1, 0, 0},
+    {"a high variable", 8714, 2, 4096, 0},
+    {"a start past the next", 10889, 1, 3, 0},
+    {"an end before the last slot", 10891, 3, 2, 0},
+    {"a slot that is not in use", 13066, 32, 33, 0},
+};
+
+static long word_at(size_t word)
+{
+    const uint8_t *at = state + 4 * word;
+    return at[0] + 256L * at[1] + 65536L * at[2] + 16777216L * at[3];
+}
+
+/* zuntjev_check: 0 of what a build and calls leave, -7 of each damage, of zeros and of too few bytes; it writes nothing. */
+static void checked(void)
+{
+    static const uint8_t codes[3];
+    check("build", build_g(sizeof state), 0);
+    check("a built state", zuntjev_check(state, sizeof state), 0);
+    check("as long as its layout", zuntjev_check(state, ZUNTJEV_STATE_LEN), 0);
+    check("a byte less", zuntjev_check(state, ZUNTJEV_STATE_LEN - 1), -7);
+    check("no bytes", zuntjev_check(state, 0), -7);
+    memcpy(before, state, sizeof state);
+    for (size_t i = 0; i < sizeof damages / sizeof damages[0]; i++) {
+        const char *what = damages[i].what;
+        check(what, word_at(damages[i].word), damages[i].built);
+        put(state + 4 * damages[i].word, damages[i].damaged);
+        put(before + 4 * damages[i].word, damages[i].damaged);
+        check(what, zuntjev_check(state, sizeof state), -7);
+        check(what, (last() == -7) >= damages[i].counted, 1);
+        check(what, untouched(codes), 1);
+        put(state + 4 * damages[i].word, damages[i].built);
+        put(before + 4 * damages[i].word, damages[i].built);
+        check(what, zuntjev_check(state, sizeof state), 0);
+    }
+    for (size_t at = 60964; at < 60966; at++) {
+        before[at] = state[at] = 2;
+        check("an end that is no pen", zuntjev_check(state, sizeof state), -7);
+        check("it is as it was", untouched(codes), 1);
+        before[at] = state[at] = (uint8_t)(at - 60964);
+    }
+    check("mended", zuntjev_check(state, sizeof state), 0);
+    put(state + 4 * 9, 1000001);
+    check("a heavy pen's list last left", last(), 0);
+    put(state + 4 * 9, 4);
+    check("N 5", propagate(5), 2);
+    check("after a notification", zuntjev_check(state, sizeof state), 0);
+    check("U 5", undo(5), 0);
+    check("after an undo", zuntjev_check(state, sizeof state), 0);
+    memset(state, 0, sizeof state);
+    check("zeros", zuntjev_check(state, sizeof state), -7);
+}
+
 /* Building: where it is refused all bytes are as they were, and what follows the layout stays. */
 static void building(void)
 {
@@ -327,6 +404,7 @@ static void building(void)
 int main(void)
 {
     unbuilt();
+    checked();
     building();
     refusals();
     check("I", initialize(), 0);

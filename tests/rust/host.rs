@@ -27,6 +27,7 @@ extern "C" {
         state: *const u8, state_len: usize, log: *const u8, log_len: usize, cursor: *const u8, cursor_len: usize,
         from: i32, to: i32, buffer: *mut u8, buffer_len: usize,
     ) -> i32;
+    fn zuntjev_check(state: *const u8, state_len: usize) -> i32;
     fn zuntjev_page(
         state: *const u8, state_len: usize, log: *const u8, log_len: usize, cursor: *const u8, cursor_len: usize,
         page: *mut u8, page_len: usize,
@@ -135,6 +136,10 @@ impl Host {
         let Host { state: s, log: g, cursor: c, buffer: b, .. } = self;
         let (sp, gp, cp, bp) = (s.as_ptr(), g.as_ptr(), c.as_ptr(), b.as_mut_ptr());
         unsafe { zuntjev_run(sp, s.len(), gp, g.len(), cp, c.len(), from, to, bp, b.len()) }
+    }
+
+    pub fn check(&self) -> i32 {
+        unsafe { zuntjev_check(self.state.as_ptr(), self.state.len()) }
     }
 
     pub fn page(&self, page: &mut [u8]) -> i32 {

@@ -82,9 +82,15 @@ def meanings(tally):
             (lambda: two.undo(0), "undo is refused with 11: the literal to be undone"),
             (lambda: two.reason(0), "calc_reason is refused with 15: no reason"),
             (lambda: two.run(0, 2), "run is refused with 18: every run"),
+            (lambda: two.check(), "not refused"),
             (lambda: zuntjev.read_plan("P\t1\t0\nQ\n"), "line 2 is refused with 17: a malformed line")):
         written = refused_with(call)
         tally.test(said, written.startswith(said), written)
+    two.state[0][32] ^= 255  # the highest byte of pen 0's heads is 35; this one alone makes 254 of 1 head
+    tally.test("another weight within its range", refused_with(two.check) == "not refused")
+    two.state[0][35] ^= 255
+    written = refused_with(two.check)
+    tally.test("a weight out of its range", written.startswith("check is refused with 7: a buffer is too"), written)
 
 
 def shown(tally):

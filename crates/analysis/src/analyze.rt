@@ -13,23 +13,22 @@ use crate::step4::spread_bounds;
 use crate::step5::disconnect_same_size;
 use edge_table::Edges;
 use noting::Noted;
-use plan::Plan;
 use reasons::Verdict;
 use reasons::goes_on;
 use views::View;
 ghost use mathlib.Core.Path.{_≡_};
 ghost use mathlib.Core.List.{[]};
 ghost use Prim.Native.Nat.{_≤_};
-ghost use Rattle.plan.specs.Words.{verticesOf};
+ghost use Rattle.plan.specs.Words.{wordsOf, verticesOf};
 ghost use Rattle.division.specs.Analysis.{step1, step2, step3, step5};
 ghost use Rattle.reasons.specs.Verdicts.{begun, ran, ranOf};
 ghost use Rattle.analysis.specs.Placed.{words, on};
 ghost use Rattle.analysis.specs.First.{step4First, analyzedFirst};
 ghost use Rattle.analysis.specs.Analyze.{Fit, analyzeWords};
 
-fn step1(plan: &Plan, edges: Edges, noted: &Noted, view: &View, proposals: &mut [u64]) -> Verdict
-    requires { ⌜ Fit (now plan) edges (now noted) ⌝ }
-    ensures { λ r. ⌜ ran r (now (proposals .exit)) ≡ ranOf (on step1 (words (now (plan .entry)) edges (now (noted .entry)) (now (view .entry)))) (now (proposals .entry)) ⌝ }
+fn step1(plan: &[u8], edges: Edges, noted: &Noted, view: &View, proposals: &mut [u64]) -> Verdict
+    requires { ⌜ Fit (wordsOf (now plan)) edges (now noted) ⌝ }
+    ensures { λ r. ⌜ ran r (now (proposals .exit)) ≡ ranOf (on step1 (words (wordsOf (now (plan .entry))) edges (now (noted .entry)) (now (view .entry)))) (now (proposals .entry)) ⌝ }
 {
     if plan::allow_extra_walls(plan) {
         return Verdict::Going;
@@ -43,16 +42,16 @@ fn step1(plan: &Plan, edges: Edges, noted: &Noted, view: &View, proposals: &mut 
 }
 
 fn step2(
-    plan: &Plan,
+    plan: &[u8],
     edges: Edges,
     noted: &Noted,
     crossed: usize,
     view: &View,
     proposals: &mut [u64],
 ) -> Verdict
-    requires { ⌜ Fit (now plan) edges (now noted) ⌝ }
+    requires { ⌜ Fit (wordsOf (now plan)) edges (now noted) ⌝ }
     ensures { λ r. ⌜ ran r (now (proposals .exit))
-        ≡ ranOf (on step2 (words (now (plan .entry)) edges (now (noted .entry)) (now (view .entry))) crossed begun)
+        ≡ ranOf (on step2 (words (wordsOf (now (plan .entry))) edges (now (noted .entry)) (now (view .entry))) crossed begun)
         (now (proposals .entry)) ⌝ }
 {
     let found = check_crossed(plan, crossed);
@@ -69,9 +68,9 @@ fn step2(
     found
 }
 
-fn step3(plan: &Plan, noted: &Noted, view: &View, proposals: &mut [u64]) -> Verdict
-    requires { ⌜ verticesOf (now plan) ≤ 64 ⌝ }
-    ensures { λ r. ⌜ ran r (now (proposals .exit)) ≡ ranOf (on step3 (words (now (plan .entry)) [] (now (noted .entry)) (now (view .entry))) begun) (now (proposals .entry)) ⌝ }
+fn step3(plan: &[u8], noted: &Noted, view: &View, proposals: &mut [u64]) -> Verdict
+    requires { ⌜ verticesOf (wordsOf (now plan)) ≤ 64 ⌝ }
+    ensures { λ r. ⌜ ran r (now (proposals .exit)) ≡ ranOf (on step3 (words (wordsOf (now (plan .entry))) [] (now (noted .entry)) (now (view .entry))) begun) (now (proposals .entry)) ⌝ }
 {
     let under = cut_upper_bounds(plan, noted, view, proposals);
     if goes_on(under) {
@@ -80,9 +79,9 @@ fn step3(plan: &Plan, noted: &Noted, view: &View, proposals: &mut [u64]) -> Verd
     under
 }
 
-fn step4(plan: &Plan, edges: Edges, noted: &Noted, view: &View, proposals: &mut [u64]) -> Verdict
-    requires { ⌜ Fit (now plan) edges (now noted) ⌝ }
-    ensures { λ r. ⌜ ran r (now (proposals .exit)) ≡ ranOf (on step4First (words (now (plan .entry)) edges (now (noted .entry)) (now (view .entry))) begun) (now (proposals .entry)) ⌝ }
+fn step4(plan: &[u8], edges: Edges, noted: &Noted, view: &View, proposals: &mut [u64]) -> Verdict
+    requires { ⌜ Fit (wordsOf (now plan)) edges (now noted) ⌝ }
+    ensures { λ r. ⌜ ran r (now (proposals .exit)) ≡ ranOf (on step4First (words (wordsOf (now (plan .entry))) edges (now (noted .entry)) (now (view .entry))) begun) (now (proposals .entry)) ⌝ }
 {
     let apart = check_meets(plan, edges, noted, view);
     if goes_on(apart) {
@@ -93,9 +92,9 @@ fn step4(plan: &Plan, edges: Edges, noted: &Noted, view: &View, proposals: &mut 
     apart
 }
 
-fn step5(plan: &Plan, edges: Edges, noted: &Noted, view: &View, proposals: &mut [u64]) -> Verdict
-    requires { ⌜ Fit (now plan) edges (now noted) ⌝ }
-    ensures { λ r. ⌜ ran r (now (proposals .exit)) ≡ ranOf (on step5 (words (now (plan .entry)) edges (now (noted .entry)) (now (view .entry))) begun) (now (proposals .entry)) ⌝ }
+fn step5(plan: &[u8], edges: Edges, noted: &Noted, view: &View, proposals: &mut [u64]) -> Verdict
+    requires { ⌜ Fit (wordsOf (now plan)) edges (now noted) ⌝ }
+    ensures { λ r. ⌜ ran r (now (proposals .exit)) ≡ ranOf (on step5 (words (wordsOf (now (plan .entry))) edges (now (noted .entry)) (now (view .entry))) begun) (now (proposals .entry)) ⌝ }
 {
     if plan::disallow_adjacent_same_size_regions(plan) {
         return disconnect_same_size(plan, &edges, noted, view, proposals);
@@ -104,16 +103,16 @@ fn step5(plan: &Plan, edges: Edges, noted: &Noted, view: &View, proposals: &mut 
 }
 
 fn steps(
-    plan: &Plan,
+    plan: &[u8],
     edges: Edges,
     noted: &Noted,
     crossed: usize,
     view: &View,
     proposals: &mut [u64],
 ) -> Verdict
-    requires { ⌜ Fit (now plan) edges (now noted) ⌝ }
+    requires { ⌜ Fit (wordsOf (now plan)) edges (now noted) ⌝ }
     ensures { λ r. ⌜ ran r (now (proposals .exit))
-        ≡ ranOf (on analyzedFirst (words (now (plan .entry)) edges (now (noted .entry)) (now (view .entry))) crossed)
+        ≡ ranOf (on analyzedFirst (words (wordsOf (now (plan .entry))) edges (now (noted .entry)) (now (view .entry))) crossed)
         (now (proposals .entry)) ⌝ }
 {
     let first = step1(plan, edges, noted, view, proposals);
@@ -138,14 +137,14 @@ fn steps(
 // Analyzes what is noted: the verdict, and the proposals' words, newest reasons over what was there. Where the words are no
 // plan's, Unfit, and nothing is stored. Which vertex's bounds cross, if any, is what applying a literal told.
 pub fn analyze(
-    plan: &Plan,
+    plan: &[u8],
     edges: Edges,
     noted: &Noted,
     crossed: usize,
     proposals: &mut [u64],
 ) -> Verdict
     ensures { λ r. ⌜ ran r (now (proposals .exit))
-        ≡ analyzeWords (now (plan .entry)) edges (now (noted .entry)) crossed (now (proposals .entry)) ⌝ }
+        ≡ analyzeWords (wordsOf (now (plan .entry))) edges (now (noted .entry)) crossed (now (proposals .entry)) ⌝ }
 {
     let mut view = [0u32; 512];
     if views::compute::compute_view(plan, edges, noted, &mut view) {

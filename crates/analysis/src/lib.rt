@@ -11,7 +11,6 @@ use base::less_one;
 use edge_table::Edges;
 use graph::bounds::wide;
 use noting::Noted;
-use plan::Plan;
 use views::View;
 ghost use mathlib.Core.Path.{_≡_};
 ghost use mathlib.Core.List.{[]};
@@ -21,20 +20,20 @@ ghost use lib.Dec.{eqb, ltb};
 ghost use Rattle.base.specs.Iter.{pick};
 ghost use lib.ListN.{getD};
 ghost use Rattle.division.specs.Analysis.{place};
-ghost use Rattle.plan.specs.Words.{domainLenOf, domainOf, placeOf, uniqueLitAt, variablesOf};
+ghost use Rattle.plan.specs.Words.{wordsOf, domainLenOf, domainOf, placeOf, uniqueLitAt, variablesOf};
 ghost use Rattle.views.specs.Words.{decidedRegionOf, potentialRegionOf, decidedWeightOf, potentialWeightOf};
 ghost use Rattle.analysis.specs.Placed.{placeOfLit, placeFor, edgePlaceOf, domPlaceOf};
 
 // The place of a literal among the distinct literals, found from its variable's.
-fn place_of_lit(plan: &Plan, lit: u32) -> u32
-    ensures { λ r. ⌜ r ≡ placeOfLit (now (plan .entry)) lit ⌝ }
+fn place_of_lit(plan: &[u8], lit: u32) -> u32
+    ensures { λ r. ⌜ r ≡ placeOfLit (wordsOf (now (plan .entry))) lit ⌝ }
 {
     let k = noting::note::place_in(plan, sat::variable(lit)) % 2147483648;
     2 * (k as u32) + sat::sign(lit)
 }
 
-fn is_place(plan: &Plan, p: u32, lit: u32) -> bool
-    ensures { λ r. ⌜ r ≡ (ltb (p / 2) (variablesOf (now (plan .entry))) && eqb (uniqueLitAt (now (plan .entry)) p) lit) ⌝ }
+fn is_place(plan: &[u8], p: u32, lit: u32) -> bool
+    ensures { λ r. ⌜ r ≡ (ltb (p / 2) (variablesOf (wordsOf (now (plan .entry)))) && eqb (uniqueLitAt (wordsOf (now (plan .entry))) p) lit) ⌝ }
 {
     if p / 2 < plan::num_variables(plan) {
         return plan::unique_lit(plan, p as usize) == lit as u64;
@@ -43,8 +42,8 @@ fn is_place(plan: &Plan, p: u32, lit: u32) -> bool
 }
 
 // The same, where p may be it already: what the plan's index says is tested before it is used.
-fn place_for(plan: &Plan, p: u32, lit: u32) -> u32
-    ensures { λ r. ⌜ r ≡ placeFor (now (plan .entry)) p lit ⌝ }
+fn place_for(plan: &[u8], p: u32, lit: u32) -> u32
+    ensures { λ r. ⌜ r ≡ placeFor (wordsOf (now (plan .entry))) p lit ⌝ }
 {
     if is_place(plan, p, lit) {
         return p;
@@ -53,8 +52,8 @@ fn place_for(plan: &Plan, p: u32, lit: u32) -> u32
 }
 
 // The slots' places in the plan's index.
-fn edge_index(plan: &Plan, g: usize) -> u32
-    ensures { λ r. ⌜ r ≡ pick (ltb g 128) (placeOf (now (plan .entry)) (2048 + g)) 0 ⌝ }
+fn edge_index(plan: &[u8], g: usize) -> u32
+    ensures { λ r. ⌜ r ≡ pick (ltb g 128) (placeOf (wordsOf (now (plan .entry))) (2048 + g)) 0 ⌝ }
 {
     if g < 128 {
         return plan::place(plan, 2048 + g);
@@ -62,8 +61,8 @@ fn edge_index(plan: &Plan, g: usize) -> u32
     0
 }
 
-fn dom_index(plan: &Plan, v: usize, j: usize) -> u32
-    ensures { λ r. ⌜ r ≡ pick (ltb v 64 && ltb j 32) (placeOf (now (plan .entry)) (32 * v + j)) 0 ⌝ }
+fn dom_index(plan: &[u8], v: usize, j: usize) -> u32
+    ensures { λ r. ⌜ r ≡ pick (ltb v 64 && ltb j 32) (placeOf (wordsOf (now (plan .entry))) (32 * v + j)) 0 ⌝ }
 {
     if v < 64 {
         if j < 32 {
@@ -74,15 +73,15 @@ fn dom_index(plan: &Plan, v: usize, j: usize) -> u32
 }
 
 // The place of edge g's literal.
-pub(crate) fn edge_place(plan: &Plan, g: usize) -> u32
-    ensures { λ r. ⌜ r ≡ edgePlaceOf (now (plan .entry)) g ⌝ }
+pub(crate) fn edge_place(plan: &[u8], g: usize) -> u32
+    ensures { λ r. ⌜ r ≡ edgePlaceOf (wordsOf (now (plan .entry))) g ⌝ }
 {
     place_for(plan, edge_index(plan, g), plan::edge_lit(plan, g))
 }
 
 // The place of size literal j of vertex v.
-fn dom_place(plan: &Plan, v: usize, j: usize) -> u32
-    ensures { λ r. ⌜ r ≡ domPlaceOf (now (plan .entry)) v j ⌝ }
+fn dom_place(plan: &[u8], v: usize, j: usize) -> u32
+    ensures { λ r. ⌜ r ≡ domPlaceOf (wordsOf (now (plan .entry))) v j ⌝ }
 {
     place_for(plan, dom_index(plan, v, j), plan::dom_lit(plan, v, j))
 }
@@ -124,15 +123,15 @@ pub(crate) fn right_region(edges: &Edges, view: &View, g: usize) -> usize
     views::decided_region(view, right(edges, g)) as usize
 }
 
-fn size_below(plan: &Plan, v: usize, i: usize, x: u64) -> bool
-    ensures { λ r. ⌜ r ≡ ltb (domainOf (now (plan .entry)) v i) x ⌝ }
+fn size_below(plan: &[u8], v: usize, i: usize, x: u64) -> bool
+    ensures { λ r. ⌜ r ≡ ltb (domainOf (wordsOf (now (plan .entry))) v i) x ⌝ }
 {
     (plan::domain(plan, v, i) as u64) < x
 }
 
 // How many of the first n sizes of v, which rise, are below x: the Rust's `partition_point`.
-fn sizes_below(plan: &Plan, v: usize, x: u64, n: usize) -> usize
-    ensures { λ r. ⌜ r ≡ place (domainOf (now (plan .entry)) v) x n ⌝ }
+fn sizes_below(plan: &[u8], v: usize, x: u64, n: usize) -> usize
+    ensures { λ r. ⌜ r ≡ place (domainOf (wordsOf (now (plan .entry))) v) x n ⌝ }
 {
     let mut k = n;
     while 0 < k {
@@ -145,8 +144,8 @@ fn sizes_below(plan: &Plan, v: usize, x: u64, n: usize) -> usize
 }
 
 // The place of the literal: the size of v is at least x.
-pub(crate) fn lit_at_least(plan: &Plan, v: usize, x: u64) -> u32
-    ensures { λ r. ⌜ r ≡ domPlaceOf (now (plan .entry)) v (pred (place (domainOf (now (plan .entry)) v) x (domainLenOf (now (plan .entry)) v))) ⌝ }
+pub(crate) fn lit_at_least(plan: &[u8], v: usize, x: u64) -> u32
+    ensures { λ r. ⌜ r ≡ domPlaceOf (wordsOf (now (plan .entry))) v (pred (place (domainOf (wordsOf (now (plan .entry))) v) x (domainLenOf (wordsOf (now (plan .entry))) v))) ⌝ }
 {
     dom_place(
         plan,

@@ -6,7 +6,6 @@ use crate::left_region;
 use crate::right_region;
 use edge_table::Edges;
 use noting::Noted;
-use plan::Plan;
 use reasons::Verdict;
 use reasons::goes_on;
 use reasons::packed;
@@ -20,7 +19,7 @@ ghost use Prim.Native.Nat.{_<_, _≤_};
 ghost use lib.Dec.{eqb};
 ghost use lib.ListN.{getD, replicate};
 ghost use Rattle.base.specs.Iter.{iter};
-ghost use Rattle.plan.specs.Words.{edgesOf};
+ghost use Rattle.plan.specs.Words.{wordsOf, edgesOf};
 ghost use Rattle.division.specs.Regions.{lowest};
 ghost use Rattle.division.specs.Analysis.{inside, matches, loose, matched, guarded};
 ghost use Rattle.reasons.specs.declared.Verdict.the-variants.{Going};
@@ -31,7 +30,7 @@ ghost use Rattle.analysis.specs.First.{disconnectedEnd, pairPlace, Walle
 
 // Edge g inside a region.
 fn inside(
-    plan: &Plan,
+    plan: &[u8],
     edges: &Edges,
     noted: &Noted,
     view: &View,
@@ -39,7 +38,7 @@ fn inside(
     proposals: &mut [u64],
 ) -> Verdict
     requires { ⌜ g < 128 ⌝ }
-    ensures { λ r. ⌜ ran r (now (proposals .exit)) ≡ ranOf (on inside (words (now (plan .entry)) (now (edges .entry)) (now (noted .entry)) (now (view .entry))) g begun) (now (proposals .entry)) ⌝ }
+    ensures { λ r. ⌜ ran r (now (proposals .exit)) ≡ ranOf (on inside (words (wordsOf (now (plan .entry))) (now (edges .entry)) (now (noted .entry)) (now (view .entry))) g begun) (now (proposals .entry)) ⌝ }
 {
     if left_region(edges, view, g) != right_region(edges, view, g) {
         return Verdict::Going;
@@ -61,14 +60,14 @@ fn inside(
 
 // Every edge in order, up to a conflict.
 pub(crate) fn connect_inside(
-    plan: &Plan,
+    plan: &[u8],
     edges: &Edges,
     noted: &Noted,
     view: &View,
     proposals: &mut [u64],
 ) -> Verdict
-    requires { ⌜ edgesOf (now plan) ≤ 128 ⌝ }
-    ensures { λ r. ⌜ ran r (now (proposals .exit)) ≡ ranOf (iter (guarded (on inside (words (now (plan .entry)) (now (edges .entry)) (now (noted .entry)) (now (view .entry))))) (edgesOf (now (plan .entry))) begun) (now (proposals .entry)) ⌝ }
+    requires { ⌜ edgesOf (wordsOf (now plan)) ≤ 128 ⌝ }
+    ensures { λ r. ⌜ ran r (now (proposals .exit)) ≡ ranOf (iter (guarded (on inside (words (wordsOf (now (plan .entry))) (now (edges .entry)) (now (noted .entry)) (now (view .entry))))) (edgesOf (wordsOf (now (plan .entry)))) begun) (now (proposals .entry)) ⌝ }
 {
     let n = plan::num_edges(plan) as usize;
     for g in 0..n {
@@ -244,7 +243,7 @@ fn marked_match(
 
 // Edge g between two regions that a disconnected edge, one of the first `end`, also joins.
 fn matched(
-    plan: &Plan,
+    plan: &[u8],
     edges: &Edges,
     noted: &Noted,
     view: &View,
@@ -253,8 +252,8 @@ fn matched(
     end: usize,
     proposals: &mut [u64],
 )
-    requires { ⌜ (g < 128) × (edgesOf (now plan) ≤ 128) × (end ≡ disconnectedEnd (now noted) (edgesOf (now plan))) × Walled (words [] (now edges) (now noted) (now view)) end (now walls) ⌝ }
-    ensures { λ _. ⌜ ran Going (now (proposals .exit)) ≡ ranOf (on matched (words (now (plan .entry)) (now (edges .entry)) (now (noted .entry)) (now (view .entry))) g begun) (now (proposals .entry)) ⌝ }
+    requires { ⌜ (g < 128) × (edgesOf (wordsOf (now plan)) ≤ 128) × (end ≡ disconnectedEnd (now noted) (edgesOf (wordsOf (now plan)))) × Walled (words [] (now edges) (now noted) (now view)) end (now walls) ⌝ }
+    ensures { λ _. ⌜ ran Going (now (proposals .exit)) ≡ ranOf (on matched (words (wordsOf (now (plan .entry))) (now (edges .entry)) (now (noted .entry)) (now (view .entry))) g begun) (now (proposals .entry)) ⌝ }
 {
     if loose(edges, noted, view, g) {
         let h = marked_match(edges, noted, view, walls, g, end);
@@ -272,14 +271,14 @@ fn matched(
 
 // Every edge in order. Where none is disconnected or none is undecided, none matches, and nothing is marked.
 pub(crate) fn disconnect_matched(
-    plan: &Plan,
+    plan: &[u8],
     edges: &Edges,
     noted: &Noted,
     view: &View,
     proposals: &mut [u64],
 )
-    requires { ⌜ edgesOf (now plan) ≤ 128 ⌝ }
-    ensures { λ _. ⌜ ran Going (now (proposals .exit)) ≡ ranOf (iter (guarded (on matched (words (now (plan .entry)) (now (edges .entry)) (now (noted .entry)) (now (view .entry))))) (edgesOf (now (plan .entry))) begun) (now (proposals .entry)) ⌝ }
+    requires { ⌜ edgesOf (wordsOf (now plan)) ≤ 128 ⌝ }
+    ensures { λ _. ⌜ ran Going (now (proposals .exit)) ≡ ranOf (iter (guarded (on matched (words (wordsOf (now (plan .entry))) (now (edges .entry)) (now (noted .entry)) (now (view .entry))))) (edgesOf (wordsOf (now (plan .entry)))) begun) (now (proposals .entry)) ⌝ }
 {
     let n = plan::num_edges(plan) as usize;
     let end = disconnected_end(noted, n);

@@ -10,7 +10,6 @@ use edge_table::Edges;
 use noting::Noted;
 use noting::lower_bound;
 use noting::upper_bound;
-use plan::Plan;
 use reasons::Verdict;
 use reasons::goes_on;
 use reasons::packed;
@@ -24,7 +23,7 @@ ghost use mathlib.Core.List.{List, []};
 ghost use Prim.Native.Nat.{ℕ, _+_, _<_, _≤_, min};
 ghost use lib.Dec.{eqb, ltb};
 ghost use Rattle.base.specs.Iter.{iter, pick};
-ghost use Rattle.plan.specs.Words.{verticesOf, edgesOf};
+ghost use Rattle.plan.specs.Words.{wordsOf, verticesOf, edgesOf};
 ghost use Rattle.views.specs.Words.{decidedWeightOf, upperBoundOf, upperBoundAt};
 ghost use Rattle.division.specs.Analysis.{uncrossed, overfull, raises, merges, guarded};
 ghost use Rattle.reasons.specs.declared.Verdict.the-variants.{Going};
@@ -32,8 +31,8 @@ ghost use Rattle.reasons.specs.Verdicts.{begun, ran, ranOf};
 ghost use Rattle.analysis.specs.Placed.{words, on, Finds};
 
 // Crossed bounds, where applying a literal told a vertex of them.
-pub(crate) fn check_crossed(plan: &Plan, crossed: usize) -> Verdict
-    ensures { λ r. ⌜ Finds r (on uncrossed (words (now (plan .entry)) [] [] []) crossed begun) ⌝ }
+pub(crate) fn check_crossed(plan: &[u8], crossed: usize) -> Verdict
+    ensures { λ r. ⌜ Finds r (on uncrossed (words (wordsOf (now (plan .entry))) [] [] []) crossed begun) ⌝ }
 {
     if crossed < plan::num_vertices(plan) as usize {
         return Verdict::Crossing {
@@ -68,8 +67,8 @@ pub(crate) fn check_overfull(noted: &Noted, view: &View, n: usize) -> Verdict
 }
 
 // Vertex v: its lower bound is raised where its region weighs more.
-fn raises(plan: &Plan, noted: &Noted, view: &View, v: usize, proposals: &mut [u64])
-    ensures { λ _. ⌜ ran Going (now (proposals .exit)) ≡ ranOf (on raises (words (now (plan .entry)) [] (now (noted .entry)) (now (view .entry))) v begun) (now (proposals .entry)) ⌝ }
+fn raises(plan: &[u8], noted: &Noted, view: &View, v: usize, proposals: &mut [u64])
+    ensures { λ _. ⌜ ran Going (now (proposals .exit)) ≡ ranOf (on raises (words (wordsOf (now (plan .entry))) [] (now (noted .entry)) (now (view .entry))) v begun) (now (proposals .entry)) ⌝ }
 {
     if 0 < plan::domain_len(plan, v) {
         let weight = decided_weight(view, v);
@@ -81,8 +80,8 @@ fn raises(plan: &Plan, noted: &Noted, view: &View, v: usize, proposals: &mut [u6
 }
 
 // Every vertex in order.
-pub(crate) fn raise_lower_bounds(plan: &Plan, noted: &Noted, view: &View, proposals: &mut [u64])
-    ensures { λ _. ⌜ ran Going (now (proposals .exit)) ≡ ranOf (iter (guarded (on raises (words (now (plan .entry)) [] (now (noted .entry)) (now (view .entry))))) (verticesOf (now (plan .entry))) begun) (now (proposals .entry)) ⌝ }
+pub(crate) fn raise_lower_bounds(plan: &[u8], noted: &Noted, view: &View, proposals: &mut [u64])
+    ensures { λ _. ⌜ ran Going (now (proposals .exit)) ≡ ranOf (iter (guarded (on raises (words (wordsOf (now (plan .entry))) [] (now (noted .entry)) (now (view .entry))))) (verticesOf (wordsOf (now (plan .entry)))) begun) (now (proposals .entry)) ⌝ }
 {
     let n = plan::num_vertices(plan) as usize;
     for v in 0..n {
@@ -119,9 +118,9 @@ fn tighter_upper_bound(view: &View, u: usize, v: usize) -> u32
 }
 
 // Edge g between two regions that would be too large.
-fn merges(plan: &Plan, edges: &Edges, noted: &Noted, view: &View, g: usize, proposals: &mut [u64])
+fn merges(plan: &[u8], edges: &Edges, noted: &Noted, view: &View, g: usize, proposals: &mut [u64])
     requires { ⌜ g < 128 ⌝ }
-    ensures { λ _. ⌜ ran Going (now (proposals .exit)) ≡ ranOf (on merges (words (now (plan .entry)) (now (edges .entry)) (now (noted .entry)) (now (view .entry))) g begun) (now (proposals .entry)) ⌝ }
+    ensures { λ _. ⌜ ran Going (now (proposals .exit)) ≡ ranOf (on merges (words (wordsOf (now (plan .entry))) (now (edges .entry)) (now (noted .entry)) (now (view .entry))) g begun) (now (proposals .entry)) ⌝ }
 {
     if loose(edges, noted, view, g) {
         let u = left_region(edges, view, g);
@@ -136,14 +135,14 @@ fn merges(plan: &Plan, edges: &Edges, noted: &Noted, view: &View, g: usize, prop
 
 // Every edge in order.
 pub(crate) fn disconnect_too_large(
-    plan: &Plan,
+    plan: &[u8],
     edges: &Edges,
     noted: &Noted,
     view: &View,
     proposals: &mut [u64],
 )
-    requires { ⌜ edgesOf (now plan) ≤ 128 ⌝ }
-    ensures { λ _. ⌜ ran Going (now (proposals .exit)) ≡ ranOf (iter (guarded (on merges (words (now (plan .entry)) (now (edges .entry)) (now (noted .entry)) (now (view .entry))))) (edgesOf (now (plan .entry))) begun) (now (proposals .entry)) ⌝ }
+    requires { ⌜ edgesOf (wordsOf (now plan)) ≤ 128 ⌝ }
+    ensures { λ _. ⌜ ran Going (now (proposals .exit)) ≡ ranOf (iter (guarded (on merges (words (wordsOf (now (plan .entry))) (now (edges .entry)) (now (noted .entry)) (now (view .entry))))) (edgesOf (wordsOf (now (plan .entry)))) begun) (now (proposals .entry)) ⌝ }
 {
     let n = plan::num_edges(plan) as usize;
     for g in 0..n {

@@ -6,7 +6,6 @@ use crate::potential_weight;
 use noting::Noted;
 use noting::lower_bound;
 use noting::upper_bound;
-use plan::Plan;
 use reasons::Verdict;
 use reasons::goes_on;
 use reasons::packed;
@@ -20,15 +19,15 @@ ghost use mathlib.Core.List.{List, []};
 ghost use Prim.Native.Nat.{ℕ, _+_, _<_, _≤_, min};
 ghost use lib.Dec.{eqb, ltb};
 ghost use Rattle.base.specs.Iter.{iter, pick};
-ghost use Rattle.plan.specs.Words.{verticesOf};
+ghost use Rattle.plan.specs.Words.{wordsOf, verticesOf};
 ghost use Rattle.division.specs.Analysis.{cuts, crowds, guarded};
 ghost use Rattle.reasons.specs.declared.Verdict.the-variants.{Going};
 ghost use Rattle.reasons.specs.Verdicts.{begun, ran, ranOf};
 ghost use Rattle.analysis.specs.Placed.{words, on, Finds};
 
 // Vertex v: no more than what can be joined to it.
-fn cuts(plan: &Plan, noted: &Noted, view: &View, v: usize, proposals: &mut [u64]) -> Verdict
-    ensures { λ r. ⌜ ran r (now (proposals .exit)) ≡ ranOf (on cuts (words (now (plan .entry)) [] (now (noted .entry)) (now (view .entry))) v begun) (now (proposals .entry)) ⌝ }
+fn cuts(plan: &[u8], noted: &Noted, view: &View, v: usize, proposals: &mut [u64]) -> Verdict
+    ensures { λ r. ⌜ ran r (now (proposals .exit)) ≡ ranOf (on cuts (words (wordsOf (now (plan .entry))) [] (now (noted .entry)) (now (view .entry))) v begun) (now (proposals .entry)) ⌝ }
 {
     if plan::domain_len(plan, v) == 0 {
         return Verdict::Going;
@@ -46,12 +45,12 @@ fn cuts(plan: &Plan, noted: &Noted, view: &View, v: usize, proposals: &mut [u64]
 
 // Every vertex in order, up to a conflict.
 pub(crate) fn cut_upper_bounds(
-    plan: &Plan,
+    plan: &[u8],
     noted: &Noted,
     view: &View,
     proposals: &mut [u64],
 ) -> Verdict
-    ensures { λ r. ⌜ ran r (now (proposals .exit)) ≡ ranOf (iter (guarded (on cuts (words (now (plan .entry)) [] (now (noted .entry)) (now (view .entry))))) (verticesOf (now (plan .entry))) begun) (now (proposals .entry)) ⌝ }
+    ensures { λ r. ⌜ ran r (now (proposals .exit)) ≡ ranOf (iter (guarded (on cuts (words (wordsOf (now (plan .entry))) [] (now (noted .entry)) (now (view .entry))))) (verticesOf (wordsOf (now (plan .entry)))) begun) (now (proposals .entry)) ⌝ }
 {
     let n = plan::num_vertices(plan) as usize;
     for v in 0..n {
@@ -65,9 +64,9 @@ pub(crate) fn cut_upper_bounds(
 }
 
 // The potential region with label r: its separate ranges need more than it weighs.
-fn crowds(plan: &Plan, noted: &Noted, view: &View, r: usize) -> Verdict
-    requires { ⌜ verticesOf (now plan) ≤ 64 ⌝ }
-    ensures { λ x. ⌜ Finds x (on crowds (words (now (plan .entry)) [] (now (noted .entry)) (now (view .entry))) r begun) ⌝ }
+fn crowds(plan: &[u8], noted: &Noted, view: &View, r: usize) -> Verdict
+    requires { ⌜ verticesOf (wordsOf (now plan)) ≤ 64 ⌝ }
+    ensures { λ x. ⌜ Finds x (on crowds (words (wordsOf (now (plan .entry))) [] (now (noted .entry)) (now (view .entry))) r begun) ⌝ }
 {
     if views::potential_region(view, r) as usize == r {
         let mut chosen = [0u8; 64];
@@ -81,9 +80,9 @@ fn crowds(plan: &Plan, noted: &Noted, view: &View, r: usize) -> Verdict
 }
 
 // Every potential region in order, up to a conflict.
-pub(crate) fn check_crowded(plan: &Plan, noted: &Noted, view: &View) -> Verdict
-    requires { ⌜ verticesOf (now plan) ≤ 64 ⌝ }
-    ensures { λ r. ⌜ Finds r (iter (guarded (on crowds (words (now (plan .entry)) [] (now (noted .entry)) (now (view .entry))))) (verticesOf (now (plan .entry))) begun) ⌝ }
+pub(crate) fn check_crowded(plan: &[u8], noted: &Noted, view: &View) -> Verdict
+    requires { ⌜ verticesOf (wordsOf (now plan)) ≤ 64 ⌝ }
+    ensures { λ r. ⌜ Finds r (iter (guarded (on crowds (words (wordsOf (now (plan .entry))) [] (now (noted .entry)) (now (view .entry))))) (verticesOf (wordsOf (now (plan .entry)))) begun) ⌝ }
 {
     let n = plan::num_vertices(plan) as usize;
     for r in 0..n {

@@ -8,7 +8,6 @@ use edge_table::Edges;
 use noting::Noted;
 use noting::lower_bound;
 use noting::upper_bound;
-use plan::Plan;
 use reasons::Verdict;
 use reasons::goes_on;
 use reasons::packed;
@@ -26,7 +25,7 @@ ghost use mathlib.Core.List.{List, []};
 ghost use Prim.Native.Nat.{ℕ, _+_, _<_, _≤_, min};
 ghost use lib.Dec.{eqb, ltb};
 ghost use Rattle.base.specs.Iter.{iter, pick};
-ghost use Rattle.plan.specs.Words.{verticesOf, edgesOf};
+ghost use Rattle.plan.specs.Words.{wordsOf, verticesOf, edgesOf};
 ghost use Rattle.views.specs.Words.{upperBoundOf, upperBoundAt, lowerBoundOf, lowerBoundAt};
 ghost use Rattle.graph.specs.Bounds.{walkable};
 ghost use mathlib.Core.Bool.{true};
@@ -39,9 +38,9 @@ ghost use Rattle.analysis.specs.First.{meetsFirst};
 ghost use Rattle.analysis.specs.Placed.{edgePlaceOf};
 
 // The region with label r, whose bounds do not meet: the two vertices that a conflict names.
-fn meets(plan: &Plan, edges: Edges, noted: &Noted, view: &View, r: usize) -> Verdict
-    requires { ⌜ (r < verticesOf (now plan)) × (walkable edges (now noted) (edgesOf (now plan)) (verticesOf (now plan)) ≡ true) ⌝ }
-    ensures { λ x. ⌜ Finds x (on meets (words (now (plan .entry)) edges (now (noted .entry)) (now (view .entry))) r begun) ⌝ }
+fn meets(plan: &[u8], edges: Edges, noted: &Noted, view: &View, r: usize) -> Verdict
+    requires { ⌜ (r < verticesOf (wordsOf (now plan))) × (walkable edges (now noted) (edgesOf (wordsOf (now plan))) (verticesOf (wordsOf (now plan))) ≡ true) ⌝ }
+    ensures { λ x. ⌜ Finds x (on meets (words (wordsOf (now (plan .entry))) edges (now (noted .entry)) (now (view .entry))) r begun) ⌝ }
 {
     if decided_region(view, r) as usize == r {
         let found = extreme_vertices(plan, edges, noted, r);
@@ -56,9 +55,9 @@ fn meets(plan: &Plan, edges: Edges, noted: &Noted, view: &View, r: usize) -> Ver
 }
 
 // The same of any region: its own two bounds are compared first.
-fn meets_first(plan: &Plan, edges: Edges, noted: &Noted, view: &View, r: usize) -> Verdict
-    requires { ⌜ (r < verticesOf (now plan)) × (walkable edges (now noted) (edgesOf (now plan)) (verticesOf (now plan)) ≡ true) ⌝ }
-    ensures { λ x. ⌜ Finds x (on meetsFirst (words (now (plan .entry)) edges (now (noted .entry)) (now (view .entry))) r begun) ⌝ }
+fn meets_first(plan: &[u8], edges: Edges, noted: &Noted, view: &View, r: usize) -> Verdict
+    requires { ⌜ (r < verticesOf (wordsOf (now plan))) × (walkable edges (now noted) (edgesOf (wordsOf (now plan))) (verticesOf (wordsOf (now plan))) ≡ true) ⌝ }
+    ensures { λ x. ⌜ Finds x (on meetsFirst (words (wordsOf (now (plan .entry))) edges (now (noted .entry)) (now (view .entry))) r begun) ⌝ }
 {
     if region_upper_bound(view, r) < region_lower_bound(view, r) {
         return meets(plan, edges, noted, view, r);
@@ -67,9 +66,9 @@ fn meets_first(plan: &Plan, edges: Edges, noted: &Noted, view: &View, r: usize) 
 }
 
 // Every region in order, up to a conflict.
-pub(crate) fn check_meets(plan: &Plan, edges: Edges, noted: &Noted, view: &View) -> Verdict
-    requires { ⌜ walkable edges (now noted) (edgesOf (now plan)) (verticesOf (now plan)) ≡ true ⌝ }
-    ensures { λ r. ⌜ Finds r (iter (guarded (on meetsFirst (words (now (plan .entry)) edges (now (noted .entry)) (now (view .entry))))) (verticesOf (now (plan .entry))) begun) ⌝ }
+pub(crate) fn check_meets(plan: &[u8], edges: Edges, noted: &Noted, view: &View) -> Verdict
+    requires { ⌜ walkable edges (now noted) (edgesOf (wordsOf (now plan))) (verticesOf (wordsOf (now plan))) ≡ true ⌝ }
+    ensures { λ r. ⌜ Finds r (iter (guarded (on meetsFirst (words (wordsOf (now (plan .entry))) edges (now (noted .entry)) (now (view .entry))))) (verticesOf (wordsOf (now (plan .entry)))) begun) ⌝ }
 {
     let n = plan::num_vertices(plan) as usize;
     for r in 0..n {
@@ -83,8 +82,8 @@ pub(crate) fn check_meets(plan: &Plan, edges: Edges, noted: &Noted, view: &View)
 }
 
 // Edge g, where the greatest lower bound of region `low` is over the least upper bound of region `up`.
-fn part(plan: &Plan, view: &View, g: usize, low: usize, up: usize, flip: u32, proposals: &mut [u64])
-    ensures { λ _. ⌜ now (proposals .exit) ≡ pick (ltb (upperBoundOf (now (view .entry)) up) (lowerBoundOf (now (view .entry)) low)) (put (edgePlaceOf (now (plan .entry)) g) (packed 6 g (upperBoundAt (now (view .entry)) up) (lowerBoundAt (now (view .entry)) low) flip) 0 (now (proposals .entry))) (now (proposals .entry)) ⌝ }
+fn part(plan: &[u8], view: &View, g: usize, low: usize, up: usize, flip: u32, proposals: &mut [u64])
+    ensures { λ _. ⌜ now (proposals .exit) ≡ pick (ltb (upperBoundOf (now (view .entry)) up) (lowerBoundOf (now (view .entry)) low)) (put (edgePlaceOf (wordsOf (now (plan .entry))) g) (packed 6 g (upperBoundAt (now (view .entry)) up) (lowerBoundAt (now (view .entry)) low) flip) 0 (now (proposals .entry))) (now (proposals .entry)) ⌝ }
 {
     if region_upper_bound(view, up) < region_lower_bound(view, low) {
         let a = region_upper_bound_idx(view, up) as usize;
@@ -94,9 +93,9 @@ fn part(plan: &Plan, view: &View, g: usize, low: usize, up: usize, flip: u32, pr
 }
 
 // Edge g between two regions whose bounds would not meet, either way.
-fn parts(plan: &Plan, edges: &Edges, noted: &Noted, view: &View, g: usize, proposals: &mut [u64])
+fn parts(plan: &[u8], edges: &Edges, noted: &Noted, view: &View, g: usize, proposals: &mut [u64])
     requires { ⌜ g < 128 ⌝ }
-    ensures { λ _. ⌜ ran Going (now (proposals .exit)) ≡ ranOf (on parts (words (now (plan .entry)) (now (edges .entry)) (now (noted .entry)) (now (view .entry))) g begun) (now (proposals .entry)) ⌝ }
+    ensures { λ _. ⌜ ran Going (now (proposals .exit)) ≡ ranOf (on parts (words (wordsOf (now (plan .entry))) (now (edges .entry)) (now (noted .entry)) (now (view .entry))) g begun) (now (proposals .entry)) ⌝ }
 {
     if loose(edges, noted, view, g) {
         let u = left_region(edges, view, g);
@@ -108,14 +107,14 @@ fn parts(plan: &Plan, edges: &Edges, noted: &Noted, view: &View, g: usize, propo
 
 // Every edge in order.
 pub(crate) fn disconnect_parted(
-    plan: &Plan,
+    plan: &[u8],
     edges: &Edges,
     noted: &Noted,
     view: &View,
     proposals: &mut [u64],
 )
-    requires { ⌜ edgesOf (now plan) ≤ 128 ⌝ }
-    ensures { λ _. ⌜ ran Going (now (proposals .exit)) ≡ ranOf (iter (guarded (on parts (words (now (plan .entry)) (now (edges .entry)) (now (noted .entry)) (now (view .entry))))) (edgesOf (now (plan .entry))) begun) (now (proposals .entry)) ⌝ }
+    requires { ⌜ edgesOf (wordsOf (now plan)) ≤ 128 ⌝ }
+    ensures { λ _. ⌜ ran Going (now (proposals .exit)) ≡ ranOf (iter (guarded (on parts (words (wordsOf (now (plan .entry))) (now (edges .entry)) (now (noted .entry)) (now (view .entry))))) (edgesOf (wordsOf (now (plan .entry)))) begun) (now (proposals .entry)) ⌝ }
 {
     let n = plan::num_edges(plan) as usize;
     for g in 0..n {
@@ -124,8 +123,8 @@ pub(crate) fn disconnect_parted(
 }
 
 // Vertex v: a lower bound of its region that is over its own.
-fn spreads_low(plan: &Plan, noted: &Noted, view: &View, v: usize, proposals: &mut [u64])
-    ensures { λ _. ⌜ ran Going (now (proposals .exit)) ≡ ranOf (on spreadsLow (words (now (plan .entry)) [] (now (noted .entry)) (now (view .entry))) v begun) (now (proposals .entry)) ⌝ }
+fn spreads_low(plan: &[u8], noted: &Noted, view: &View, v: usize, proposals: &mut [u64])
+    ensures { λ _. ⌜ ran Going (now (proposals .exit)) ≡ ranOf (on spreadsLow (words (wordsOf (now (plan .entry))) [] (now (noted .entry)) (now (view .entry))) v begun) (now (proposals .entry)) ⌝ }
 {
     if 0 < plan::domain_len(plan, v) {
         let region = decided_region(view, v) as usize;
@@ -144,8 +143,8 @@ fn spreads_low(plan: &Plan, noted: &Noted, view: &View, v: usize, proposals: &mu
 }
 
 // Vertex v: an upper bound of its region that is below its own.
-fn spreads_high(plan: &Plan, noted: &Noted, view: &View, v: usize, proposals: &mut [u64])
-    ensures { λ _. ⌜ ran Going (now (proposals .exit)) ≡ ranOf (on spreadsHigh (words (now (plan .entry)) [] (now (noted .entry)) (now (view .entry))) v begun) (now (proposals .entry)) ⌝ }
+fn spreads_high(plan: &[u8], noted: &Noted, view: &View, v: usize, proposals: &mut [u64])
+    ensures { λ _. ⌜ ran Going (now (proposals .exit)) ≡ ranOf (on spreadsHigh (words (wordsOf (now (plan .entry))) [] (now (noted .entry)) (now (view .entry))) v begun) (now (proposals .entry)) ⌝ }
 {
     if 0 < plan::domain_len(plan, v) {
         let region = decided_region(view, v) as usize;
@@ -163,16 +162,16 @@ fn spreads_high(plan: &Plan, noted: &Noted, view: &View, v: usize, proposals: &m
     }
 }
 
-fn spreads(plan: &Plan, noted: &Noted, view: &View, v: usize, proposals: &mut [u64])
-    ensures { λ _. ⌜ ran Going (now (proposals .exit)) ≡ ranOf (on spreads (words (now (plan .entry)) [] (now (noted .entry)) (now (view .entry))) v begun) (now (proposals .entry)) ⌝ }
+fn spreads(plan: &[u8], noted: &Noted, view: &View, v: usize, proposals: &mut [u64])
+    ensures { λ _. ⌜ ran Going (now (proposals .exit)) ≡ ranOf (on spreads (words (wordsOf (now (plan .entry))) [] (now (noted .entry)) (now (view .entry))) v begun) (now (proposals .entry)) ⌝ }
 {
     spreads_low(plan, noted, view, v, proposals);
     spreads_high(plan, noted, view, v, proposals);
 }
 
 // Every vertex in order.
-pub(crate) fn spread_bounds(plan: &Plan, noted: &Noted, view: &View, proposals: &mut [u64])
-    ensures { λ _. ⌜ ran Going (now (proposals .exit)) ≡ ranOf (iter (guarded (on spreads (words (now (plan .entry)) [] (now (noted .entry)) (now (view .entry))))) (verticesOf (now (plan .entry))) begun) (now (proposals .entry)) ⌝ }
+pub(crate) fn spread_bounds(plan: &[u8], noted: &Noted, view: &View, proposals: &mut [u64])
+    ensures { λ _. ⌜ ran Going (now (proposals .exit)) ≡ ranOf (iter (guarded (on spreads (words (wordsOf (now (plan .entry))) [] (now (noted .entry)) (now (view .entry))))) (verticesOf (wordsOf (now (plan .entry)))) begun) (now (proposals .entry)) ⌝ }
 {
     let n = plan::num_vertices(plan) as usize;
     for v in 0..n {

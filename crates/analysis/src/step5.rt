@@ -9,7 +9,6 @@ use edge_table::Edges;
 use noting::Noted;
 use noting::lower_bound_lit;
 use noting::upper_bound_lit;
-use plan::Plan;
 use reasons::Verdict;
 use reasons::goes_on;
 use reasons::packed;
@@ -26,7 +25,7 @@ ghost use mathlib.Core.Path.{_≡_};
 ghost use mathlib.Core.List.{[]};
 ghost use Prim.Native.Nat.{_+_, _<_, _≤_};
 ghost use Rattle.base.specs.Iter.{iter};
-ghost use Rattle.plan.specs.Words.{verticesOf, edgesOf};
+ghost use Rattle.plan.specs.Words.{wordsOf, verticesOf, edgesOf};
 ghost use Rattle.noting.specs.Words.{lowerLitOf, upperLitOf};
 ghost use Rattle.views.specs.Words.{decidedRegionOf, decidedWeightOf, upperBoundOf, upperBoundAt, lowerBoundOf, lowerBoundAt};
 ghost use Rattle.division.specs.Plan.{touches, across};
@@ -140,7 +139,7 @@ fn region_lits(noted: &Noted, view: &View, a: usize, b: usize) -> u64
 
 // Edges g and h at vertex u. A fixed size 0 has no vertex with a lower bound over 0 to name: refusal 13.
 fn parted(
-    plan: &Plan,
+    plan: &[u8],
     edges: &Edges,
     noted: &Noted,
     view: &View,
@@ -150,7 +149,7 @@ fn parted(
     proposals: &mut [u64],
 ) -> Verdict
     requires { ⌜ (g < 128) × (h < 128) ⌝ }
-    ensures { λ r. ⌜ ran r (now (proposals .exit)) ≡ ranOf (on parted (words (now (plan .entry)) (now (edges .entry)) (now (noted .entry)) (now (view .entry))) u g h begun) (now (proposals .entry)) ⌝ }
+    ensures { λ r. ⌜ ran r (now (proposals .exit)) ≡ ranOf (on parted (words (wordsOf (now (plan .entry))) (now (edges .entry)) (now (noted .entry)) (now (view .entry))) u g h begun) (now (proposals .entry)) ⌝ }
 {
     if same_size(edges, noted, view, u, g, h) {
         let a = region_across(edges, view, u, g);
@@ -167,7 +166,7 @@ fn parted(
 
 // Edge g at vertex u, with every edge before it.
 fn part_from(
-    plan: &Plan,
+    plan: &[u8],
     edges: &Edges,
     noted: &Noted,
     view: &View,
@@ -176,7 +175,7 @@ fn part_from(
     proposals: &mut [u64],
 ) -> Verdict
     requires { ⌜ g < 128 ⌝ }
-    ensures { λ r. ⌜ ran r (now (proposals .exit)) ≡ ranOf (iter (guarded (on parted (words (now (plan .entry)) (now (edges .entry)) (now (noted .entry)) (now (view .entry))) u g)) g begun) (now (proposals .entry)) ⌝ }
+    ensures { λ r. ⌜ ran r (now (proposals .exit)) ≡ ranOf (iter (guarded (on parted (words (wordsOf (now (plan .entry))) (now (edges .entry)) (now (noted .entry)) (now (view .entry))) u g)) g begun) (now (proposals .entry)) ⌝ }
 {
     if leads_to_fixed(edges, noted, view, u, g) {
         for h in 0..g {
@@ -192,15 +191,15 @@ fn part_from(
 
 // Every edge at vertex u.
 fn parts_at(
-    plan: &Plan,
+    plan: &[u8],
     edges: &Edges,
     noted: &Noted,
     view: &View,
     u: usize,
     proposals: &mut [u64],
 ) -> Verdict
-    requires { ⌜ edgesOf (now plan) ≤ 128 ⌝ }
-    ensures { λ r. ⌜ ran r (now (proposals .exit)) ≡ ranOf (on partsAt (words (now (plan .entry)) (now (edges .entry)) (now (noted .entry)) (now (view .entry))) u begun) (now (proposals .entry)) ⌝ }
+    requires { ⌜ edgesOf (wordsOf (now plan)) ≤ 128 ⌝ }
+    ensures { λ r. ⌜ ran r (now (proposals .exit)) ≡ ranOf (on partsAt (words (wordsOf (now (plan .entry))) (now (edges .entry)) (now (noted .entry)) (now (view .entry))) u begun) (now (proposals .entry)) ⌝ }
 {
     let n = plan::num_edges(plan) as usize;
     for g in 0..n {
@@ -215,14 +214,14 @@ fn parts_at(
 
 // Every vertex in order, up to a refusal.
 pub(crate) fn disconnect_same_size(
-    plan: &Plan,
+    plan: &[u8],
     edges: &Edges,
     noted: &Noted,
     view: &View,
     proposals: &mut [u64],
 ) -> Verdict
-    requires { ⌜ edgesOf (now plan) ≤ 128 ⌝ }
-    ensures { λ r. ⌜ ran r (now (proposals .exit)) ≡ ranOf (iter (guarded (on partsAt (words (now (plan .entry)) (now (edges .entry)) (now (noted .entry)) (now (view .entry))))) (verticesOf (now (plan .entry))) begun) (now (proposals .entry)) ⌝ }
+    requires { ⌜ edgesOf (wordsOf (now plan)) ≤ 128 ⌝ }
+    ensures { λ r. ⌜ ran r (now (proposals .exit)) ≡ ranOf (iter (guarded (on partsAt (words (wordsOf (now (plan .entry))) (now (edges .entry)) (now (noted .entry)) (now (view .entry))))) (verticesOf (wordsOf (now (plan .entry)))) begun) (now (proposals .entry)) ⌝ }
 {
     let n = plan::num_vertices(plan) as usize;
     for u in 0..n {

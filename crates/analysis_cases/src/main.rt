@@ -11,7 +11,6 @@ use builder::input::EdgeNumbers;
 use builder::input::VertexNumbers;
 use edge_table::Edges;
 use noting::Noted;
-use plan::Plan;
 use reasons::Proposals;
 use reasons::Verdict;
 use text::Line;
@@ -241,7 +240,7 @@ fn lit_number(n: i32) -> u16 {
 
 // Notes the first `count` literals.
 fn note_all(
-    plan: &Plan,
+    plan: &[u8],
     lits: &[i32; 2176],
     count: usize,
     noted: &mut Noted,
@@ -263,7 +262,7 @@ fn note_all(
 }
 
 // The list of a conflict.
-fn put_conflict(plan: &Plan, edges: Edges, noted: &Noted, verdict: Verdict) {
+fn put_conflict(plan: &[u8], edges: Edges, noted: &Noted, verdict: Verdict) {
     let mut view = [0u32; 512];
     views::compute::compute_view(plan, edges, noted, &mut view);
     let mut chosen = [0u8; 64];
@@ -285,7 +284,7 @@ fn put_conflict(plan: &Plan, edges: Edges, noted: &Noted, verdict: Verdict) {
     put_listed(b'X', &out, end);
 }
 
-fn put_verdict(plan: &Plan, edges: Edges, noted: &Noted, verdict: Verdict) {
+fn put_verdict(plan: &[u8], edges: Edges, noted: &Noted, verdict: Verdict) {
     match verdict {
         Verdict::Going => put(b"C\n"),
         Verdict::ZeroSize => put_refusal(13),
@@ -295,7 +294,7 @@ fn put_verdict(plan: &Plan, edges: Edges, noted: &Noted, verdict: Verdict) {
 }
 
 // The line of the proposal of the literal at place p, if there is one.
-fn put_proposal(plan: &Plan, edges: Edges, noted: &Noted, first: u64, second: u64, p: usize) {
+fn put_proposal(plan: &[u8], edges: Edges, noted: &Noted, first: u64, second: u64, p: usize) {
     if first == 0 {
         return;
     }
@@ -306,7 +305,7 @@ fn put_proposal(plan: &Plan, edges: Edges, noted: &Noted, first: u64, second: u6
     put_listed(b'P', &out, end);
 }
 
-fn put_proposals(plan: &Plan, edges: Edges, noted: &Noted, proposals: &Proposals) {
+fn put_proposals(plan: &[u8], edges: Edges, noted: &Noted, proposals: &Proposals) {
     let mut p = 0;
     while p < 4352 {
         put_proposal(
@@ -321,7 +320,7 @@ fn put_proposals(plan: &Plan, edges: Edges, noted: &Noted, proposals: &Proposals
     }
 }
 
-fn show_analysis(plan: &Plan, edges: Edges, lits: &[i32; 2176], count: usize) {
+fn show_analysis(plan: &[u8], edges: Edges, lits: &[i32; 2176], count: usize) {
     let mut noted = [0u32; 384];
     let mut log = [0u64; 4352];
     note_all(plan, lits, count, &mut noted, &mut log);
@@ -350,7 +349,8 @@ fn show_answer<'a>(
     if refused == 0 {
         let built = build(vertices, edges, c);
         let words = built.words;
-        show_analysis(&words, edge_table(edges), lits, c.noted);
+        let plan = plan::bytes::bytes_of(&words);
+        show_analysis(&plan.bytes, edge_table(edges), lits, c.noted);
         return;
     }
     put_refusal(refused as u32);

@@ -5,3 +5,4 @@ pub mod Some
 pub mod Filled
 pub mod Signed
 pub mod Range
+pub mod Bytes

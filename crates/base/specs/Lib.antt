@@ -1,3 +1,4 @@
 pub mod Iter
 pub mod Lists
 pub mod Range
+pub mod Bytes

@@ -2,7 +2,7 @@
 pub mod slices;
 
 ghost use mathlib.Core.Path.{_≡_};
-ghost use Prim.Native.Nat.{pred};
+ghost use Prim.Native.Nat.{pred, _+_, _*_};
 ghost use lib.Signed.{ltZ, leZ};
 ghost use Rattle.base.specs.Range.{inRange, toNat};
 
@@ -40,4 +40,11 @@ pub fn wide(x: u8) -> u32
     ensures { λ r. ⌜ r ≡ x ⌝ }
 {
     x as u32
+}
+
+// The number of four bytes, the lowest first.
+pub fn word_of(a: u8, b: u8, c: u8, d: u8) -> u32
+    ensures { λ r. ⌜ r ≡ a + 256 * b + 65536 * c + 16777216 * d ⌝ }
+{
+    a as u32 + 256 * (b as u32) + 65536 * (c as u32) + 16777216 * (d as u32)
 }

@@ -262,17 +262,25 @@ module _ (vs : List ℤ) (n : ℕ) (es : List ℤ) (m : ℕ) (a b : Bool) (c : C
       let q : 8712 + i ≡ 4360 + (4352 + i) = omega arith in
       entry-in 8712 2176 f i h ∙ ap (word f) q ∙ index-same (4352 + i) (omega arith) (λ (e : 4352 + i ≡ 6528 + x .count). omega arith)
 
+  -- a start is no more than there are slots
+  start-in : (i n : ℕ) → entry 10888 2177 f i ≡ n → n ≤ 2176 → startAt f i ≡ n
+  unfolding startAt
+  start-in i n e h = pick-no _ _ (le-ltb 2176 (entry 10888 2177 f i) (omega arith)) ∙ e
+
   f-start : (i : ℕ) → i < x .count → startAt f i ≡ rounds.startAt x i
   f-start i h =
-      let z = few .0 in
+      let z = few in
       let q : 10888 + i ≡ 4360 + (6528 + i) = omega arith in
-      entry-in 10888 2177 f i (omega arith) ∙ ap (word f) q ∙ index-same (6528 + i) (omega arith) (λ (e : 6528 + i ≡ 6528 + x .count). omega arith)
+      let g = good .group i h in
+      start-in i (rounds.startAt x i)
+      (entry-in 10888 2177 f i (omega arith) ∙ ap (word f) q ∙ index-same (6528 + i) (omega arith) (λ (e : 6528 + i ≡ 6528 + x .count). omega arith))
+      (omega (arith, g .some, g .last))
 
   f-start-end : startAt f (x .count) ≡ x .filing .filed
   f-start-end =
-      let z = few .0 in
+      let z = few in
       let q : 10888 + x .count ≡ 4360 + (6528 + x .count) = omega arith in
-      entry-in 10888 2177 f (x .count) (omega arith) ∙ ap (word f) q ∙ index-end
+      start-in (x .count) (x .filing .filed) (entry-in 10888 2177 f (x .count) (omega arith) ∙ ap (word f) q ∙ index-end) (few .1)
 
   f-end : (i : ℕ) → i < x .count → startAt f (suc i) ≡ rounds.endAt x i
   f-end i h = ⊎-elim

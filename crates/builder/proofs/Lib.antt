@@ -9,3 +9,4 @@ pub mod Given
 pub mod Built
 pub mod Linked
 pub mod Unbuilt
+pub mod Length

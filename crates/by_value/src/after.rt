@@ -1,4 +1,5 @@
 // The state put together again.
+use crate::lending::plan_bytes;
 use graph_division::GraphDivision;
 use lent::Done;
 use lists::ReasonList;
@@ -19,8 +20,9 @@ pub(crate) fn state_after(
     let judged = done.judged;
     let len = done.len;
     if judged {
+        let plan = plan_bytes(s);
         let old = s.reasons;
-        let reasons = recorded::record(&s.plan, proposals, old);
+        let reasons = recorded::record(&plan.bytes, proposals, old);
         return GraphDivision {
             noted: noted,
             reasons: reasons,

@@ -1,5 +1,6 @@
 // The Rust's `initialize`.
 use crate::after::state_after;
+use crate::lending::plan_bytes;
 use graph_division::GraphDivision;
 use graph_division::Outcome;
 use graph_division::is_consistent;
@@ -44,6 +45,7 @@ pub fn initialize(
 ) -> Outcome
     ensures { λ r. ⌜ called r (now (table .exit)) (now (list .exit)) (now (log .exit)) ≡ initialized s cursor (now (table .entry)) (now (log .entry)) (now (list .entry)) ⌝ }
 {
+    let plan = plan_bytes(s);
     let held = s.edges;
     let edges = edge_table::table_of(held);
     let mut noted = s.noted;
@@ -52,7 +54,7 @@ pub fn initialize(
     let len = s.last_len;
     let initialized = s.initialized;
     let done = lent::initialize::initialize(
-        &s.plan,
+        &plan.bytes,
         edges,
         &mut noted,
         &mut words,

@@ -1,5 +1,6 @@
 // The Rust's `propagate`.
 use crate::after::state_after;
+use crate::lending::plan_bytes;
 use graph_division::GraphDivision;
 use graph_division::Outcome;
 use lists::no_list;
@@ -20,13 +21,14 @@ pub fn propagate(
 ) -> Outcome
     ensures { λ r. ⌜ called r (now (table .exit)) (now (list .exit)) (now (log .exit)) ≡ propagated s cursor lit «num_pending_propagations» (now (table .entry)) (now (list .entry)) (now (log .entry)) ⌝ }
 {
+    let plan = plan_bytes(s);
     let held = s.edges;
     let edges = edge_table::table_of(held);
     let mut noted = s.noted;
     let mut proposals = no_words();
     let mut left = no_list();
     let done = lent::propagate::propagate(
-        &s.plan,
+        &plan.bytes,
         edges,
         &mut noted,
         &mut proposals,

@@ -1,5 +1,6 @@
 // Document 02, request 1: the run of edges, connected or undecided, from one vertex to the other. It changes nothing
 // but the buffer that it is lent.
+use crate::lending::plan_bytes;
 use graph_division::Answer;
 use graph_division::GraphDivision;
 use undo_log::Cursor;
@@ -18,7 +19,8 @@ pub fn run(
     ensures { λ r. ⌜ fetched r (now (buffer .exit)) ≡
         runFetched s cursor (now (log .entry)) from to (now (buffer .entry)) ⌝ }
 {
+    let plan = plan_bytes(s);
     let held = s.edges;
     let edges = edge_table::table_of(held);
-    lent::run::run(&s.plan, edges, &s.noted, log, cursor, from, to, buffer)
+    lent::run::run(&plan.bytes, edges, &s.noted, log, cursor, from, to, buffer)
 }

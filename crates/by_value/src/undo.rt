@@ -1,4 +1,5 @@
 // The Rust's `undo`.
+use crate::lending::plan_bytes;
 use graph_division::GraphDivision;
 use graph_division::Outcome;
 use undo_log::Cursor;
@@ -9,10 +10,11 @@ ghost use Rattle.graph_division.specs.Calls.{undone};
 pub fn undo(s: GraphDivision, log: &[u64], cursor: Cursor, lit: i32) -> Outcome
     ensures { λ r. ⌜ r ≡ undone s cursor lit (now (log .entry)) ⌝ }
 {
+    let plan = plan_bytes(s);
     let held = s.edges;
     let edges = edge_table::table_of(held);
     let mut noted = s.noted;
-    let done = lent::undo::undo(&s.plan, edges, &mut noted, log, cursor, lit);
+    let done = lent::undo::undo(&plan.bytes, edges, &mut noted, log, cursor, lit);
     let moved = done.cursor;
     let answer = done.answer;
     Outcome {

@@ -27,16 +27,17 @@ use Rattle.graph_division.specs.declared.GraphDivision.{GraphDivision}
 use Rattle.graph_division.specs.New.{built}
 use Rattle.graph_division.specs.Calls.{withNoted}
 use Rattle.lent.specs.Lent.{stateOf}
-use Rattle.byte_calls.specs.Bytes.{wordAt, longAt, putWords}
-use Rattle.byte_calls.specs.Layout.{inUse, planIn, endsAt, endsIn, wordsIn, reasonIn, reasonsIn, stateIn}
+use Rattle.base.specs.Bytes.{wordAt, longAt, putWords}
+use Rattle.byte_calls.specs.Layout.{planIn, endsAt, endsIn, reasonIn, reasonsIn, stateIn}
+use Rattle.base.specs.Bytes.{wordsIn}
 use Rattle.byte_calls.specs.After.{BytesAfter}
 use Rattle.byte_calls.specs.Stores.{BytesKept, putNoted, putEnds, putEdges, cleared}
 use Rattle.byte_calls.specs.Build.{buildRefused}
-use Rattle.byte_calls.proofs.Filling.{iter-length}
-use Rattle.byte_calls.proofs.Agreeing.{Agree, agree-word, agree-then, agree-part, putWords-agrees, putWords-in}
+use Rattle.base.proofs.Bytes.{iter-length}
+use Rattle.base.proofs.Bytes.{Agree, agree-word, agree-then, agree-part, putWords-agrees, putWords-in}
 use Rattle.byte_calls.proofs.Keeping.{kept-by, kept-same, kept-then, words-kept, noted-kept}
-use Rattle.byte_calls.proofs.Standing.{in-use-same, words-same, words-read, tabOf-length, tabOf-at}
-use Rattle.byte_calls.proofs.Using.{plan-in-use}
+use Rattle.byte_calls.proofs.Standing.{words-same, words-read, tabOf-length, tabOf-at}
+use Rattle.builder.proofs.Length.{plan-words-length}
 
 -- ---- the edge table
 abbrev pairOf : List ℕ → List ℕ
@@ -195,11 +196,12 @@ module _ (ws noted : List ℕ) (t : List (List ℕ)) (b c : List ℕ) (r : 13344
   mid-agrees : Agree 61220 62756 b2 b
   mid-agrees = agree-then (cleared-agrees b1 long 61220 62756 (inl (omega arith))) (putEdges-agrees t b 61220 62756 (inr (omega arith)))
 
-  plan-stored : inUse (λ i. getD ws i 0) ≡ ws → planIn b2 ≡ ws
+  plan-stored : length ws ≡ 15241 → planIn b2 ≡ ws
   unfolding planIn
-  plan-stored u = in-use-same _ _ (λ i k. agree-word (4 * i) (low-agrees 0 60964 (omega arith)) (omega arith) (omega arith) ∙ words i k) ∙ u
+  plan-stored u = words-read b2 ws 0 15241
+      (λ i k. ap (wordAt b2) (zero-add (4 * i)) ∙ (agree-word (4 * i) (low-agrees 0 60964 (omega arith)) (omega arith) (omega arith) ∙ words i k)) u
 
-  pub state-stored : inUse (λ i. getD ws i 0) ≡ ws → Pairs t → stateIn c ≡ stateOf ws t noted noReasons (replicate 260 0) 0 false
+  pub state-stored : length ws ≡ 15241 → Pairs t → stateIn c ≡ stateOf ws t noted noReasons (replicate 260 0) 0 false
   unfolding stateIn
   state-stored u h = ap stateIn e ∙ (λ i. stateOf
       (plan-stored u i)
@@ -221,7 +223,7 @@ pub built-state : (vs : List ℤ) (n : ℕ) (es : List ℤ) (m : ℕ) (x y : Boo
 unfolding built
 built-state vs n es m x y ws noted t b c z p q h r words notes e =
     state-stored ws noted t b c r words notes e
-    (subst (λ (ws : List ℕ). inUse (λ i. getD ws i 0) ≡ ws) (sym p) (plan-in-use vs n es m x y z))
+    (ap length p ∙ plan-words-length vs n es m x y)
     (subst Pairs (sym h) (table-pairs es m))
     ∙ (λ i. stateOf (p i) (h i) ((q ∙ ap (λ (ws : List ℕ). fresh ws (replicate 384 0)) p) i) noReasons (replicate 260 0) 0 false)
 

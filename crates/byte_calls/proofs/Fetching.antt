@@ -16,7 +16,7 @@ use Rattle.recorded.specs.declared.Recorded.{Recorded}
 use Rattle.recorded.specs.Recorded.{holding, reasonAt}
 use Rattle.refusals.specs.Refusals.{litNumber}
 use Rattle.graph_division.specs.Calls.{recordedFor}
-use Rattle.byte_calls.specs.Bytes.{longAt}
+use Rattle.base.specs.Bytes.{longAt}
 use Rattle.byte_calls.specs.Layout.{planIn, tabOf, reasonIn, reasonWordIn, reasonsIn, stateIn}
 use Rattle.byte_calls.proofs.Standing.{tabOf-at}
 

@@ -13,44 +13,22 @@ use native.Mathlib.Nat.{zero-add}
 use lib.ListN.{length, getD, set, replicate, length-set}
 use Rattle.base.specs.Iter.{iter, pick}
 use Rattle.base.specs.Lists.{filled}
-use Rattle.base.proofs.Loop.{iter-ind, iter-zero, pick-ind, pick-yes, pick-no}
+use Rattle.base.proofs.Bytes.{putHalf-length, putWord-length, putLong-length, iter-length, putHalves-length, putWords-length, putLongs-length}
+use Rattle.base.proofs.Loop.{iter-ind, iter-zero, pick-ind, pick-yes, pick-no, tested}
 use Rattle.sweep.specs.Sweep.{proposedAt}
-use Rattle.byte_calls.specs.Bytes.{wordAt, putHalf, putWord, putLong, putHalves, putWords, putLongs}
-use Rattle.byte_calls.specs.Layout.{window, wordsIn, endsAt, usedEntries}
+use Rattle.base.specs.Bytes.{wordAt, putHalf, putWord, putLong, putHalves, putWords, putLongs}
+use Rattle.byte_calls.specs.Layout.{endsAt, usedEntries}
+use Rattle.base.specs.Bytes.{wordsIn}
 use Rattle.byte_calls.specs.Stores.{putReason, putReasons, putLast, putNoted}
 
 pub filled-more : (f : ℕ → ℕ) (a i k : ℕ) (l x : List ℕ) (v : ℕ) → x ≡ filled a i f l → k ≡ a + i → v ≡ f i → set x k v ≡ filled a (i + 1) f l
 unfolding filled iter
 filled-more f a i k l x v e q h = rw add-one (λ j. set (e j) (q j) (h j))
 
-pub putHalf-length : (a x : ℕ) (b : List ℕ) → length (putHalf a x b) ≡ length b
-unfolding putHalf
-putHalf-length a x b = simp length-set refl
-
-pub putWord-length : (a x : ℕ) (b : List ℕ) → length (putWord a x b) ≡ length b
-unfolding putWord
-putWord-length a x b = simp length-set refl
-
-pub putLong-length : (a x : ℕ) (b : List ℕ) → length (putLong a x b) ≡ length b
-unfolding putLong
-putLong-length a x b = putWord-length _ _ _ ∙ putWord-length _ _ _
-
-pub iter-length : (f : ℕ → List ℕ → List ℕ) → ((i : ℕ) (b : List ℕ) → length (f i b) ≡ length b) → (n : ℕ) (b : List ℕ) → length (iter f n b) ≡ length b
-unfolding iter
-iter-length f h zero b = refl
-iter-length f h (suc n) b = h n (iter f n b) ∙ iter-length f h n b
-
-pub putHalves-length : (l : List ℕ) (n : ℕ) (b : List ℕ) → length (putHalves l n b) ≡ length b
-unfolding putHalves
-putHalves-length l n b = iter-length _ (λ i c. putHalf-length _ _ c) n b
-
-pub putWords-length : (a : ℕ) (l : List ℕ) (n : ℕ) (b : List ℕ) → length (putWords a l n b) ≡ length b
-unfolding putWords
-putWords-length a l n b = iter-length _ (λ i c. putWord-length _ _ c) n b
-
-pub putLongs-length : (l : List ℕ) (from n : ℕ) (b : List ℕ) → length (putLongs l from n b) ≡ length b
-unfolding putLongs
-putLongs-length l from n b = iter-length _ (λ i c. putLong-length _ _ c) n b
+-- nothing is stored of a place that is not proposed
+pub putReason-idle : (words : List ℕ) (p : ℕ) (b : List ℕ) → proposedAt words p ≡ false → b ≡ putReason words p b
+unfolding putReason
+putReason-idle words p b e = sym (pick-no _ _ e)
 
 pub putReason-length : (words : List ℕ) (p : ℕ) (b : List ℕ) → length (putReason words p b) ≡ length b
 unfolding putReason
@@ -91,11 +69,6 @@ cap-most r n m e = omega (arith, e, capped-most n m)
 pub cap-less : (r n m : ℕ) → r ≡ capped n m → r ≤ n
 cap-less r n m e = omega (arith, e, capped-less n m)
 
--- words that are read where the plan's stand, and where others do
-pub read-window : (b : List ℕ) (from n : ℕ) (ws x : List ℕ) → x ≡ filled from n (λ i. wordAt b (0 + 4 * (from + i))) ws → x ≡ window (λ i. wordAt b (4 * i)) from n ws
-unfolding window
-read-window b from n ws x e = e ∙ (λ j. filled from n (λ i. wordAt b (zero-add (4 * (from + i)) j)) ws)
-
 pub read-words-in : (b : List ℕ) (a n : ℕ) (x y : List ℕ) → y ≡ replicate n 0 → x ≡ filled 0 n (λ i. wordAt b (a + 4 * (0 + i))) y → x ≡ wordsIn b a n
 unfolding wordsIn
 read-words-in b a n x y r e = e ∙ (λ j. filled 0 n (λ i. wordAt b (a + 4 * zero-add i j)) (r j))
@@ -112,3 +85,9 @@ room-is n = refl
 pub none-put : (l : List ℕ) (from to : ℕ) (b : List ℕ) → to ≤ from → b ≡ putLongs l from (to - from) b
 unfolding putLongs
 none-put l from to b h = let e : 0 ≡ to - from = omega arith in iter-zero (λ (i : ℕ) (b : List ℕ). putLong (8 * (from + i)) (getD l (from + i) 0) b) b ∙ ap (λ (k : ℕ). iter (λ (i : ℕ) (b : List ℕ). putLong (8 * (from + i)) (getD l (from + i) 0) b) k b) e
+
+pub capped-is : (n m : ℕ) → n ≤ m → capped n m ≡ n
+unfolding capped
+capped-is n m h = tested (ltb n m)
+    (λ (t : ltb n m ≡ true). pick-yes n m t)
+    (λ (t : ltb n m ≡ false). let e : m ≡ n = omega (arith, ltb-false n m t) in pick-no n m t ∙ e)

@@ -23,8 +23,9 @@ use Rattle.noting.specs.Words.{capped, boundAt, lowerOf, upperOf, lowerLitOf, u
 use Rattle.noting.specs.Note.{Noting, sizeEffect, edgeEffect, effectOf, undoRecord, boundSet, edgeSet, applied, pushedTo, noteSlot, boundary, oneMore, levelPushed, noteAt, note}
 use Rattle.noting.specs.Undo.{recordsOf, kept}
 use Rattle.refusals.specs.Refusals.{litNumber}
-use Rattle.byte_calls.specs.Bytes.{wordAt, longAt}
-use Rattle.byte_calls.specs.Layout.{window, sizesOf, litsOf, placesOf, indexOf, inUseOver, inUse, planIn, wordsIn, usedEntries, recordsIn, logIn}
+use Rattle.base.specs.Bytes.{wordAt, longAt}
+use Rattle.byte_calls.specs.Layout.{planIn, usedEntries, recordsIn, logIn}
+use Rattle.base.specs.Bytes.{wordsIn}
 use Rattle.byte_calls.proofs.LastList.{Bytes, word-fits}
 
 -- kind and index of a byte each, a literal of two and a bound of four
@@ -58,24 +59,14 @@ module _ (k : ℕ) where
   unfolding filled
   filled-under a n f l g h = iter-ind (λ i x. Under k x) (λ i x. set x (a + i) (f i)) l n h (λ i x r u. set-under x (a + i) (f i) u (g i))
 
-  window-under : (f : ℕ → ℕ) (from n : ℕ) (l : List ℕ) → ((i : ℕ) → f i < k) → Under k l → Under k (window f from n l)
-  unfolding window
-  window-under f from n l g h = filled-under from n (λ i. f (from + i)) l (λ i. g (from + i)) h
-
-  use-under : (f : ℕ → ℕ) → 0 < k → ((i : ℕ) → f i < k) → Under k (inUse f)
-  unfolding inUse inUseOver indexOf placesOf litsOf sizesOf
-  use-under f z g =
-      let w : (from n : ℕ) (l : List ℕ) → Under k l → Under k (window f from n l) = λ from n l h. window-under f from n l g h in
-      w _ _ _ (w _ _ _ (w _ _ _ (w _ _ _ (w _ _ _ (w _ _ _ (w _ _ _ (w _ _ _ (w _ _ _ (w _ _ _ (w _ _ _ (w _ _ _ (w _ _ _ (none-under 15241 z)))))))))))))
-
 -- ---- what bytes are decoded to
-pub plan-under : (b : List ℕ) → Bytes b → Under 4294967296 (planIn b)
-unfolding planIn
-plan-under b h = use-under 4294967296 (λ i. wordAt b (4 * i)) (omega arith) (λ i. word-fits b (4 * i) h)
-
 pub words-under : (b : List ℕ) (a n : ℕ) → Bytes b → Under 4294967296 (wordsIn b a n)
 unfolding wordsIn
 words-under b a n h = filled-under 4294967296 0 n (λ i. wordAt b (a + 4 * i)) (replicate n 0) (λ i. word-fits b (a + 4 * i) h) (none-under 4294967296 n (omega arith))
+
+pub plan-under : (b : List ℕ) → Bytes b → Under 4294967296 (planIn b)
+unfolding planIn
+plan-under b h = words-under b 0 15241 h
 
 long-fits : (b : List ℕ) (a : ℕ) → Bytes b → longAt b a < 18446744073709551616
 unfolding longAt

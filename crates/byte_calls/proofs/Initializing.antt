@@ -17,12 +17,13 @@ use Rattle.graph_division.specs.declared.Answer.the-variants.{Consistent, Confl
 use Rattle.graph_division.specs.Calls.{Called}
 use Rattle.lent.specs.declared.Done.{Done}
 use Rattle.lent.specs.Lent.{stateOf, stateAfter, calledOf, withInitialized, begunAfter, begunOf}
-use Rattle.byte_calls.specs.Bytes.{putWord}
+use Rattle.base.specs.Bytes.{putWord}
 use Rattle.graph_division.specs.Answers.{isRefused, isConsistent}
-use Rattle.byte_calls.specs.Layout.{wordsIn, stateIn, cursorIn}
+use Rattle.byte_calls.specs.Layout.{stateIn, cursorIn}
+use Rattle.base.specs.Bytes.{wordsIn}
 use Rattle.byte_calls.specs.Stores.{BytesKept}
 use Rattle.byte_calls.specs.Host.{Left, leftWith, leftBy, leftOf, StateAfter, AfterOf, initializedIn, hostInitialized, tooShort, short}
-use Rattle.byte_calls.proofs.Agreeing.{agree-word, putWord-agrees, putWord-in}
+use Rattle.base.proofs.Bytes.{agree-word, putWord-agrees, putWord-in}
 use Rattle.byte_calls.proofs.Standing.{plan-same, ends-same, words-same, reasons-same}
 use Rattle.byte_calls.proofs.Keeping.{kept-then}
 use Rattle.byte_calls.proofs.Leaving.{leaves}

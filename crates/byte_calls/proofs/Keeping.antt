@@ -8,10 +8,11 @@ use lib.ListN.{length, getD, drop, length-drop}
 use lib.Seq.{getD-drop, ext-getD}
 use Rattle.noting.specs.Words.{capped}
 use Rattle.plan.specs.Words.{variablesOf}
-use Rattle.byte_calls.specs.Bytes.{putWord, putWords}
+use Rattle.base.specs.Bytes.{putWord, putWords}
 use Rattle.byte_calls.specs.Stores.{BytesKept, putReasons, putLast, putNoted}
-use Rattle.byte_calls.proofs.Filling.{capped-most, putWord-length, putWords-length, putReasons-length}
-use Rattle.byte_calls.proofs.Agreeing.{Agree, putWord-agrees, putWords-agrees}
+use Rattle.byte_calls.proofs.Filling.{capped-most, putReasons-length}
+use Rattle.base.proofs.Bytes.{putWord-length, putWords-length}
+use Rattle.base.proofs.Bytes.{Agree, putWord-agrees, putWords-agrees}
 use Rattle.byte_calls.proofs.Storing.{putReasons-agrees}
 
 -- the bytes from a place on, where they agree

@@ -23,7 +23,7 @@ use Rattle.reasons.specs.declared.reason.Reason.{Reason}
 use Rattle.reasons.specs.declared.reason.Reason.the-variants.{NotPropagated, EdgeInSameGroup, EdgeBetweenDifferentGroups, TooLargeIfRegionsAreMerged, RegionAlreadyLarge, RegionAlreadySmall, InconsistentBoundsIfRegionsAreMerged, BoundPropagationWithinRegion, AdjacentSameSizeRegions}
 use Rattle.reasons.specs.declared.Verdict.{Verdict}
 use Rattle.reasons.specs.declared.Verdict.the-variants.{Going, DisconnectedInside, Over, Under, Crowded, Apart, Crossing, ZeroSize, Unfit}
-use Rattle.lists.specs.Parts.{shapeOf, after, then, path, decided, potential, twoPaths, inside, twoRegions, threeRegions, andWord, andLit, andOpt}
+use Rattle.lists.specs.Parts.{shapeOf, edgeLits, after, then, path, decided, potential, twoPaths, inside, twoRegions, threeRegions, andWord, andLit, andOpt}
 use Rattle.lists.specs.Lists.{between, tooLarge, mismatched, spread, sameSized, reasonLits}
 use Rattle.lists.specs.Conflicts.{spanAfter, spansAfter, crossingLits, apartLits, conflictLits}
 use Rattle.judge.specs.declared.Judgement.{Judgement}
@@ -33,8 +33,9 @@ use Rattle.graph_division.specs.declared.GraphDivision.{GraphDivision}
 use Rattle.graph_division.specs.declared.Outcome.{Outcome}
 use Rattle.graph_division.specs.Calls.{Called, withNoted, withJudged, refuse, adding, accepting, handingOn, settledBy, settled, propagated, undone}
 use Rattle.graph_division.specs.Initialize.{takenOver, taking, endedBy, entering, finished, begun, initialized}
-use Rattle.byte_calls.specs.Bytes.{wordAt}
-use Rattle.byte_calls.specs.Layout.{wordsIn, stateIn, cursorIn, listIn, logIn}
+use Rattle.base.specs.Bytes.{wordAt}
+use Rattle.byte_calls.specs.Layout.{stateIn, cursorIn, listIn, logIn}
+use Rattle.base.specs.Bytes.{wordsIn}
 use Rattle.byte_calls.specs.Host.{AfterOf, initializedIn, propagatedIn, undoneIn}
 use Rattle.byte_calls.specs.After.{Leaves}
 
@@ -94,7 +95,7 @@ module _ (n : ℕ) where
   opt-within l a h = then-within a _ h (λ o k. given-within _ o k)
 
   module _ (ws : List ℕ) (es : List (List ℕ)) (noted : List ℕ) where
-    path-within : (u v : ℕ) (o : Out) → In n o → Within n (connectedPath es noted ws (shapeOf ws) u v o)
+    path-within : (u v : ℕ) (o : Out) → In n o → Within n (connectedPath es noted (edgeLits ws) (shapeOf ws) u v o)
     unfolding connectedPath
     path-within u v o h = pick-ind (Within n) _ _ _
         (λ _. pick-ind (Within n) _ _ _ (λ _. pick-ind (Within n) _ _ _ (λ _. given-within _ o h) (λ _. missing-within o h)) (λ _. missing-within o h))

@@ -17,6 +17,8 @@ use Rattle.base.specs.Iter.{pick}
 use Rattle.base.specs.Lists.{filled}
 use Rattle.base.proofs.Filled.{filled-length}
 use Rattle.base.proofs.Loop.{pick-yes, pick-no, pick-ind, tested}
+use Rattle.plan.specs.Words.{wordsOf}
+use Rattle.plan.proofs.Reading.{words-in}
 use Rattle.undo_log.specs.declared.Cursor.{Cursor}
 use Rattle.recorded.specs.declared.Reasons.{Reasons}
 use Rattle.graph_division.specs.declared.GraphDivision.{GraphDivision}
@@ -25,10 +27,11 @@ use Rattle.graph_division.specs.declared.Answer.{Answer}
 use Rattle.graph_division.specs.Calls.{Called, called, outcome, propagated, undone, reasonFetched, lastFetched, runFetched}
 use Rattle.lent.specs.declared.Done.{Done}
 use Rattle.lent.specs.Lent.{Parts, stateAfter, calledOf}
-use Rattle.byte_calls.specs.Bytes.{wordAt, longAt}
+use Rattle.base.specs.Bytes.{wordAt, longAt}
 use Rattle.graph_division.specs.Answers.{isRefused}
 use Rattle.byte_calls.specs.Codes.{answerCode, givenBy}
-use Rattle.byte_calls.specs.Layout.{Decoded, decoded, decodedIn, inUse, inUseOver, planIn, endsIn, wordsIn, reasonsIn, stateIn, cursorIn, usedEntries, recordsIn, logIn, listIn, bufferIn}
+use Rattle.byte_calls.specs.Layout.{Decoded, decoded, decodedIn, planIn, endsIn, reasonsIn, stateIn, cursorIn, usedEntries, recordsIn, logIn, listIn, bufferIn}
+use Rattle.base.specs.Bytes.{wordsIn}
 use Rattle.byte_calls.specs.Stores.{BytesKept, putCursor, putList, putLog}
 use Rattle.byte_calls.specs.Host.{Left, leftWith, leftBy, leftOf, StateAfter, AfterOf, propagatedIn, hostPropagated, tooShort, short, Back, back, backBy, undoneIn, hostUndone, givenIn, hostReason, hostLast, hostRun, pageIn, hostPage}
 use Rattle.byte_calls.proofs.Coding.{code-back}
@@ -121,9 +124,10 @@ pub lits-part : (r n : ℕ) (l list : List ℕ) → n ≡ length list / 2 → r 
 unfolding listIn
 lits-part r n l list m e q = λ i. take ((no-less r ∙ (e ∙ ap usedEntries m)) i) (q i)
 
-pub plan-read : (b ws z : List ℕ) → z ≡ replicate 15241 0 → ws ≡ inUseOver (λ i. wordAt b (4 * i)) z → ws ≡ planIn b
-unfolding planIn inUse
-plan-read b ws z q e = e ∙ ap (inUseOver (λ i. wordAt b (4 * i))) q
+-- the plan is read where it is
+pub plan-here : (b : List ℕ) → 133440 ≤ length b → wordsOf b ≡ planIn b
+unfolding planIn
+plan-here b r = words-in b (omega arith)
 
 pub records-read : (log : List ℕ) {c d : Cursor} {l z : List ℕ} → z ≡ replicate 4352 0 → c ≡ d →
     l ≡ filled 0 (capped (c .used) (usedEntries (length log / 8))) (λ i. longAt log (8 * i)) z → l ≡ recordsIn d log
@@ -131,20 +135,16 @@ unfolding recordsIn
 records-read log {c} q e h =
     h ∙ ap (filled 0 (capped (c .used) (usedEntries (length log / 8))) (λ i. longAt log (8 * i))) q ∙ ap (λ (c : Cursor). recordsIn c log) e
 
-pub all-decoded : (b log cursor : List ℕ) {ws ns rs : List ℕ} {c : Cursor} →
-    ws ≡ planIn b → ns ≡ wordsIn b 61220 384 → rs ≡ recordsIn (cursorIn cursor) log → c ≡ cursorIn cursor → decoded ws ns rs c ≡ decodedIn b log cursor
+pub all-decoded : (b log cursor : List ℕ) {ns rs : List ℕ} {c : Cursor} →
+    ns ≡ wordsIn b 61220 384 → rs ≡ recordsIn (cursorIn cursor) log → c ≡ cursorIn cursor → decoded ns rs c ≡ decodedIn b log cursor
 unfolding decodedIn
-all-decoded b log cursor p n r c = λ i. decoded (p i) (n i) (r i) (c i)
+all-decoded b log cursor n r c = λ i. decoded (n i) (r i) (c i)
 
 pub zeros-length : {l : List ℕ} (n : ℕ) → l ≡ replicate n 0 → length l ≡ n
 zeros-length n e = ap length e ∙ length-replicate {A = ℕ} n 0
 
 -- what `decode` gives, part by part
-module _ (b log cursor : List ℕ) {ws ns rs : List ℕ} {c : Cursor} (e : decoded ws ns rs c ≡ decodedIn b log cursor) where
-  pub plan-decoded : ws ≡ planIn b
-  unfolding decodedIn
-  plan-decoded = ap (λ (d : Decoded). d .plan) e
-
+module _ (b log cursor : List ℕ) {ns rs : List ℕ} {c : Cursor} (e : decoded ns rs c ≡ decodedIn b log cursor) where
   pub noted-decoded : ns ≡ wordsIn b 61220 384
   unfolding decodedIn
   noted-decoded = ap (λ (d : Decoded). d .noted) e

@@ -1,6 +1,5 @@
 pub mod Filling
 pub mod Coding
-pub mod Agreeing
 pub mod Standing
 pub mod Storing
 pub mod Keeping
@@ -9,8 +8,6 @@ pub mod Fetching
 pub mod Undoing
 pub mod Initializing
 pub mod Numbering
-pub mod Outside
-pub mod Using
 pub mod Building
 pub mod LastList
 pub mod Fitting

@@ -16,7 +16,7 @@ use Rattle.base.specs.Iter.{iter}
 use Rattle.base.proofs.Range.{reads-back}
 use Rattle.base.proofs.Loop.{pick-ind, pick-yes, pick-no}
 use Rattle.builder.specs.Input.{refusal}
-use Rattle.byte_calls.specs.Bytes.{wordAt}
+use Rattle.base.specs.Bytes.{wordAt}
 use Rattle.byte_calls.specs.Host.{buildCode, short}
 use Rattle.byte_calls.specs.Build.{BuiltIn}
 use Rattle.byte_calls.specs.Numbers.{signedOf, intAt, numbersIn}

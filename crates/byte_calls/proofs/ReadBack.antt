@@ -23,7 +23,7 @@ use Rattle.noting.specs.Note.{Noting, noting}
 use Rattle.noting.specs.Undo.{recordsOf, kept, undo}
 use Rattle.noting.specs.Buffers.{logShort}
 use Rattle.noting.specs.Replay.{logBad}
-use Rattle.plan.specs.Check.{planBad}
+use Rattle.plan.specs.Check.{countsBad, planBad}
 use Rattle.plan.specs.Words.{variablesOf, uniqueLitAt}
 use Rattle.plan.specs.Proper.{ProperWords}
 use Rattle.plan.proofs.Proper.{proper}
@@ -43,12 +43,14 @@ use Rattle.notifications.specs.declared.Progress.{Progress}
 use Rattle.notifications.specs.Notifications.{litAt}
 use Rattle.graph_division.specs.Answers.{isRefused}
 use Rattle.byte_calls.specs.Host.{leftBy, leftOf, initializedIn, propagatedIn, backOf, backBy, undoneIn}
-use Rattle.byte_calls.specs.Bytes.{wordAt, longAt, putHalf, putWord, putLong, putHalves, putLongs}
-use Rattle.byte_calls.specs.Layout.{planIn, wordsIn, stateIn, cursorIn, usedEntries, recordsIn, logIn, listIn}
+use Rattle.base.specs.Bytes.{wordAt, longAt, putHalf, putWord, putLong, putHalves, putLongs}
+use Rattle.byte_calls.specs.Layout.{planIn, stateIn, cursorIn, usedEntries, recordsIn, logIn, listIn}
+use Rattle.base.specs.Bytes.{wordsIn}
 use Rattle.byte_calls.specs.Stores.{putCursor, putList, putLog}
-use Rattle.byte_calls.proofs.Filling.{capped-most, capped-less, room-is, putHalves-length, putWord-length, putLongs-length}
-use Rattle.byte_calls.proofs.Agreeing.{Agree, agree-word, agree-long, agree-then, putWord-agrees, putWord-in, putLong-agrees, putLong-in}
-use Rattle.byte_calls.proofs.Using.{capped-is}
+use Rattle.byte_calls.proofs.Filling.{capped-most, capped-less, room-is}
+use Rattle.base.proofs.Bytes.{putHalves-length, putWord-length, putLongs-length}
+use Rattle.base.proofs.Bytes.{Agree, agree-word, agree-long, agree-then, putWord-agrees, putWord-in, putLong-agrees, putLong-in}
+use Rattle.byte_calls.proofs.Filling.{capped-is}
 use Rattle.byte_calls.proofs.Leaving.{room-length, list-room}
 use Rattle.byte_calls.proofs.LastList.{Bytes, word-fits}
 use Rattle.byte_calls.proofs.Fitting.{Under, set-under, none-under, take-under, Kept, plan-under, words-under, log-under, note-kept, number-under, undo-less}
@@ -183,7 +185,7 @@ room-few n = omega (arith, room-is n, capped-most n 4352)
 cursor-within : (ws : List ℕ) (ends : List (List ℕ)) (noted log : List ℕ) (c : Cursor) → stateBad ws ends noted log c ≡ false → c .used ≤ length log
 unfolding stateBad logBad
 cursor-within ws ends noted log c e =
-    let p = or-none (planBad ws ends) (logShort ws (length log) || logBad ws noted log c) e .1 in
+    let p = or-none (countsBad ws) (logShort ws (length log) || logBad ws noted log c) e .1 in
     let q = or-none (logShort ws (length log)) (logBad ws noted log c) p .1 in
     ltb-false (length log) (c .used) (or-none (ltb (length log) (c .used)) _ q .0)
 
@@ -328,14 +330,8 @@ module _ (ws : List ℕ) (ends : List (List ℕ)) (k : ProperWords ws ends) wher
   unfolding handedOn
   handed-under n words h u = iter-ind (λ i (x : Handed). Lits n (x .out .text)) (handedAt ws words) h (2 * variablesOf ws) u (λ p x l v. at-under n words p x l v)
 
-propagate-proper : (ws : List ℕ) (ends : List (List ℕ)) (noted t : List ℕ) (n : ℕ) (log : List ℕ) (c : Cursor) (lit : ℤ) → propagateRefusal ws ends noted t n log c lit ≡ 0 → ProperWords ws ends
-unfolding propagateRefusal tableStateBad stateBad
-propagate-proper ws ends noted t n log c lit e =
-    let p = or-none (stateBad ws ends noted log c) _ (pick-zero (tableStateBad ws ends noted t n log c) 7 _ (omega arith) e .0) .0 in
-    proper ws ends (or-none (planBad ws ends) _ p .0)
-
--- `calls::propagate`: the literals handed on are read back from the list's bytes
-module _ (state t list log cursor : List ℕ) (lit pending : ℤ) where
+-- `calls::propagate`, where the plan passes its own test: the literals handed on are read back from the list's bytes
+module _ (state t list log cursor : List ℕ) (lit pending : ℤ) (passes : planBad (stateIn state .plan) (stateIn state .edges .ends) ≡ false) where
   abbrev Handing : Called → Type 0
   Handing y = Under 65536 (y .list) × (length (y .list) ≡ length (listIn list))
 
@@ -355,9 +351,9 @@ module _ (state t list log cursor : List ℕ) (lit pending : ℤ) where
       let s = stateIn state in
       let c = cursorIn cursor in
       pick-ind Handing (eqb (propagateRefusal (s .plan) (s .edges .ends) (s .noted) t (length (listIn list)) (logIn c log) c lit) 0) _ _
-      (λ (e : eqb (propagateRefusal (s .plan) (s .edges .ends) (s .noted) t (length (listIn list)) (logIn c log) c lit) 0 ≡ true).
+      (λ _.
       pick-ind Handing (inRange (pos 0) pending) _ _
-      (λ _. settled-under (s .edges .ends) s c (propagate-proper (s .plan) (s .edges .ends) (s .noted) t (length (listIn list)) (logIn c log) c lit (eqb-true _ 0 e)) (litNumber lit) _ _ (logIn c log))
+      (λ _. settled-under (s .edges .ends) s c (proper (s .plan) (s .edges .ends) passes) (litNumber lit) _ _ (logIn c log))
       (λ _. blank-under))
       (λ _. blank-under)
 

@@ -23,11 +23,13 @@ use Rattle.recorded.specs.declared.Recorded.{Recorded}
 use Rattle.recorded.specs.declared.Reasons.{Reasons}
 use Rattle.recorded.specs.Recorded.{holding, newest, recorded}
 use Rattle.recorded.proofs.Recording.{reasons-eq}
-use Rattle.byte_calls.specs.Bytes.{wordAt, longAt, putWord, putLong, putWords}
-use Rattle.byte_calls.specs.Layout.{window, sizesOf, litsOf, placesOf, indexOf, inUseOver, inUse, planIn, endsAt, endsIn, wordsIn, tabOf, reasonIn, reasonsIn}
+use Rattle.base.specs.Bytes.{wordAt, longAt, putWord, putLong, putWords}
+use Rattle.byte_calls.specs.Layout.{planIn, endsAt, endsIn, tabOf, reasonIn, reasonsIn}
+use Rattle.base.specs.Bytes.{wordsIn}
 use Rattle.byte_calls.specs.Stores.{putReason, putReasons}
-use Rattle.byte_calls.proofs.Filling.{capped-most, putLong-length, putReason-length, iter-length}
-use Rattle.byte_calls.proofs.Agreeing.{Agree, agree-word, agree-long, agree-then, putLong-agrees, putLong-in}
+use Rattle.byte_calls.proofs.Filling.{capped-most, putReason-length}
+use Rattle.base.proofs.Bytes.{putLong-length, iter-length}
+use Rattle.base.proofs.Bytes.{Agree, agree-word, agree-long, agree-then, putLong-agrees, putLong-in}
 
 pub iter-same : {A : Type 0} (f g : ℕ → A → A) (n : ℕ) (a : A) → ((i : ℕ) (x : A) → i < n → f i x ≡ g i x) → iter f n a ≡ iter g n a
 unfolding iter
@@ -38,45 +40,7 @@ pub filled-same : (f g : ℕ → ℕ) (a n : ℕ) (l : List ℕ) → ((i : ℕ) 
 unfolding filled
 filled-same f g a n l h = iter-same _ _ n l (λ i x k. ap (set x (a + i)) (h i k))
 
--- the plan
-module _ (f g : ℕ → ℕ) (h : (i : ℕ) → i < 15241 → f i ≡ g i) where
-  one : (from n : ℕ) (v w : List ℕ) → from + n ≤ 15241 → v ≡ w → window f from n v ≡ window g from n w
-  unfolding window
-  one from n v w r e = ap (filled from n (λ i. f (from + i))) e ∙ filled-same _ _ from n w (λ i k. h (from + i) (omega arith))
-
-  sizes-same : (n : ℕ) (v w : List ℕ) → n ≤ 64 → v ≡ w → sizesOf f n v ≡ sizesOf g n w
-  unfolding sizesOf
-  sizes-same n v w r e = one 136 (32 * n) _ _ (omega arith) (one 72 n _ _ (omega arith) (one 8 n _ _ (omega arith) (one 0 8 v w (omega arith) e)))
-
-  lits-same : (n m : ℕ) (v w : List ℕ) → n ≤ 64 → m ≤ 128 → v ≡ w → litsOf f n m v ≡ litsOf g n m w
-  unfolding litsOf
-  lits-same n m v w r q e = one 4232 m _ _ (omega arith) (one 2184 (32 * n) _ _ (omega arith) e)
-
-  places-same : (n m : ℕ) (v w : List ℕ) → n ≤ 64 → m ≤ 128 → v ≡ w → placesOf f n m v ≡ placesOf g n m w
-  unfolding placesOf
-  places-same n m v w r q e = one 8584 m _ _ (omega arith) (one 6536 (32 * n) _ _ (omega arith) (one 6408 m _ _ (omega arith) (one 4360 (32 * n) _ _ (omega arith) e)))
-
-  index-same : (k s : ℕ) (v w : List ℕ) → k ≤ 2176 → s ≤ 2176 → v ≡ w → indexOf f k s v ≡ indexOf g k s w
-  unfolding indexOf
-  index-same k s v w r q e = one 13065 s _ _ (omega arith) (one 10888 (k + 1) _ _ (omega arith) (one 8712 k _ _ (omega arith) e))
-
-  pub in-use-same : inUse f ≡ inUse g
-  unfolding inUse inUseOver
-  in-use-same =
-      index-same _ _ _ _ (capped-most (f 4) 2176) (capped-most (f 5) 2176)
-      (places-same _ _ _ _ (capped-most (f 0) 64) (capped-most (f 1) 128)
-      (lits-same _ _ _ _ (capped-most (f 0) 64) (capped-most (f 1) 128)
-      (sizes-same _ _ _ (capped-most (f 0) 64) refl)))
-      ∙ (λ i. indexOf g (capped (h 4 (omega arith) i) 2176) (capped (h 5 (omega arith) i) 2176)
-      (placesOf g (capped (h 0 (omega arith) i) 64) (capped (h 1 (omega arith) i) 128)
-      (litsOf g (capped (h 0 (omega arith) i) 64) (capped (h 1 (omega arith) i) 128)
-      (sizesOf g (capped (h 0 (omega arith) i) 64) (replicate 15241 0)))))
-
 module _ (b c : List ℕ) where
-  pub plan-same : Agree 0 60964 b c → planIn b ≡ planIn c
-  unfolding planIn
-  plan-same h = in-use-same _ _ (λ i k. agree-word (4 * i) h (omega arith) (omega arith))
-
   pub ends-same : Agree 60964 61220 b c → endsIn b ≡ endsIn c
   unfolding endsIn endsAt
   ends-same h =
@@ -86,6 +50,10 @@ module _ (b c : List ℕ) where
   pub words-same : (a n : ℕ) → Agree a (a + 4 * n) b c → wordsIn b a n ≡ wordsIn c a n
   unfolding wordsIn
   words-same a n h = filled-same _ _ 0 n (replicate n 0) (λ i k. agree-word (a + 4 * i) h (omega arith) (omega arith))
+
+  pub plan-same : Agree 0 60964 b c → planIn b ≡ planIn c
+  unfolding planIn
+  plan-same h = words-same 0 15241 h
 
   pub words-read : (a n : ℕ) → ((i : ℕ) → i < n → wordAt b (a + 4 * i) ≡ getD c i 0) → length c ≡ n → wordsIn b a n ≡ c
   unfolding wordsIn

@@ -13,7 +13,8 @@ use borrow.Author.Tests.{ltb-true, ltb-false}
 use Rattle.base.specs.Iter.{iter, pick}
 use Rattle.base.proofs.Loop.{pick-ind, pick-yes, pick-no, tested}
 use Rattle.noting.specs.Words.{capped}
-use Rattle.plan.specs.Words.{variablesOf}
+use Rattle.plan.specs.Words.{variablesOf, wordsOf}
+use Rattle.plan.proofs.Reading.{words-in}
 use Rattle.sweep.specs.Sweep.{proposedAt}
 use Rattle.judge.specs.declared.Judgement.the-variants.{Fine}
 use Rattle.judge.specs.Judge.{judgedOf}
@@ -25,11 +26,13 @@ use Rattle.recorded.specs.Recorded.{holding, newest, recorded}
 use Rattle.recorded.proofs.Recording.{reasons-eq}
 use Rattle.graph_division.specs.Calls.{withNoted, withJudged}
 use Rattle.lent.specs.Lent.{stateOf}
-use Rattle.byte_calls.specs.Bytes.{wordAt, longAt, putWord, putLong, putWords}
-use Rattle.byte_calls.specs.Layout.{planIn, endsIn, wordsIn, tabOf, reasonIn, reasonsIn, stateIn}
+use Rattle.base.specs.Bytes.{wordAt, longAt, putWord, putLong, putWords}
+use Rattle.byte_calls.specs.Layout.{planIn, endsIn, tabOf, reasonIn, reasonsIn, stateIn}
+use Rattle.base.specs.Bytes.{wordsIn}
 use Rattle.byte_calls.specs.Stores.{putReason, putReasons, putLast, putNoted}
-use Rattle.byte_calls.proofs.Filling.{capped-most, putLong-length, putReason-length, putReasons-length, putLast-length, putWord-length, putWords-length, iter-length}
-use Rattle.byte_calls.proofs.Agreeing.{Agree, agree-word, agree-long, agree-then, agree-part, putWord-agrees, putWord-in, putLong-agrees, putLong-in, putWords-agrees, putWords-in}
+use Rattle.byte_calls.proofs.Filling.{capped-most, putReason-length, putReasons-length, putLast-length}
+use Rattle.base.proofs.Bytes.{putLong-length, putWord-length, putWords-length, iter-length}
+use Rattle.base.proofs.Bytes.{Agree, agree-word, agree-long, agree-then, agree-part, putWord-agrees, putWord-in, putLong-agrees, putLong-in, putWords-agrees, putWords-in}
 use Rattle.byte_calls.proofs.Standing.{plan-same, ends-same, words-same, words-read, tabOf-length, tabOf-at, reasons-same}
 
 abbrev none : Recorded
@@ -171,6 +174,13 @@ module _ (left : List ℕ) (len : ℕ) (b : List ℕ) where
   unfolding putLast
   last-read small r s = words-read (putWords 62764 left 260 (putWord 62756 (len % 4294967296) b)) left 62764 260
       (λ i k. putWords-in 62764 left (putWord 62756 (len % 4294967296) b) small 260 i k (omega (arith, putWord-length 62756 (len % 4294967296) b))) r
+
+-- the plan is as it was once the list is stored
+pub plan-after-last : (left : List ℕ) (len : ℕ) (b : List ℕ) → 133440 ≤ length b → wordsOf (putLast left len b) ≡ planIn b
+unfolding planIn
+plan-after-last left len b r =
+    words-in (putLast left len b) (omega (arith, putLast-length left len b))
+    ∙ words-same (putLast left len b) b 0 15241 (last-agrees left len b 0 60964 (inl (omega arith)))
 
 -- an analysis is accepted
 module _ (ws words left noted : List ℕ) (len : ℕ) (b : List ℕ) where

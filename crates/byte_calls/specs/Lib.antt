@@ -1,4 +1,3 @@
-pub mod Bytes
 pub mod Layout
 pub mod Stores
 pub mod Codes
@@ -6,3 +5,4 @@ pub mod Host
 pub mod Build
 pub mod After
 pub mod Numbers
+pub mod Check

@@ -5,7 +5,7 @@ use lib.Dec.{ltb}
 use lib.IntN.{ℤ, pos, negsuc}
 use lib.ListN.{set, replicate}
 use Rattle.base.specs.Iter.{iter, pick}
-use Rattle.byte_calls.specs.Bytes.{wordAt}
+use Rattle.base.specs.Bytes.{wordAt}
 
 -- a word of 32 bits as a number with a sign
 unfoldable pub signedOf : ℕ → ℤ

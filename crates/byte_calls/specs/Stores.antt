@@ -10,7 +10,7 @@ use Rattle.undo_log.specs.declared.Cursor.{Cursor}
 use Rattle.plan.specs.Words.{variablesOf}
 use Rattle.noting.specs.Words.{capped}
 use Rattle.sweep.specs.Sweep.{proposedAt}
-use Rattle.byte_calls.specs.Bytes.{putWord, putLong, putHalves, putWords, putLongs}
+use Rattle.base.specs.Bytes.{putWord, putLong, putHalves, putWords, putLongs}
 
 -- the state's bytes are as many as before, and those past the layout stay
 pub record BytesKept (before after : List ℕ) : Type 0 where

@@ -3,7 +3,6 @@ use crate::codes::code_of;
 use crate::codes::given_by;
 use crate::decode::decode;
 use crate::decode::no_lits;
-use crate::decode::no_plan;
 use crate::decode::no_records;
 use crate::decode::read_edges;
 use crate::decode::room_of;
@@ -19,7 +18,6 @@ use lent::Done;
 use lists::no_list;
 use noting::Noted;
 use noting::no_notes;
-use plan::Plan;
 use reasons::no_words;
 use undo_log::Cursor;
 ghost use mathlib.Core.Path.{_≡_};
@@ -29,22 +27,16 @@ ghost use lib.ListN.{length};
 ghost use mathlib.Core.Bool.{true, false};
 ghost use Rattle.lent.specs.Lent.{stateAfter};
 ghost use Rattle.graph_division.specs.Answers.{isRefused};
-ghost use Rattle.byte_calls.specs.Layout.{planIn, endsIn, wordsIn, stateIn, cursorIn, listIn, logIn};
+ghost use Rattle.byte_calls.specs.Layout.{planIn, endsIn, stateIn, cursorIn, listIn, logIn};
+ghost use Rattle.base.specs.Bytes.{wordsIn};
 ghost use Rattle.byte_calls.specs.Stores.{BytesKept};
 ghost use Rattle.byte_calls.specs.Host.{AfterOf, leftWith, leftBy, leftOf, propagatedIn, back, backBy, undoneIn};
 ghost use Rattle.graph_division.specs.Calls.{undone};
 
 // The state's words that a call has changed.
-fn store_state(
-    state: &mut [u8],
-    plan: &Plan,
-    noted: &[u32],
-    proposals: &[u64],
-    words: &[u32],
-    done: Done,
-)
+fn store_state(state: &mut [u8], noted: &[u32], proposals: &[u64], words: &[u32], done: Done)
     requires { ⌜ (133440 ≤ length (now state)) × (length (now noted) ≡ 384) × (length (now proposals) ≡ 8704) × (length (now words) ≡ 260) ⌝ }
-    ensures { λ _. ⌜ (now (plan .entry) ≡ planIn (now (state .entry)) → stateAfter (stateIn (now (state .entry))) (now (noted .entry)) (now (proposals .entry)) (now (words .entry)) done .«last_len» < 4294967296 →
+    ensures { λ _. ⌜ (stateAfter (stateIn (now (state .entry))) (now (noted .entry)) (now (proposals .entry)) (now (words .entry)) done .«last_len» < 4294967296 →
         stateIn (now (state .exit)) ≡ stateAfter (stateIn (now (state .entry))) (now (noted .entry)) (now (proposals .entry)) (now (words .entry)) done) ⌝ }
     ensures { λ _. ⌜ BytesKept (now (state .entry)) (now (state .exit)) ⌝ }
 {
@@ -52,7 +44,7 @@ fn store_state(
     let len = done.len;
     if judged {
         store_last(state, words, len);
-        store_reasons(state, plan, proposals);
+        store_reasons(state, proposals);
         store_noted(state, noted);
         return;
     }
@@ -62,7 +54,6 @@ fn store_state(
 // What the call changed is written back, unless it is refused.
 pub(crate) fn finish(
     state: &mut [u8],
-    plan: &Plan,
     noted: &[u32],
     proposals: &[u64],
     words: &[u32],
@@ -80,7 +71,7 @@ pub(crate) fn finish(
         leftBy (done .answer) «before» (done .cursor) [] (now (lits .entry)) (now (records .entry))
         (now (list .entry)) (now (log .entry)) (now (cursor .entry)) ⌝ }
     ensures { λ _. ⌜ (isRefused (done .answer) ≡ true → now (state .exit) ≡ now (state .entry)) ⌝ }
-    ensures { λ _. ⌜ (isRefused (done .answer) ≡ false → now (plan .entry) ≡ planIn (now (state .entry)) → stateAfter (stateIn (now (state .entry))) (now (noted .entry)) (now (proposals .entry)) (now (words .entry)) done .«last_len» < 4294967296 →
+    ensures { λ _. ⌜ (isRefused (done .answer) ≡ false → stateAfter (stateIn (now (state .entry))) (now (noted .entry)) (now (proposals .entry)) (now (words .entry)) done .«last_len» < 4294967296 →
         stateIn (now (state .exit)) ≡ stateAfter (stateIn (now (state .entry))) (now (noted .entry)) (now (proposals .entry)) (now (words .entry)) done) ⌝ }
     ensures { λ _. ⌜ BytesKept (now (state .entry)) (now (state .exit)) ⌝ }
 {
@@ -88,7 +79,7 @@ pub(crate) fn finish(
     if is_refused(answer) {
         return code_of(answer);
     }
-    store_state(state, plan, noted, proposals, words, done);
+    store_state(state, noted, proposals, words, done);
     store_list(list, lits, given_by(answer));
     let after = done.cursor;
     store_log(log, records, before.used, after.used);
@@ -99,7 +90,6 @@ pub(crate) fn finish(
 // The literal is notified over the decoded words, where lits and records have as many entries as the list and the log.
 fn notify(
     state: &mut [u8],
-    plan: &Plan,
     edges: Edges,
     noted: &mut Noted,
     lits: &mut [u32],
@@ -112,7 +102,7 @@ fn notify(
     lit: i32,
     num_pending_propagations: i32,
 ) -> i32
-    requires { ⌜ (133440 ≤ length (now state)) × (now plan ≡ planIn (now state)) × (edges ≡ endsIn (now state)) × (now noted ≡ wordsIn (now state) 61220 384)
+    requires { ⌜ (133440 ≤ length (now state)) × (edges ≡ endsIn (now state)) × (now noted ≡ wordsIn (now state) 61220 384)
         × (now lits ≡ listIn (now list)) × («before» ≡ cursorIn (now cursor)) × (now records ≡ logIn («before») (now log)) × (8 ≤ length (now cursor)) ⌝ }
     ensures { λ r. ⌜ leftWith r (now (table .exit)) (now (list .exit)) (now (log .exit)) (now (cursor .exit))
         ≡ leftOf (cursorIn (now (cursor .entry))) (propagatedIn (now (state .entry)) (now (table .entry)) (now (list .entry)) (now (log .entry)) (now (cursor .entry)) lit «num_pending_propagations») (now (list .entry)) (now (log .entry)) (now (cursor .entry)) ⌝ }
@@ -121,7 +111,7 @@ fn notify(
     let mut proposals = no_words();
     let mut words = no_list();
     let done = lent::propagate::propagate(
-        plan,
+        state,
         edges,
         noted,
         &mut proposals,
@@ -135,7 +125,6 @@ fn notify(
     );
     finish(
         state,
-        plan,
         noted,
         &proposals,
         &words,
@@ -163,17 +152,15 @@ pub(crate) fn propagate(
         ≡ leftOf (cursorIn (now (cursor .entry))) (propagatedIn (now (state .entry)) (now (table .entry)) (now (list .entry)) (now (log .entry)) (now (cursor .entry)) lit «num_pending_propagations») (now (list .entry)) (now (log .entry)) (now (cursor .entry)) ⌝ }
     ensures { λ _. ⌜ AfterOf false (propagatedIn (now (state .entry)) (now (table .entry)) (now (list .entry)) (now (log .entry)) (now (cursor .entry)) lit «num_pending_propagations» .outcome) (now (state .entry)) (now (state .exit)) ⌝ }
 {
-    let mut plan = no_plan();
     let mut noted = no_notes();
     let mut records = no_records();
-    let before = decode(state, log, cursor, &mut plan, &mut noted, &mut records);
+    let before = decode(state, log, cursor, &mut noted, &mut records);
     let edges = read_edges(state);
     let k = room_of(log.len() / 8);
     let mut lits = no_lits();
     let n = room_of(list.len() / 2);
     notify(
         state,
-        &plan,
         edges,
         &mut noted,
         &mut lits[0..n],
@@ -191,7 +178,6 @@ pub(crate) fn propagate(
 // The newest notification is taken back over the decoded words.
 fn take_back<'a>(
     state: &mut [u8],
-    plan: &'a Plan,
     edges: Edges,
     noted: &mut Noted,
     records: &'a [u64],
@@ -199,11 +185,11 @@ fn take_back<'a>(
     before: Cursor,
     lit: i32,
 ) -> i32
-    requires { ⌜ (133440 ≤ length (now state)) × (8 ≤ length (now cursor)) × (now plan ≡ planIn (now state)) × (edges ≡ endsIn (now state)) × (now noted ≡ wordsIn (now state) 61220 384) ⌝ }
+    requires { ⌜ (133440 ≤ length (now state)) × (8 ≤ length (now cursor)) × (edges ≡ endsIn (now state)) × (now noted ≡ wordsIn (now state) 61220 384) ⌝ }
     ensures { λ r. ⌜ back r (now (cursor .exit)) ≡ backBy (undone (stateIn (now (state .entry))) «before» lit (now (records .entry))) (now (cursor .entry)) ⌝ }
     ensures { λ _. ⌜ AfterOf false (undone (stateIn (now (state .entry))) «before» lit (now (records .entry))) (now (state .entry)) (now (state .exit)) ⌝ }
 {
-    let done = lent::undo::undo(plan, edges, noted, records, before, lit);
+    let done = lent::undo::undo(state, edges, noted, records, before, lit);
     let answer = done.answer;
     if is_refused(answer) {
         return code_of(answer);
@@ -219,15 +205,13 @@ pub(crate) fn undo(state: &mut [u8], log: &[u8], cursor: &mut [u8], lit: i32) ->
     ensures { λ r. ⌜ back r (now (cursor .exit)) ≡ backBy (undoneIn (now (state .entry)) (now (log .entry)) (now (cursor .entry)) lit) (now (cursor .entry)) ⌝ }
     ensures { λ _. ⌜ AfterOf false (undoneIn (now (state .entry)) (now (log .entry)) (now (cursor .entry)) lit) (now (state .entry)) (now (state .exit)) ⌝ }
 {
-    let mut plan = no_plan();
     let mut noted = no_notes();
     let mut records = no_records();
-    let before = decode(state, log, cursor, &mut plan, &mut noted, &mut records);
+    let before = decode(state, log, cursor, &mut noted, &mut records);
     let edges = read_edges(state);
     let k = room_of(log.len() / 8);
     take_back(
         state,
-        &plan,
         edges,
         &mut noted,
         &records[0..k],

@@ -5,7 +5,6 @@ use crate::bytes::word_at;
 use crate::changes::finish;
 use crate::decode::decode;
 use crate::decode::no_lits;
-use crate::decode::no_plan;
 use crate::decode::no_records;
 use crate::decode::read_edges;
 use crate::decode::room_of;
@@ -15,7 +14,6 @@ use graph_division::is_consistent;
 use lists::no_list;
 use noting::Noted;
 use noting::no_notes;
-use plan::Plan;
 use reasons::no_words;
 use undo_log::Cursor;
 ghost use mathlib.Core.Path.{_≡_};
@@ -25,8 +23,9 @@ ghost use lib.Dec.{eqb};
 ghost use lib.ListN.{length};
 ghost use Rattle.graph_division.specs.Answers.{isConsistent};
 ghost use Rattle.lent.specs.Lent.{withInitialized};
-ghost use Rattle.byte_calls.specs.Bytes.{wordAt};
-ghost use Rattle.byte_calls.specs.Layout.{planIn, endsIn, wordsIn, stateIn, cursorIn, listIn, logIn};
+ghost use Rattle.base.specs.Bytes.{wordAt};
+ghost use Rattle.byte_calls.specs.Layout.{planIn, endsIn, stateIn, cursorIn, listIn, logIn};
+ghost use Rattle.base.specs.Bytes.{wordsIn};
 ghost use Rattle.byte_calls.specs.Stores.{BytesKept};
 ghost use Rattle.byte_calls.specs.Host.{AfterOf, leftWith, leftOf, initializedIn};
 
@@ -56,7 +55,6 @@ fn store_initialized(state: &mut [u8], answer: Answer)
 // The initialise over the decoded words, where lits and records have as many entries as the list and the log, and last is the list last left.
 fn begin(
     state: &mut [u8],
-    plan: &Plan,
     edges: Edges,
     noted: &mut Noted,
     last: &mut [u32],
@@ -68,7 +66,7 @@ fn begin(
     cursor: &mut [u8],
     before: Cursor,
 ) -> i32
-    requires { ⌜ (133440 ≤ length (now state)) × (now plan ≡ planIn (now state)) × (edges ≡ endsIn (now state)) × (now noted ≡ wordsIn (now state) 61220 384) × (now last ≡ wordsIn (now state) 62764 260)
+    requires { ⌜ (133440 ≤ length (now state)) × (edges ≡ endsIn (now state)) × (now noted ≡ wordsIn (now state) 61220 384) × (now last ≡ wordsIn (now state) 62764 260)
         × (now lits ≡ listIn (now list)) × («before» ≡ cursorIn (now cursor)) × (now records ≡ logIn («before») (now log)) × (8 ≤ length (now cursor)) ⌝ }
     ensures { λ r. ⌜ leftWith r (now (table .exit)) (now (list .exit)) (now (log .exit)) (now (cursor .exit))
         ≡ leftOf (cursorIn (now (cursor .entry))) (initializedIn (now (state .entry)) (now (table .entry)) (now (list .entry)) (now (log .entry)) (now (cursor .entry))) (now (list .entry)) (now (log .entry)) (now (cursor .entry)) ⌝ }
@@ -78,7 +76,7 @@ fn begin(
     let len = word_at(state, 62756) as usize;
     let initialized = is_initialized(state);
     let done = lent::initialize::initialize(
-        plan,
+        state,
         edges,
         noted,
         &mut words,
@@ -93,7 +91,6 @@ fn begin(
     let answer = done.answer;
     let r = finish(
         state,
-        plan,
         noted,
         &words,
         last,
@@ -121,10 +118,9 @@ pub(crate) fn initialize(
         ≡ leftOf (cursorIn (now (cursor .entry))) (initializedIn (now (state .entry)) (now (table .entry)) (now (list .entry)) (now (log .entry)) (now (cursor .entry))) (now (list .entry)) (now (log .entry)) (now (cursor .entry)) ⌝ }
     ensures { λ _. ⌜ AfterOf false (initializedIn (now (state .entry)) (now (table .entry)) (now (list .entry)) (now (log .entry)) (now (cursor .entry)) .outcome) (now (state .entry)) (now (state .exit)) ⌝ }
 {
-    let mut plan = no_plan();
     let mut noted = no_notes();
     let mut records = no_records();
-    let before = decode(state, log, cursor, &mut plan, &mut noted, &mut records);
+    let before = decode(state, log, cursor, &mut noted, &mut records);
     let edges = read_edges(state);
     let mut last = no_list();
     read_words(state, 62764, 0, 260, &mut last);
@@ -133,7 +129,6 @@ pub(crate) fn initialize(
     let n = room_of(list.len() / 2);
     begin(
         state,
-        &plan,
         edges,
         &mut noted,
         &mut last,

@@ -4,6 +4,7 @@ mod build;
 mod bytes;
 pub mod calls;
 mod changes;
+pub mod check;
 mod codes;
 mod decode;
 mod fetch;

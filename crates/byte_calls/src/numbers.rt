@@ -5,7 +5,7 @@ ghost use Prim.Native.Nat.{ℕ, _+_, _*_, _<_, _≤_};
 ghost use lib.IntN.{negsuc};
 ghost use lib.ListN.{length, getD, set};
 ghost use Rattle.base.specs.Iter.{iter};
-ghost use Rattle.byte_calls.specs.Bytes.{wordAt};
+ghost use Rattle.base.specs.Bytes.{wordAt};
 ghost use Rattle.byte_calls.specs.Numbers.{signedOf, intAt};
 
 fn byte_at(bytes: &[u8], at: usize) -> u32

@@ -2,7 +2,6 @@
 // are the page's.
 use crate::codes::code_of;
 use crate::decode::decode;
-use crate::decode::no_plan;
 use crate::decode::no_records;
 use crate::decode::read_edges;
 use crate::decode::room_of;
@@ -17,12 +16,11 @@ pub(crate) fn page(state: &[u8], log: &[u8], cursor: &[u8], buffer: &mut [u8]) -
     ensures { λ r. ⌜ back r (now (buffer .exit)) ≡
         pageIn (now (state .entry)) (now (log .entry)) (now (cursor .entry)) (now (buffer .entry)) ⌝ }
 {
-    let mut plan = no_plan();
     let mut noted = no_notes();
     let mut records = no_records();
-    let before = decode(state, log, cursor, &mut plan, &mut noted, &mut records);
+    let before = decode(state, log, cursor, &mut noted, &mut records);
     let edges = read_edges(state);
     let k = room_of(log.len() / 8);
-    let answer = lent::page::page(&plan, edges, &noted, &records[0..k], before, buffer);
+    let answer = lent::page::page(state, edges, &noted, &records[0..k], before, buffer);
     code_of(answer)
 }

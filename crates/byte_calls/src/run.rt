@@ -2,7 +2,6 @@
 // written.
 use crate::decode::capped;
 use crate::decode::decode;
-use crate::decode::no_plan;
 use crate::decode::no_records;
 use crate::decode::read_edges;
 use crate::decode::room_of;
@@ -23,13 +22,12 @@ fn find_run(state: &[u8], log: &[u8], cursor: &[u8], from: i32, to: i32, out: &m
         runFetched (stateIn (now (state .entry))) (cursorIn (now (cursor .entry)))
         (logIn (cursorIn (now (cursor .entry))) (now (log .entry))) from to (now (out .entry)) ⌝ }
 {
-    let mut plan = no_plan();
     let mut noted = no_notes();
     let mut records = no_records();
-    let before = decode(state, log, cursor, &mut plan, &mut noted, &mut records);
+    let before = decode(state, log, cursor, &mut noted, &mut records);
     let edges = read_edges(state);
     let k = room_of(log.len() / 8);
-    lent::run::run(&plan, edges, &noted, &records[0..k], before, from, to, out)
+    lent::run::run(state, edges, &noted, &records[0..k], before, from, to, out)
 }
 
 fn give_run(

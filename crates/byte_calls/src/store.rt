@@ -5,11 +5,11 @@ use crate::bytes::write_halves;
 use crate::bytes::write_longs;
 use crate::bytes::write_words;
 use crate::decode::capped;
-use plan::Plan;
 use undo_log::Cursor;
 ghost use mathlib.Core.Path.{_≡_};
 ghost use Prim.Native.Nat.{ℕ, _+_, _-_, _*_, _<_, _≤_};
 ghost use lib.ListN.{length, getD};
+ghost use Rattle.plan.specs.Words.{wordsOf};
 ghost use Rattle.graph_division.specs.Calls.{withNoted};
 ghost use Rattle.byte_calls.specs.Layout.{stateIn};
 ghost use Rattle.byte_calls.specs.Stores.{putReason, putReasons, putLast, putNoted, putCursor, putList, putLog};
@@ -25,15 +25,15 @@ fn store_reason(state: &mut [u8], proposals: &[u64], p: usize)
     }
 }
 
-pub(crate) fn store_reasons(state: &mut [u8], plan: &Plan, proposals: &[u64])
+pub(crate) fn store_reasons(state: &mut [u8], proposals: &[u64])
     requires { ⌜ (133440 ≤ length (now state)) × (length (now proposals) ≡ 8704) ⌝ }
-    ensures { λ _. ⌜ now (state .exit) ≡ putReasons (now (plan .entry)) (now (proposals .entry)) (now (state .entry)) ⌝ }
+    ensures { λ _. ⌜ now (state .exit) ≡ putReasons (wordsOf (now (state .entry))) (now (proposals .entry)) (now (state .entry)) ⌝ }
 {
-    let n = capped(2 * (plan::num_variables(plan) as usize), 4352);
-    let mut p = 0;
+    let n = capped(2 * (plan::num_variables(state) as usize), 4352);
+    let mut p = sweep::next_proposed(proposals, 0, n);
     while p < n {
         store_reason(state, proposals, p);
-        p += 1;
+        p = sweep::next_proposed(proposals, p + 1, n);
     }
 }
 

@@ -8,7 +8,9 @@ use native.Mathlib.Omega.{arith}
 use lib.IntN.{ℤ}
 use Rattle.division.specs.Plan.{Proper, Plain}
 use Rattle.division.specs.Noting.{In}
+use Rattle.plan.specs.Check.{planBad}
 use Rattle.plan.proofs.Abstract.{proper-plan}
+use Rattle.plan.proofs.Passes.{passes}
 use Rattle.builder.specs.Given.{Given}
 use Rattle.builder.proofs.Built.{new-proper}
 use Rattle.noting.proofs.Logged.{known-small}
@@ -16,8 +18,8 @@ use Rattle.refusals.proofs.Known.{known-is}
 use Rattle.calls.specs.Calls as calls
 use Rattle.graph_division.specs.declared.Answer.the-variants.{Refused}
 use Rattle.graph_division.specs.New.{built}
-use Rattle.graph_division.specs.Runs.{Request}
-use Rattle.simulation.proofs.Running.{fresh-represents}
+use Rattle.graph_division.specs.Runs.{Request, after}
+use Rattle.simulation.proofs.Running.{fresh-represents, run-represents}
 use Rattle.claims.specs.Whole.{writtenOf}
 use Rattle.claims.specs.Conditions.{builtStart, builtPlan, replyTo, outcomeTo, Condition1, Condition2, Condition3}
 use Rattle.claims.specs.Runs.{RunsBetween}
@@ -68,6 +70,11 @@ module _ (vs : List ℤ) (n : ℕ) (es : List ℤ) (m : ℕ) (sameSize extraWall
   -- document 02, request 5: "under either option"
   pub nothing-standing-proposed : NothingStandingProposed (builtStart vs n es m sameSize extraWalls) (builtPlan vs n es m sameSize extraWalls)
   nothing-standing-proposed = standing.nothing-standing-proposed _ _ at-start proper-built
+
+  -- after any list of requests the plan passes its own test, which is a call of its own
+  pub still-passes : (qs : List Request) →
+      let k = after (builtStart vs n es m sameSize extraWalls) qs in planBad (k .state .plan) (k .state .edges .ends) ≡ false
+  still-passes qs = passes _ _ (run-represents vs n es m sameSize extraWalls z qs .represents .represents .proper)
 
   -- "Verdicts turned away": a call's refusal has a number of that table
   pub refusal-range : (before : List Request) (q : Request) (m′ : ℕ) →

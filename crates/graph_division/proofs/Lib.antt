@@ -1,1 +1,2 @@
 pub mod NoPlan
+pub mod Lending

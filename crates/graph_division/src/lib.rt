@@ -106,7 +106,8 @@ impl GraphDivision {
         let words = builder::build::plan_words(vertices, n, edges, m, options);
         let plan = words.words;
         let mut noted = no_notes();
-        noting::fresh(&plan, &mut noted);
+        let held = plan::bytes::bytes_of(&plan);
+        noting::fresh(&held.bytes, &mut noted);
         let table = edge_table::hold(builder::build::edge_table(edges, m));
         Built {
             refusal: refusal,

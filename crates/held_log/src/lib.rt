@@ -1,8 +1,8 @@
 // The calls for a caller without a walk of its own: the undo log, records and cursor, by value. Each lends the two to the call
 // on records.
 ghost use mathlib.Core.Path.{_≡_};
-ghost use Rattle.graph_division.specs.Calls.{called, fetched, propagated, undone, reasonFetched, lastFetched};
-ghost use Rattle.graph_division.specs.Initialize.{initialized};
+ghost use Rattle.graph_division.specs.Calls.{called, fetched};
+ghost use Rattle.record_calls.specs.Checked.{checkedInitialized, checkedPropagated, checkedUndone, checkedReason, checkedLast};
 ghost use Rattle.held_log.specs.Held.{empty, words, outcomeOf};
 use graph_division::Answer;
 use graph_division::GraphDivision;
@@ -45,7 +45,7 @@ impl UndoLog {
 
 // Notifies, in rising order, the plan's literals that are true in the table on entry, and analyzes once more.
 pub fn initialize(s: GraphDivision, log: UndoLog, table: &mut [u8], list: &mut [u32]) -> Held
-    ensures { λ r. ⌜ called (outcomeOf r) (now (table .exit)) (now (list .exit)) (words (r .log)) ≡ initialized s (log .cursor) (now (table .entry)) (words log) (now (list .entry)) ⌝ }
+    ensures { λ r. ⌜ called (outcomeOf r) (now (table .exit)) (now (list .exit)) (words (r .log)) ≡ checkedInitialized s (log .cursor) (now (table .entry)) (words log) (now (list .entry)) ⌝ }
 {
     let mut records = log.records;
     let mut cursor = log.cursor;
@@ -66,7 +66,7 @@ pub fn propagate(
     lit: i32,
     num_pending_propagations: i32,
 ) -> Held
-    ensures { λ r. ⌜ called (outcomeOf r) (now (table .exit)) (now (list .exit)) (words (r .log)) ≡ propagated s (log .cursor) lit «num_pending_propagations» (now (table .entry)) (now (list .entry)) (words log) ⌝ }
+    ensures { λ r. ⌜ called (outcomeOf r) (now (table .exit)) (now (list .exit)) (words (r .log)) ≡ checkedPropagated s (log .cursor) lit «num_pending_propagations» (now (table .entry)) (now (list .entry)) (words log) ⌝ }
 {
     let mut records = log.records;
     let mut cursor = log.cursor;
@@ -88,7 +88,7 @@ pub fn propagate(
 
 // Takes back the newest notification, which must be the literal's. The records stay as they are.
 pub fn undo(s: GraphDivision, log: UndoLog, lit: i32) -> Held
-    ensures { λ r. ⌜ (outcomeOf r ≡ undone s (log .cursor) lit (words log)) × (r .log .records ≡ log .records) ⌝ }
+    ensures { λ r. ⌜ (outcomeOf r ≡ checkedUndone s (log .cursor) lit (words log)) × (r .log .records ≡ log .records) ⌝ }
 {
     let records = log.records;
     let mut cursor = log.cursor;
@@ -102,7 +102,7 @@ pub fn undo(s: GraphDivision, log: UndoLog, lit: i32) -> Held
 
 // A literal's reason: the list of what an analysis recorded for it.
 pub fn calc_reason(s: GraphDivision, log: UndoLog, lit: i32, buffer: &mut [u32]) -> Answer
-    ensures { λ r. ⌜ fetched r (now (buffer .exit)) ≡ reasonFetched s (log .cursor) (words log) lit (now (buffer .entry)) ⌝ }
+    ensures { λ r. ⌜ fetched r (now (buffer .exit)) ≡ checkedReason s (log .cursor) (words log) lit (now (buffer .entry)) ⌝ }
 {
     let records = log.records;
     let cursor = log.cursor;
@@ -111,7 +111,7 @@ pub fn calc_reason(s: GraphDivision, log: UndoLog, lit: i32, buffer: &mut [u32])
 
 // The list last left: empty before any analysis and after a consistent notification.
 pub fn calc_last(s: GraphDivision, log: UndoLog, buffer: &mut [u32]) -> Answer
-    ensures { λ r. ⌜ fetched r (now (buffer .exit)) ≡ lastFetched s (log .cursor) (words log) (now (buffer .entry)) ⌝ }
+    ensures { λ r. ⌜ fetched r (now (buffer .exit)) ≡ checkedLast s (log .cursor) (words log) (now (buffer .entry)) ⌝ }
 {
     let records = log.records;
     let cursor = log.cursor;

@@ -6,6 +6,7 @@ ghost use Rattle.byte_calls.specs.Host.{propagatedIn, hostUndone, undoneIn, hos
 ghost use Rattle.byte_calls.specs.Host.{hostPage, buildCode};
 ghost use Rattle.byte_calls.specs.After.{Leaves};
 ghost use Rattle.byte_calls.specs.Build.{BuiltIn};
+ghost use Rattle.byte_calls.specs.Check.{checkCode};
 ghost use Rattle.byte_calls.specs.Numbers.{numbersIn};
 
 // The bytes hold the numbers of n vertices and m edges as builder::input says, 4 bytes each. An option other than 0 counts as 1.
@@ -118,6 +119,14 @@ pub extern "C" fn zuntjev_run(
         hostRun (now (state .entry)) (now (log .entry)) (now (cursor .entry)) from to (now (buffer .entry)) ⌝ }
 {
     byte_calls::calls::run(state, log, cursor, from, to, buffer)
+}
+
+// The plan's own test, of the state alone: 0, or -7 where its plan is none that zuntjev_build gives. The calls do not make it.
+#[no_mangle]
+pub extern "C" fn zuntjev_check(state: &[u8]) -> i32
+    ensures { λ r. ⌜ r ≡ checkCode (now (state .entry)) ⌝ }
+{
+    byte_calls::check::check(state)
 }
 
 // The page of the decided regions goes to the buffer, a line of 39 bytes for each.

@@ -1,6 +1,7 @@
 -- The conditions of the order, of the C host's calls, from bytes that `zuntjev_build` built.
 --     host-given          the plan of these bytes is the one that was given, number by number
 --     host-conditions     conditions 1 to 3 of any list of calls on them
+--     host-checked        after any list of calls `zuntjev_check` answers 0
 use mathlib.Core.Path.{_≡_, refl, sym, ap, ap₂, subst, _∙_}
 use mathlib.Core.Bool.{Bool, true, false, not, true≢false}
 use mathlib.Core.List.{List, []}
@@ -9,7 +10,7 @@ use native.Mathlib.Omega.{arith}
 use lib.Dec.{eqb, ltb}
 use lib.IntN.{ℤ, pos, negsuc, negℤ}
 use lib.ListN.{length, replicate}
-use borrow.Author.Tests.{eq-eqb, eqb-false, eqb-true}
+use borrow.Author.Tests.{eq-eqb, eqb-false, eqb-true, le-ltb}
 use Rattle.base.specs.Iter.{pick}
 use Rattle.base.specs.Range.{inRange}
 use Rattle.base.proofs.Loop.{pick-yes, pick-no, tested}
@@ -17,10 +18,12 @@ use Rattle.noting.specs.Words.{capped}
 use Rattle.division.specs.Plan.{Plan}
 use Rattle.division.specs.Noting.{In}
 use Rattle.plan.specs.Plan.{planOf}
+use Rattle.plan.specs.Check.{planBad}
 use Rattle.builder.specs.Input.{refusal}
 use Rattle.builder.specs.Given.{Given}
 use Rattle.calls.specs.Calls as calls
 use Rattle.graph_division.specs.declared.Answer.the-variants.{Refused}
+use Rattle.graph_division.specs.declared.GraphDivision.{GraphDivision}
 use Rattle.graph_division.specs.New.{built}
 use Rattle.graph_division.specs.Runs.{Request, Kept, kept, reply, after}
 use Rattle.simulation.specs.Start.{justBuilt}
@@ -31,14 +34,15 @@ use Rattle.claims.specs.Crossed.{CrossedConflicts}
 use Rattle.claims.specs.Pages.{Pages}
 use Rattle.claims.specs.Standing.{NothingStandingProposed}
 use Rattle.claims.proofs.Built as claims
-use Rattle.byte_calls.specs.Bytes.{wordAt}
+use Rattle.base.specs.Bytes.{wordAt}
 use Rattle.byte_calls.specs.Codes.{fitted}
-use Rattle.byte_calls.specs.Layout.{stateIn, cursorIn}
+use Rattle.byte_calls.specs.Layout.{planIn, endsIn, stateIn, cursorIn}
 use Rattle.byte_calls.specs.Numbers.{numbersIn}
 use Rattle.byte_calls.specs.Host.{short, buildCode}
 use Rattle.byte_calls.specs.Build.{isOn, buildRefused, BuiltIn}
+use Rattle.byte_calls.specs.Check.{checkCode}
 use Rattle.byte_calls.proofs.Building.{not-refused}
-use Rattle.host_claims.specs.HostRuns.{keptIn, Said, HostMade, AllHostMade, HostAnswers, Tells, asksPage, valuesAt, HostConditions}
+use Rattle.host_claims.specs.HostRuns.{keptIn, LentFor, Said, HostMade, AllHostMade, HostAnswers, Tells, asksPage, valuesAt, HostConditions}
 use Rattle.host_claims.proofs.Signed.{down, down-negated}
 use Rattle.host_claims.proofs.Runs.{host-made, host-runs, host-fits}
 use Rattle.host_claims.proofs.Reading.{host-reads}
@@ -133,6 +137,19 @@ module _ (vs : List ℤ) (n : ℕ) (es : List ℤ) (m : ℕ) (a b : ℤ) (before
   third-condition : a ≡ pos 0 → b ≡ pos 0 → Condition3 start (planOf (stateIn state .plan) (stateIn state .edges .ends))
   third-condition e f = of-start Condition3 (off-condition vs n es m (isOn a) (isOn b) (ap isOn e ∙ off) (ap isOn f ∙ off) accepted)
 
+  passing : (qs : List Request) → planBad (after start qs .state .plan) (after start qs .state .edges .ends) ≡ false
+  passing = of-start (λ k d. (qs : List Request) → planBad (after k qs .state .plan) (after k qs .state .edges .ends) ≡ false)
+      (claims.still-passes vs n es m (isOn a) (isOn b) accepted)
+
+  checking : {qs : List Request} {k : Kept} → AllHostMade start qs k → (bytes log′ cursor : List ℕ) → LentFor k bytes log′ cursor →
+      checkCode bytes ≡ pos 0
+  unfolding checkCode stateIn
+  checking {qs} all bytes log′ cursor lent =
+      let is : stateIn bytes ≡ after start qs .state = ap (λ (h : Kept). h .state) (lent .stands ∙ host-runs all) in
+      let fine : planBad (stateIn bytes .plan) (stateIn bytes .edges .ends) ≡ false =
+      subst (λ (s : GraphDivision). planBad (s .plan) (s .edges .ends) ≡ false) (sym is) (passing qs) in
+      pick-no _ _ (le-ltb (length bytes) 133440 (lent .state-long)) ∙ pick-no _ _ fine
+
   conditions : HostConditions a b start (planOf (stateIn state .plan) (stateIn state .edges .ends))
   conditions = record {
     answers = answered;
@@ -165,3 +182,12 @@ pub host-given : (vertices : List ℕ) (n : ℕ) (edges : List ℕ) (m : ℕ) (s
     Given (numbersIn 4288 vertices) n (numbersIn 384 edges) m (isOn sameSize) (isOn extraWalls) (stateIn state .plan) (stateIn state .edges .ends)
 host-given vertices n edges m sameSize extraWalls before state c s =
     given-in (numbersIn 4288 vertices) n (numbersIn 384 edges) m sameSize extraWalls before state [] c s
+
+-- and after any list of calls on them `zuntjev_check` answers 0 of the state's bytes
+pub host-checked : (vertices : List ℕ) (n : ℕ) (edges : List ℕ) (m : ℕ) (sameSize extraWalls : ℤ) (before state log : List ℕ) →
+    buildCode (numbersIn 4288 vertices) n (numbersIn 384 edges) m before ≡ pos 0 →
+    BuiltIn (numbersIn 4288 vertices) n (numbersIn 384 edges) m sameSize extraWalls before state →
+    {qs : List Request} {k : Kept} → AllHostMade (keptIn state (replicate 8 0) log) qs k →
+    (bytes log′ cursor : List ℕ) → LentFor k bytes log′ cursor → checkCode bytes ≡ pos 0
+host-checked vertices n edges m sameSize extraWalls before state log c s =
+    checking (numbersIn 4288 vertices) n (numbersIn 384 edges) m sameSize extraWalls before state log c s

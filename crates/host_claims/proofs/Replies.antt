@@ -30,10 +30,10 @@ use Rattle.graph_division.specs.Answers.{isRefused}
 use Rattle.byte_calls.specs.Codes.{answerCode, givenBy}
 use Rattle.byte_calls.specs.Layout.{stateIn, cursorIn, usedEntries, recordsIn, logIn, listIn}
 use Rattle.byte_calls.specs.Stores.{putList, putLog}
-use Rattle.byte_calls.specs.Bytes.{putHalves}
+use Rattle.base.specs.Bytes.{putHalves}
 use Rattle.byte_calls.specs.Host.{Left, tooShort, leftBy, leftOf, propagatedIn, hostPropagated, initializedIn, hostInitialized, Back, back, undoneIn, backOf, backBy, hostUndone, givenIn, hostReason, hostLast, hostRun, pageBack, pageIn, hostPage}
 use Rattle.byte_calls.specs.After.{Leaves}
-use Rattle.byte_calls.proofs.Filling.{putLongs-length}
+use Rattle.base.proofs.Bytes.{putLongs-length}
 use Rattle.byte_calls.proofs.Leaving.{room-length}
 use Rattle.byte_calls.proofs.ReadBack.{ReadsBack, propagate-reads-back, initialize-reads-back, undo-reads-back}
 use Rattle.host_claims.specs.HostRuns.{keptIn, tailIn, Bytes, isPage, entriesIn, bytesAfter, hostAsked}

@@ -44,7 +44,7 @@ use Rattle.graph_division.specs.Outcomes.{answerFor, answerOf}
 use Rattle.graph_division.specs.Runs.{Query, reasonFor, lastLeft, runBetween, page, Request, initialize, propagate, undo}
 use Rattle.graph_division.specs.Runs.{ask, lentList, Kept, Reply, replied, repliedFetched, asked, reply, keeping, after}
 use Rattle.claims.specs.Whole.{writtenBy, writtenOf, Whole}
-use Rattle.byte_calls.specs.Bytes.{putHalves}
+use Rattle.base.specs.Bytes.{putHalves}
 use Rattle.byte_calls.specs.Codes.{fitted, answerCode, givenBy}
 use Rattle.byte_calls.specs.Layout.{stateIn, cursorIn, logIn, listIn, bufferIn}
 use Rattle.byte_calls.specs.Stores.{putList}

@@ -3,7 +3,6 @@ use crate::Judgement;
 use edge_table::Edges;
 use lists::conflict::conflict_lits;
 use noting::Noted;
-use plan::Plan;
 use reasons::Verdict;
 use views::cells::separate_ranges;
 use views::compute::compute_view;
@@ -11,6 +10,7 @@ use walks::Listed;
 ghost use mathlib.Core.Path.{_≡_};
 ghost use Rattle.lists.specs.Conflicts.{chosenOf};
 ghost use Rattle.judge.specs.Judge.{listing, listed, judgeChosen, judgeConflict, judgeCrowded};
+ghost use Rattle.plan.specs.Words.{wordsOf};
 
 // A list that could be written is a conflict's.
 fn judge_list(r: Listed) -> Judgement
@@ -24,7 +24,7 @@ fn judge_list(r: Listed) -> Judgement
 
 // A conflict whose separate ranges are those of the first `count` of `chosen`.
 fn judge_chosen(
-    plan: &Plan,
+    plan: &[u8],
     edges: Edges,
     noted: &Noted,
     found: Verdict,
@@ -32,7 +32,7 @@ fn judge_chosen(
     count: usize,
     left: &mut [u32],
 ) -> Judgement
-    ensures { λ r. ⌜ listing r (now (left .exit)) ≡ judgeChosen (now (plan .entry)) edges (now (noted .entry)) found (chosenOf (now (chosen .entry)) count) (now (left .entry)) ⌝ }
+    ensures { λ r. ⌜ listing r (now (left .exit)) ≡ judgeChosen (wordsOf (now (plan .entry))) edges (now (noted .entry)) found (chosenOf (now (chosen .entry)) count) (now (left .entry)) ⌝ }
 {
     let r = conflict_lits(plan, edges, noted, found, chosen, count, left, 0);
     judge_list(r)
@@ -40,13 +40,13 @@ fn judge_chosen(
 
 // A conflict without separate ranges.
 pub(crate) fn judge_conflict(
-    plan: &Plan,
+    plan: &[u8],
     edges: Edges,
     noted: &Noted,
     found: Verdict,
     left: &mut [u32],
 ) -> Judgement
-    ensures { λ r. ⌜ listing r (now (left .exit)) ≡ judgeConflict (now (plan .entry)) edges (now (noted .entry)) found (now (left .entry)) ⌝ }
+    ensures { λ r. ⌜ listing r (now (left .exit)) ≡ judgeConflict (wordsOf (now (plan .entry))) edges (now (noted .entry)) found (now (left .entry)) ⌝ }
 {
     let chosen = [0u8; 64];
     judge_chosen(plan, edges, noted, found, &chosen, 0, left)
@@ -54,13 +54,13 @@ pub(crate) fn judge_conflict(
 
 // Separate ranges of a potential region that need more than it weighs.
 pub(crate) fn judge_crowded(
-    plan: &Plan,
+    plan: &[u8],
     edges: Edges,
     noted: &Noted,
     region: usize,
     left: &mut [u32],
 ) -> Judgement
-    ensures { λ r. ⌜ listing r (now (left .exit)) ≡ judgeCrowded (now (plan .entry)) edges (now (noted .entry)) region (now (left .entry)) ⌝ }
+    ensures { λ r. ⌜ listing r (now (left .exit)) ≡ judgeCrowded (wordsOf (now (plan .entry))) edges (now (noted .entry)) region (now (left .entry)) ⌝ }
 {
     let mut view = [0u32; 512];
     if compute_view(plan, edges, noted, &mut view) {

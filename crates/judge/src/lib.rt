@@ -7,11 +7,11 @@ use conflict::judge_conflict;
 use conflict::judge_crowded;
 use edge_table::Edges;
 use noting::Noted;
-use plan::Plan;
 use proposal::judge_proposals;
 use reasons::Verdict;
 ghost use mathlib.Core.Path.{_≡_};
 ghost use Rattle.judge.specs.Judge.{judgedOf, listing, hasRoom, judgeFound, judgeTold};
+ghost use Rattle.plan.specs.Words.{wordsOf};
 
 pub enum Judgement {
     Fine,
@@ -22,8 +22,8 @@ pub enum Judgement {
 }
 
 // Room for the words of all distinct literals, and for any list.
-fn has_room(plan: &Plan, proposals: &[u64], left: &[u32]) -> bool
-    ensures { λ r. ⌜ r ≡ hasRoom (now (plan .entry)) (now (proposals .entry)) (now (left .entry)) ⌝ }
+fn has_room(plan: &[u8], proposals: &[u64], left: &[u32]) -> bool
+    ensures { λ r. ⌜ r ≡ hasRoom (wordsOf (now (plan .entry))) (now (proposals .entry)) (now (left .entry)) ⌝ }
 {
     let words = 4 * (plan::num_variables(plan) as usize);
     if proposals.len() < words {
@@ -38,7 +38,7 @@ fn has_room(plan: &Plan, proposals: &[u64], left: &[u32]) -> bool
 
 // What the analysis found, by its verdict.
 fn judge_found(
-    plan: &Plan,
+    plan: &[u8],
     edges: Edges,
     noted: &Noted,
     table: &[u8],
@@ -46,7 +46,7 @@ fn judge_found(
     proposals: &[u64],
     left: &mut [u32],
 ) -> Judgement
-    ensures { λ r. ⌜ listing r (now (left .exit)) ≡ judgeFound (now (plan .entry)) edges (now (noted .entry)) (now (table .entry)) found (now (proposals .entry)) (now (left .entry)) ⌝ }
+    ensures { λ r. ⌜ listing r (now (left .exit)) ≡ judgeFound (wordsOf (now (plan .entry))) edges (now (noted .entry)) (now (table .entry)) found (now (proposals .entry)) (now (left .entry)) ⌝ }
 {
     match found {
         Verdict::Going => judge_proposals(plan, edges, noted, table, proposals, left),
@@ -69,7 +69,7 @@ fn judge_found(
 // Analyzes what is noted and judges it. The proposals' words are those of this analysis after it. Which vertex's bounds
 // cross, if any, is what applying a literal told.
 pub fn judge(
-    plan: &Plan,
+    plan: &[u8],
     edges: Edges,
     noted: &Noted,
     crossed: usize,
@@ -78,7 +78,7 @@ pub fn judge(
     left: &mut [u32],
 ) -> Judgement
     ensures { λ r. ⌜ judgedOf r (now (proposals .exit)) (now (left .exit))
-        ≡ judgeTold (now (plan .entry)) edges (now (noted .entry)) crossed (now (table .entry))
+        ≡ judgeTold (wordsOf (now (plan .entry))) edges (now (noted .entry)) crossed (now (table .entry))
         (now (proposals .entry)) (now (left .entry)) ⌝ }
 {
     if has_room(plan, proposals, left) {

@@ -6,7 +6,6 @@ use edge_table::Edges;
 use lists::and_word;
 use lists::reason_lits;
 use noting::Noted;
-use plan::Plan;
 use reasons::reason::Reason;
 use reasons::reason::reason_of;
 use sat::negation;
@@ -19,6 +18,7 @@ ghost use lib.ListN.{getD};
 ghost use Rattle.reasons.specs.Reason.{reasonOf};
 ghost use Rattle.walks.specs.Answers.{answerOf};
 ghost use Rattle.judge.specs.Judge.{listing, negationAt, falseLits, judgeCurrent, judgeFalse, judgeProposals};
+ghost use Rattle.plan.specs.Words.{wordsOf};
 
 // The reason that the words of place p hold.
 fn reason_at(proposals: &[u64], p: usize) -> Reason
@@ -29,15 +29,15 @@ fn reason_at(proposals: &[u64], p: usize) -> Reason
 }
 
 // The negation of the literal at place p; a word of the list has 32 bits.
-fn negation_at(plan: &Plan, p: usize) -> u32
-    ensures { λ r. ⌜ r ≡ negationAt (now (plan .entry)) p ⌝ }
+fn negation_at(plan: &[u8], p: usize) -> u32
+    ensures { λ r. ⌜ r ≡ negationAt (wordsOf (now (plan .entry))) p ⌝ }
 {
     negation((plan::unique_lit(plan, p) % 4294967296) as u32)
 }
 
 // The reason's list, then the negation.
 fn false_lits(
-    plan: &Plan,
+    plan: &[u8],
     edges: Edges,
     noted: &Noted,
     proposals: &[u64],
@@ -45,7 +45,7 @@ fn false_lits(
     left: &mut [u32],
 ) -> Listed
     requires { ⌜ p < 8589934592 ⌝ }
-    ensures { λ r. ⌜ answerOf r (now (left .exit)) ≡ falseLits (now (plan .entry)) edges (now (noted .entry)) (now (proposals .entry)) p (now (left .entry)) ⌝ }
+    ensures { λ r. ⌜ answerOf r (now (left .exit)) ≡ falseLits (wordsOf (now (plan .entry))) edges (now (noted .entry)) (now (proposals .entry)) p (now (left .entry)) ⌝ }
 {
     let why = reason_at(proposals, p);
     let r = reason_lits(plan, edges, noted, why, left, 0);
@@ -69,7 +69,7 @@ fn judge_current(table: &[u8], r: Listed, left: &[u32]) -> Judgement
 
 // The false proposal at place p.
 fn judge_false(
-    plan: &Plan,
+    plan: &[u8],
     edges: Edges,
     noted: &Noted,
     table: &[u8],
@@ -78,21 +78,21 @@ fn judge_false(
     left: &mut [u32],
 ) -> Judgement
     requires { ⌜ p < 8589934592 ⌝ }
-    ensures { λ r. ⌜ listing r (now (left .exit)) ≡ judgeFalse (now (plan .entry)) edges (now (noted .entry)) (now (table .entry)) (now (proposals .entry)) p (now (left .entry)) ⌝ }
+    ensures { λ r. ⌜ listing r (now (left .exit)) ≡ judgeFalse (wordsOf (now (plan .entry))) edges (now (noted .entry)) (now (table .entry)) (now (proposals .entry)) p (now (left .entry)) ⌝ }
 {
     let r = false_lits(plan, edges, noted, proposals, p, left);
     judge_current(table, r, left)
 }
 
 pub(crate) fn judge_proposals(
-    plan: &Plan,
+    plan: &[u8],
     edges: Edges,
     noted: &Noted,
     table: &[u8],
     proposals: &[u64],
     left: &mut [u32],
 ) -> Judgement
-    ensures { λ r. ⌜ listing r (now (left .exit)) ≡ judgeProposals (now (plan .entry)) edges (now (noted .entry)) (now (table .entry)) (now (proposals .entry)) (now (left .entry)) ⌝ }
+    ensures { λ r. ⌜ listing r (now (left .exit)) ≡ judgeProposals (wordsOf (now (plan .entry))) edges (now (noted .entry)) (now (table .entry)) (now (proposals .entry)) (now (left .entry)) ⌝ }
 {
     let p = first_false(plan, proposals, table);
     if p < 2 * (plan::num_variables(plan) as usize) {

@@ -1,21 +1,19 @@
 -- What `initialize` tried out is taken over or taken back, and that it read the table's copy does not show.
 use mathlib.Core.Path.{_≡_, refl, sym, ap, subst, _∙_}
-use mathlib.Core.Bool.{Bool, true}
+use mathlib.Core.Bool.{Bool, true, false}
 use mathlib.Core.List.{List, []}
 use Prim.Native.Nat.{ℕ, _*_, _≤_}
 use native.Mathlib.Omega.{arith}
 use lib.ListN.{length, replicate}
 use Rattle.base.specs.Lists.{tab}
-use Rattle.base.proofs.Tests.{or-none}
 use Rattle.undo_log.specs.declared.Cursor.{Cursor}
 use Rattle.plan.specs.Words.{word, variablesOf}
-use Rattle.plan.specs.Proper.{ProperWords}
+use Rattle.plan.specs.Check.{variablesHigh}
 use Rattle.noting.specs.Note.{Noting, noting}
 use Rattle.walks.specs.Written.{outOf, written}
 use Rattle.recorded.specs.Recorded.{recorded}
-use Rattle.refusals.specs.Refusals.{stateBad, tableStateBad, initializeRefusal}
+use Rattle.refusals.specs.Refusals.{tableStateBad, initializeRefusal}
 use Rattle.refusals.proofs.Accepted.{pick-zero}
-use Rattle.refusals.proofs.State.{state-proper}
 use Rattle.judge.specs.declared.Judgement.{Judgement}
 use Rattle.judge.specs.declared.Judgement.the-variants.{Fine, Clash, Stopped}
 use Rattle.notifications.specs.declared.Progress.{Progress}
@@ -49,13 +47,13 @@ module _ (s : GraphDivision) (c : Cursor) (entry log words left : List ℕ) (x :
   end-stopped u n f g e = (λ i. called (e i) (g i) list log) ∙ ap (λ (j : Judgement). endedBy s c entry log words left x j back after handed list) (sym f)
 
 -- ---- the copy for the table
-pub proper-of : (ws : List ℕ) (ends : List (List ℕ)) (noted t : List ℕ) (n : ℕ) (log : List ℕ) (c : Cursor) (done : Bool) →
-    initializeRefusal ws ends noted t n log c done ≡ 0 → ProperWords ws ends
-unfolding initializeRefusal tableStateBad
-proper-of ws ends noted t n log c done e =
-    state-proper ws ends noted log c (or-none (stateBad ws ends noted log c) _ (pick-zero (tableStateBad ws ends noted t n log c) 7 _ (omega arith) e .0) .0)
+in-range : (ws : List ℕ) (ends : List (List ℕ)) (noted t : List ℕ) (n : ℕ) (log : List ℕ) (c : Cursor) (done : Bool) →
+    initializeRefusal ws ends noted t n log c done ≡ 0 → variablesHigh ws ≡ false
+unfolding initializeRefusal
+in-range ws ends noted t n log c done e =
+    pick-zero (variablesHigh ws) 7 _ (omega arith) (pick-zero (tableStateBad ws ends noted t n log c) 7 _ (omega arith) e .1) .0
 
-module _ (s : GraphDivision) (c : Cursor) (words t log : List ℕ) (p : ProperWords (s .plan) (s .edges .ends)) (w : Way) (e : w ≡ finishedOver s c words t log) where
+module _ (s : GraphDivision) (c : Cursor) (words t log : List ℕ) (p : variablesHigh (s .plan) ≡ false) (w : Way) (e : w ≡ finishedOver s c words t log) where
   kept : (w .progress .past ≤ 2 * variablesOf (s .plan)) × Rest t (w .table)
   unfolding finishedOver enteringOver
   kept = subst (λ (v : Way). (v .progress .past ≤ 2 * variablesOf (s .plan)) × Rest t (v .table)) (sym e)
@@ -102,7 +100,7 @@ module _ (s : GraphDivision) (c : Cursor) (t log list : List ℕ) (ends : List (
       z ≡ begunOver s c words t log list
   unfolding finishedOver enteringOver
   begin-by w z r g q a d e k =
-      let p = proper-of (s .plan) (s .edges .ends) (s .noted) t (length list) log c (s .initialized) r in
+      let p = in-range (s .plan) (s .edges .ends) (s .noted) t (length list) log c (s .initialized) r in
       k
       ∙ (ap (λ (u : List ℕ). endedBy s c u log (w .words) (w .left) (w .progress) (w .progress .judgement) (restoredTable u (w .table)) (w .table) (w .list) list) q
       ∙ begin-is s c words t log p w

@@ -1,4 +1,5 @@
--- `initialize` reads which literals are true in a copy of the table's first 4096 entries, all that its literals have, and restores the table from it.
+-- `initialize` reads which literals are true in a copy of the table's first 4096 entries, all that its literals have where its
+-- variables are in range, and restores the table from it.
 use mathlib.Core.Path.{_≡_, refl, sym, ap, _∙_}
 use mathlib.Core.Logic.{inr, ⊎-elim}
 use mathlib.Core.Bool.{Bool, true, false, _&&_}
@@ -9,16 +10,18 @@ use native.Mathlib.Nat.{not-suc-le-zero, eq-or-lt-of-le}
 use lib.Dec.{eqb}
 use lib.ListN.{length, getD, set, replicate, length-set, length-replicate}
 use lib.Seq.{ext-getD, getD-set-same, getD-set-other}
+use borrow.Author.Tests.{ltb-false}
 use Rattle.base.specs.Iter.{iter, pick}
 use Rattle.base.specs.Lists.{tab, filled}
 use Rattle.base.proofs.Loop.{pick-yes, pick-no, pick-ind, iter-ind}
 use Rattle.base.proofs.Lists.{tab-at}
 use Rattle.base.proofs.Tests.{le-or-lt}
 use Rattle.base.proofs.Filled.{filled-length, filled-out}
+use Rattle.base.proofs.Some.{some-none}
 use Rattle.noting.proofs.Block.{iter-same}
 use Rattle.noting.specs.Note.{Noting, note}
-use Rattle.plan.specs.Words.{variablesOf, uniqueLitAt}
-use Rattle.plan.specs.Proper.{ProperWords}
+use Rattle.plan.specs.Words.{variablesOf, variableAt, uniqueLitAt}
+use Rattle.plan.specs.Check.{variableHigh, variablesHigh}
 use Rattle.calls.specs.Table.{codeOf, coded, trueIn, enter}
 use Rattle.sweep.specs.Sweep.{Handed, handing, handed, handedAt, handedOn}
 use Rattle.judge.specs.declared.Judgement.{Judgement}
@@ -96,9 +99,12 @@ module _ (t : List ℕ) where
       (λ _. (simp length-set e, λ i m. getD-set-other (h .table) (l / 2) i _ 0 (λ (q : i ≡ l / 2). omega arith) ∙ f i m))
       (λ _. (e, f))
 
-module _ (ws : List ℕ) (ends : List (List ℕ)) (p : ProperWords ws ends) (t : List ℕ) where
+module _ (ws : List ℕ) (ends : List (List ℕ)) (p : variablesHigh ws ≡ false) (t : List ℕ) where
   small : (q : ℕ) → q < 2 * variablesOf ws → uniqueLitAt ws q < 8192
-  small q h = let r = p .listed (q / 2) (omega arith) .range in omega arith
+  unfolding variablesHigh variableHigh
+  small q h =
+      let r = ltb-false 4095 (variableAt ws (q / 2)) (some-none (variableHigh ws) (variablesOf ws) p (q / 2) (omega arith)) in
+      omega arith
 
   pub noted-saved : (past : ℕ) (x : Noting) → past ≤ 2 * variablesOf ws → notedUpTo ws (savedTable t) past x ≡ notedUpTo ws t past x
   unfolding notedUpTo notedAt
@@ -147,7 +153,7 @@ module _ (ws : List ℕ) (ends : List (List ℕ)) (noted : List ℕ) (x : Progre
   last-past = pick-ind (λ (y : Ending). y .progress .past ≡ x .past) _ _ _ (λ _. once-past _ _) (λ _. refl)
 
 -- ---- all
-module _ (ws : List ℕ) (ends : List (List ℕ)) (p : ProperWords ws ends) (t log : List ℕ) (used : ℕ) (w : Way) where
+module _ (ws : List ℕ) (ends : List (List ℕ)) (p : variablesHigh ws ≡ false) (t log : List ℕ) (used : ℕ) (w : Way) where
   pub gone-saved : goneThrough ws ends (savedTable t) log used w ≡ goneThrough ws ends t log used w
   unfolding goneThrough
   gone-saved = ap (λ (v : Way). ended v (lastPass ws ends (v .noted) (v .progress) (v .words) (v .proposals) (v .left))) (notified-saved ws ends p t log used w)

@@ -3,7 +3,6 @@ use edge_table::Edges;
 use graph_division::Answer;
 use lists::no_list;
 use noting::Noted;
-use plan::Plan;
 use reasons::reason::Reason;
 use undo_log::Cursor;
 use walks::Listed;
@@ -13,7 +12,7 @@ ghost use mathlib.Core.Bool.{Bool};
 ghost use mathlib.Core.List.{List};
 ghost use Prim.Native.Nat.{ℕ, _*_, _+_, _/_, _%_};
 ghost use Rattle.base.specs.Lists.{tab};
-ghost use Rattle.plan.specs.Words.{word};
+ghost use Rattle.plan.specs.Words.{wordsOf, word};
 ghost use Rattle.walks.specs.Written.{outOf, written};
 ghost use Rattle.analysis.specs.Placed.{placeOfLit};
 ghost use Rattle.recorded.specs.declared.Reasons.{Reasons};
@@ -81,15 +80,15 @@ fn is_none(r: Reason) -> bool
 }
 
 // More literals than a reason buffer must hold.
-fn reason_over(plan: &Plan, n: usize) -> bool
-    ensures { λ r. ⌜ r ≡ reasonOver (now (plan .entry)) n ⌝ }
+fn reason_over(plan: &[u8], n: usize) -> bool
+    ensures { λ r. ⌜ r ≡ reasonOver (wordsOf (now (plan .entry))) n ⌝ }
 {
     plan::num_edges(plan) as usize + 2 * (plan::num_vertices(plan) as usize) + 4 < n
 }
 
 // The first n literals of the list, unless these are more than a reason buffer must hold.
-fn give_list(plan: &Plan, list: &[u32], n: usize, buffer: &mut [u32]) -> Answer
-    ensures { λ r. ⌜ fetched r (now (buffer .exit)) ≡ copied (now (plan .entry)) (now (list .entry)) n (now (buffer .entry)) ⌝ }
+fn give_list(plan: &[u8], list: &[u32], n: usize, buffer: &mut [u32]) -> Answer
+    ensures { λ r. ⌜ fetched r (now (buffer .exit)) ≡ copied (wordsOf (now (plan .entry))) (now (list .entry)) n (now (buffer .entry)) ⌝ }
 {
     if reason_over(plan, n) {
         return Answer::Refused { number: 7 };
@@ -99,8 +98,8 @@ fn give_list(plan: &Plan, list: &[u32], n: usize, buffer: &mut [u32]) -> Answer
 }
 
 // The list, which was made aside, where there is one.
-fn give(plan: &Plan, list: &[u32], listed: Listed, buffer: &mut [u32]) -> Answer
-    ensures { λ r. ⌜ fetched r (now (buffer .exit)) ≡ reasonGiven (now (plan .entry)) (now (list .entry)) listed (now (buffer .entry)) ⌝ }
+fn give(plan: &[u8], list: &[u32], listed: Listed, buffer: &mut [u32]) -> Answer
+    ensures { λ r. ⌜ fetched r (now (buffer .exit)) ≡ reasonGiven (wordsOf (now (plan .entry))) (now (list .entry)) listed (now (buffer .entry)) ⌝ }
 {
     match listed {
         Listed::Past(n) => give_list(plan, list, n, buffer),
@@ -109,17 +108,17 @@ fn give(plan: &Plan, list: &[u32], listed: Listed, buffer: &mut [u32]) -> Answer
 }
 
 // The place of the literal among the distinct literals.
-pub fn place_of(plan: &Plan, lit: u16) -> usize
-    ensures { λ r. ⌜ r ≡ placeOfLit (now (plan .entry)) lit ⌝ }
+pub fn place_of(plan: &[u8], lit: u16) -> usize
+    ensures { λ r. ⌜ r ≡ placeOfLit (wordsOf (now (plan .entry))) lit ⌝ }
 {
     let k = noting::note::place_in(plan, sat::variable(lit as u32)) % 2147483648;
     2 * k + sat::sign(lit as u32) as usize
 }
 
 // A reason's list, made of the edges connected and disconnected now.
-fn calc(plan: &Plan, edges: Edges, noted: &Noted, reason: Reason, buffer: &mut [u32]) -> Answer
+fn calc(plan: &[u8], edges: Edges, noted: &Noted, reason: Reason, buffer: &mut [u32]) -> Answer
     ensures { λ r. ⌜ ((rs : Reasons) (last : List ℕ) (len : ℕ) (b : Bool) →
-        fetched r (now (buffer .exit)) ≡ giving (stateOf (now (plan .entry)) edges (now (noted .entry)) rs last len b) reason (now (buffer .entry))) ⌝ }
+        fetched r (now (buffer .exit)) ≡ giving (stateOf (wordsOf (now (plan .entry))) edges (now (noted .entry)) rs last len b) reason (now (buffer .entry))) ⌝ }
 {
     if is_none(reason) {
         return Answer::Refused { number: 15 };
@@ -131,7 +130,7 @@ fn calc(plan: &Plan, edges: Edges, noted: &Noted, reason: Reason, buffer: &mut [
 
 // A literal's reason: the list of what an analysis recorded for it, which the caller reads at the literal's place.
 pub fn calc_reason<'a>(
-    plan: &'a Plan,
+    plan: &'a [u8],
     edges: Edges,
     noted: &'a Noted,
     log: &'a [u64],
@@ -140,7 +139,7 @@ pub fn calc_reason<'a>(
     reason: Reason,
     buffer: &mut [u32],
 ) -> Answer
-    ensures { λ r. ⌜ ((s : GraphDivision) → Parts s (now (plan .entry)) edges (now (noted .entry)) →
+    ensures { λ r. ⌜ ((s : GraphDivision) → Parts s (wordsOf (now (plan .entry))) edges (now (noted .entry)) →
         fetched r (now (buffer .exit)) ≡ reasonFetchedBy s cursor (now (log .entry)) lit reason (now (buffer .entry))) ⌝ }
 {
     let ends = edges;
@@ -157,7 +156,7 @@ pub fn calc_reason<'a>(
 
 // The list last left, which stands in `last`, up to `len`: empty before any analysis and after a consistent notification.
 pub fn calc_last<'a>(
-    plan: &'a Plan,
+    plan: &'a [u8],
     edges: Edges,
     noted: &'a Noted,
     log: &'a [u64],
@@ -166,7 +165,7 @@ pub fn calc_last<'a>(
     len: usize,
     buffer: &mut [u32],
 ) -> Answer
-    ensures { λ r. ⌜ ((s : GraphDivision) → Parts s (now (plan .entry)) edges (now (noted .entry)) → now (last .entry) ≡ s .last → len ≡ s .«last_len» →
+    ensures { λ r. ⌜ ((s : GraphDivision) → Parts s (wordsOf (now (plan .entry))) edges (now (noted .entry)) → now (last .entry) ≡ s .last → len ≡ s .«last_len» →
         fetched r (now (buffer .exit)) ≡ lastFetched s cursor (now (log .entry)) (now (buffer .entry))) ⌝ }
 {
     let n = refusals::fetch_refusal(plan, &edges, noted, buffer.len(), log, cursor);

@@ -10,7 +10,6 @@ use notifications::Progress;
 use notifications::go_through;
 use notifications::lit_at;
 use noting::Noted;
-use plan::Plan;
 use reasons::no_words;
 use undo_log::Cursor;
 ghost use mathlib.Core.Path.{_≡_};
@@ -24,17 +23,18 @@ ghost use Rattle.refusals.specs.Refusals.{initializeRefusal};
 ghost use Rattle.graph_division.specs.declared.GraphDivision.{GraphDivision};
 ghost use Rattle.graph_division.specs.Initialize.{restoredTable, notedAt, notedUpTo, endedBy};
 ghost use Rattle.lent.specs.Lent.{stateOf, Parts, begunOf, begunOver, initializedOver};
+ghost use Rattle.plan.specs.Words.{wordsOf};
 
 // The literal at place p is noted in the words and in the log, where it is true in the table on entry.
 fn note_at(
-    plan: &Plan,
+    plan: &[u8],
     entry: &[u8],
     noted: &mut Noted,
     log: &mut [u64],
     cursor: Cursor,
     p: usize,
 ) -> Cursor
-    ensures { λ c. ⌜ noting (now (noted .exit)) (now (log .exit)) c ≡ notedAt (now (plan .entry)) (now (entry .entry)) p (noting (now (noted .entry)) (now (log .entry)) cursor) ⌝ }
+    ensures { λ c. ⌜ noting (now (noted .exit)) (now (log .exit)) c ≡ notedAt (wordsOf (now (plan .entry))) (now (entry .entry)) p (noting (now (noted .entry)) (now (log .entry)) cursor) ⌝ }
 {
     if sweep::table::is_true(entry, plan::unique_lit(plan, p)) {
         let told = noting::note::note(plan, noted, log, cursor, lit_at(plan, p));
@@ -45,14 +45,14 @@ fn note_at(
 
 // Those of the places below `past`.
 fn note_up_to(
-    plan: &Plan,
+    plan: &[u8],
     entry: &[u8],
     noted: &mut Noted,
     log: &mut [u64],
     cursor: Cursor,
     past: usize,
 ) -> Cursor
-    ensures { λ c. ⌜ noting (now (noted .exit)) (now (log .exit)) c ≡ notedUpTo (now (plan .entry)) (now (entry .entry)) past (noting (now (noted .entry)) (now (log .entry)) cursor) ⌝ }
+    ensures { λ c. ⌜ noting (now (noted .exit)) (now (log .exit)) c ≡ notedUpTo (wordsOf (now (plan .entry))) (now (entry .entry)) past (noting (now (noted .entry)) (now (log .entry)) cursor) ⌝ }
 {
     let mut c = cursor;
     let mut p = 0;
@@ -71,7 +71,7 @@ fn no_handed() -> [u32; 8704]
 
 // What was tried out is taken over into the noted words and the log, or taken back.
 fn finish(
-    plan: &Plan,
+    plan: &[u8],
     entry: &[u8],
     noted: &mut Noted,
     table: &mut [u8],
@@ -82,8 +82,8 @@ fn finish(
     x: Progress,
 ) -> Done
     ensures { λ r. ⌜ ((ends : List (List ℕ)) (rs : Reasons) (last : List ℕ) (len : ℕ) (b : Bool) (words left : List ℕ) →
-        begunOf (stateOf (now (plan .entry)) ends (now (noted .entry)) rs last len b) (now (noted .exit)) words left r (now (table .exit)) (now (list .exit)) (now (log .exit))
-        ≡ endedBy (stateOf (now (plan .entry)) ends (now (noted .entry)) rs last len b) cursor (now (entry .entry)) (now (log .entry)) words left x (x .judgement) (restoredTable (now (entry .entry)) (now (table .entry))) (now (table .entry)) (now (handed .entry)) (now (list .entry))) ⌝ }
+        begunOf (stateOf (wordsOf (now (plan .entry))) ends (now (noted .entry)) rs last len b) (now (noted .exit)) words left r (now (table .exit)) (now (list .exit)) (now (log .exit))
+        ≡ endedBy (stateOf (wordsOf (now (plan .entry))) ends (now (noted .entry)) rs last len b) cursor (now (entry .entry)) (now (log .entry)) words left x (x .judgement) (restoredTable (now (entry .entry)) (now (table .entry))) (now (table .entry)) (now (handed .entry)) (now (list .entry))) ⌝ }
 {
     let found = x.judgement;
     let n = x.handed;
@@ -122,7 +122,7 @@ fn finish(
 
 // All is tried out, on a copy of the noted words and on the table in place.
 fn begin(
-    plan: &Plan,
+    plan: &[u8],
     edges: Edges,
     noted: &mut Noted,
     words: &mut [u64],
@@ -134,9 +134,9 @@ fn begin(
     last_len: usize,
 ) -> Done
     ensures { λ r. ⌜ ((rs : Reasons) (b : Bool) →
-        initializeRefusal (now (plan .entry)) edges (now (noted .entry)) (now (table .entry)) (length (now (list .entry))) (now (log .entry)) cursor b ≡ 0 →
-        begunOf (stateOf (now (plan .entry)) edges (now (noted .entry)) rs (now (left .entry)) «last_len» b) (now (noted .exit)) (now (words .exit)) (now (left .exit)) r (now (table .exit)) (now (list .exit)) (now (log .exit))
-        ≡ begunOver (stateOf (now (plan .entry)) edges (now (noted .entry)) rs (now (left .entry)) «last_len» b) cursor (now (words .entry)) (now (table .entry)) (now (log .entry)) (now (list .entry))) ⌝ }
+        initializeRefusal (wordsOf (now (plan .entry))) edges (now (noted .entry)) (now (table .entry)) (length (now (list .entry))) (now (log .entry)) cursor b ≡ 0 →
+        begunOf (stateOf (wordsOf (now (plan .entry))) edges (now (noted .entry)) rs (now (left .entry)) «last_len» b) (now (noted .exit)) (now (words .exit)) (now (left .exit)) r (now (table .exit)) (now (list .exit)) (now (log .exit))
+        ≡ begunOver (stateOf (wordsOf (now (plan .entry))) edges (now (noted .entry)) rs (now (left .entry)) «last_len» b) cursor (now (words .entry)) (now (table .entry)) (now (log .entry)) (now (list .entry))) ⌝ }
 {
     let entry = save(table);
     let mut trial = *noted;
@@ -163,7 +163,7 @@ fn begin(
 // in `left`, up to `last_len`, and `done` says whether an initialise was consistent before. The words are those of all its analyses, the
 // newest of each place, over what they held before: a caller lends zeros.
 pub fn initialize(
-    plan: &Plan,
+    plan: &[u8],
     edges: Edges,
     noted: &mut Noted,
     words: &mut [u64],
@@ -175,7 +175,7 @@ pub fn initialize(
     last_len: usize,
     done: bool,
 ) -> Done
-    ensures { λ r. ⌜ ((s : GraphDivision) → Parts s (now (plan .entry)) edges (now (noted .entry)) → now (left .entry) ≡ s .last → «last_len» ≡ s .«last_len» → done ≡ s .initialized →
+    ensures { λ r. ⌜ ((s : GraphDivision) → Parts s (wordsOf (now (plan .entry))) edges (now (noted .entry)) → now (left .entry) ≡ s .last → «last_len» ≡ s .«last_len» → done ≡ s .initialized →
         begunOf s (now (noted .exit)) (now (words .exit)) (now (left .exit)) r (now (table .exit)) (now (list .exit)) (now (log .exit))
         ≡ initializedOver s cursor (now (words .entry)) (now (table .entry)) (now (log .entry)) (now (list .entry))) ⌝ }
 {

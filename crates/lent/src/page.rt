@@ -3,12 +3,12 @@ use edge_table::Edges;
 use graph_division::Answer;
 use noting::Noted;
 use pages::Printed;
-use plan::Plan;
 use undo_log::Cursor;
 ghost use mathlib.Core.Path.{_≡_};
 ghost use Rattle.graph_division.specs.declared.GraphDivision.{GraphDivision};
 ghost use Rattle.graph_division.specs.Calls.{fetched, pageAnswer, pageFetched};
 ghost use Rattle.lent.specs.Lent.{Parts};
+ghost use Rattle.plan.specs.Words.{wordsOf};
 
 // The page that was written, or 19.
 fn answer_of(printed: Printed) -> Answer
@@ -23,14 +23,14 @@ fn answer_of(printed: Printed) -> Answer
 
 // A line for each region, in the order of its lowest vertex.
 pub fn page<'a>(
-    plan: &'a Plan,
+    plan: &'a [u8],
     edges: Edges,
     noted: &'a Noted,
     log: &'a [u64],
     cursor: Cursor,
     buffer: &mut [u8],
 ) -> Answer
-    ensures { λ r. ⌜ ((s : GraphDivision) → Parts s (now (plan .entry)) edges (now (noted .entry)) →
+    ensures { λ r. ⌜ ((s : GraphDivision) → Parts s (wordsOf (now (plan .entry))) edges (now (noted .entry)) →
         fetched r (now (buffer .exit)) ≡ pageFetched s cursor (now (log .entry)) (now (buffer .entry))) ⌝ }
 {
     let ends = edges;

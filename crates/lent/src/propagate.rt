@@ -6,7 +6,6 @@ use judge::Judgement;
 use notifications::try_out;
 use noting::Noted;
 use noting::note::note;
-use plan::Plan;
 use undo_log::Cursor;
 ghost use mathlib.Core.Path.{_≡_};
 ghost use mathlib.Core.Bool.{Bool};
@@ -16,12 +15,13 @@ ghost use Rattle.recorded.specs.declared.Reasons.{Reasons};
 ghost use Rattle.graph_division.specs.declared.GraphDivision.{GraphDivision};
 ghost use Rattle.graph_division.specs.Calls.{adding};
 ghost use Rattle.lent.specs.Lent.{stateOf, Parts, calledOf, settledOver, propagatedOver};
+ghost use Rattle.plan.specs.Words.{wordsOf};
 
 // The literal is noted and nothing is analyzed.
-fn add(plan: &Plan, noted: &mut Noted, log: &mut [u64], cursor: Cursor, lit: u16) -> Done
+fn add(plan: &[u8], noted: &mut Noted, log: &mut [u64], cursor: Cursor, lit: u16) -> Done
     ensures { λ r. ⌜ ((ends : List (List ℕ)) (rs : Reasons) (last : List ℕ) (len : ℕ) (b : Bool) (proposals left t list : List ℕ) →
-        calledOf (stateOf (now (plan .entry)) ends (now (noted .entry)) rs last len b) (now (noted .exit)) proposals left r t list (now (log .exit))
-        ≡ adding (stateOf (now (plan .entry)) ends (now (noted .entry)) rs last len b) cursor lit t list (now (log .entry))) ⌝ }
+        calledOf (stateOf (wordsOf (now (plan .entry))) ends (now (noted .entry)) rs last len b) (now (noted .exit)) proposals left r t list (now (log .exit))
+        ≡ adding (stateOf (wordsOf (now (plan .entry))) ends (now (noted .entry)) rs last len b) cursor lit t list (now (log .entry))) ⌝ }
 {
     let added = note(plan, noted, log, cursor, lit);
     let moved = added.cursor;
@@ -35,7 +35,7 @@ fn add(plan: &Plan, noted: &mut Noted, log: &mut [u64], cursor: Cursor, lit: u16
 
 // The literal is tried out and analyzed; it is noted where the analysis is accepted.
 fn settle(
-    plan: &Plan,
+    plan: &[u8],
     edges: Edges,
     noted: &mut Noted,
     proposals: &mut [u64],
@@ -47,8 +47,8 @@ fn settle(
     lit: u16,
 ) -> Done
     ensures { λ r. ⌜ ((rs : Reasons) (last : List ℕ) (len : ℕ) (b : Bool) →
-        calledOf (stateOf (now (plan .entry)) edges (now (noted .entry)) rs last len b) (now (noted .exit)) (now (proposals .exit)) (now (left .exit)) r (now (table .exit)) (now (list .exit)) (now (log .exit))
-        ≡ settledOver (stateOf (now (plan .entry)) edges (now (noted .entry)) rs last len b) cursor (now (proposals .entry)) (now (left .entry)) lit (now (table .entry)) (now (list .entry)) (now (log .entry))) ⌝ }
+        calledOf (stateOf (wordsOf (now (plan .entry))) edges (now (noted .entry)) rs last len b) (now (noted .exit)) (now (proposals .exit)) (now (left .exit)) r (now (table .exit)) (now (list .exit)) (now (log .exit))
+        ≡ settledOver (stateOf (wordsOf (now (plan .entry))) edges (now (noted .entry)) rs last len b) cursor (now (proposals .entry)) (now (left .entry)) lit (now (table .entry)) (now (list .entry)) (now (log .entry))) ⌝ }
 {
     let mut trial = *noted;
     let crossed = try_out(plan, &mut trial, lit);
@@ -87,7 +87,7 @@ fn settle(
 // Notifies the literal. With a pending number other than 0 it is only noted. The proposals and the list left are those of the analysis
 // after it, over what they held before: a caller lends zeros.
 pub fn propagate(
-    plan: &Plan,
+    plan: &[u8],
     edges: Edges,
     noted: &mut Noted,
     proposals: &mut [u64],
@@ -99,7 +99,7 @@ pub fn propagate(
     lit: i32,
     num_pending_propagations: i32,
 ) -> Done
-    ensures { λ r. ⌜ ((s : GraphDivision) → Parts s (now (plan .entry)) edges (now (noted .entry)) →
+    ensures { λ r. ⌜ ((s : GraphDivision) → Parts s (wordsOf (now (plan .entry))) edges (now (noted .entry)) →
         calledOf s (now (noted .exit)) (now (proposals .exit)) (now (left .exit)) r (now (table .exit)) (now (list .exit)) (now (log .exit))
         ≡ propagatedOver s cursor (now (proposals .entry)) (now (left .entry)) lit «num_pending_propagations» (now (table .entry)) (now (list .entry)) (now (log .entry))) ⌝ }
 {

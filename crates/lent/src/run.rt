@@ -3,13 +3,13 @@
 use edge_table::Edges;
 use graph_division::Answer;
 use noting::Noted;
-use plan::Plan;
 use undo_log::Cursor;
 use walks::Listed;
 ghost use mathlib.Core.Path.{_≡_};
 ghost use Rattle.graph_division.specs.declared.GraphDivision.{GraphDivision};
 ghost use Rattle.graph_division.specs.Calls.{fetched, runAnswer, runFetched};
 ghost use Rattle.lent.specs.Lent.{Parts};
+ghost use Rattle.plan.specs.Words.{wordsOf};
 
 // The run that was written, or 18.
 fn answer_of(listed: Listed) -> Answer
@@ -24,7 +24,7 @@ fn answer_of(listed: Listed) -> Answer
 // The run that has the fewest undecided edges, of these the fewest edges, of these the lowest edge numbers from the
 // first vertex on.
 pub fn run<'a>(
-    plan: &'a Plan,
+    plan: &'a [u8],
     edges: Edges,
     noted: &'a Noted,
     log: &'a [u64],
@@ -33,7 +33,7 @@ pub fn run<'a>(
     to: i32,
     buffer: &mut [u32],
 ) -> Answer
-    ensures { λ r. ⌜ ((s : GraphDivision) → Parts s (now (plan .entry)) edges (now (noted .entry)) →
+    ensures { λ r. ⌜ ((s : GraphDivision) → Parts s (wordsOf (now (plan .entry))) edges (now (noted .entry)) →
         fetched r (now (buffer .exit)) ≡ runFetched s cursor (now (log .entry)) from to (now (buffer .entry))) ⌝ }
 {
     let ends = edges;

@@ -22,7 +22,7 @@ use Rattle.walks.specs.declared.Shape.{Shape}
 use Rattle.walks.specs.Written.{Out, outOf, pushed, written}
 use Rattle.walks.specs.Answers.{Answer, answerOf, given, missing, connectedPath, decidedRegion, potentialRegion}
 use Rattle.lists.specs.declared.Ends.{Ends}
-use Rattle.lists.specs.Parts.{shapeOf, endsFrom, endsOf, after, then, path, decided, potential, inside, twoPaths, twoRegions, threeRegions, andWord, andLit, andOpt}
+use Rattle.lists.specs.Parts.{edgeLits, shapeOf, endsFrom, endsOf, after, then, path, decided, potential, inside, twoPaths, twoRegions, threeRegions, andWord, andLit, andOpt}
 use Rattle.lists.specs.Lists.{between, tooLarge, mismatched, spread, sameSized, reasonLits, mismatch, sameSize}
 
 -- a part after a list, and after none
@@ -66,17 +66,17 @@ opt-some x l a b h k = k ∙ ap (λ (m : OptLit). then a (given (litsIn m))) (sy
 
 module _ (ws : List ℕ) (es : List (List ℕ)) (noted : List ℕ) where
   -- the walks, with the shape that was made
-  pub path-by : (z : Shape) (p : Ends) (o : Out) (b : Answer) → z ≡ shapeOf ws → b ≡ connectedPath es noted ws z (p .u) (p .v) o → b ≡ path ws es noted p o
+  pub path-by : (z : Shape) (lits : List ℕ) (p : Ends) (o : Out) (b : Answer) → z ≡ shapeOf ws → lits ≡ edgeLits ws → b ≡ connectedPath es noted lits z (p .u) (p .v) o → b ≡ path ws es noted p o
   unfolding path
-  path-by z p o b e k = k ∙ ap (λ (y : Shape). connectedPath es noted ws y (p .u) (p .v) o) e
+  path-by z lits p o b e h k = k ∙ (λ i. connectedPath es noted (h i) (e i) (p .u) (p .v) o)
 
-  pub decided-by : (z : Shape) (u : ℕ) (o : Out) (b : Answer) → z ≡ shapeOf ws → b ≡ decidedRegion es noted ws z u o → b ≡ decided ws es noted u o
+  pub decided-by : (z : Shape) (lits : List ℕ) (u : ℕ) (o : Out) (b : Answer) → z ≡ shapeOf ws → lits ≡ edgeLits ws → b ≡ decidedRegion es noted lits z u o → b ≡ decided ws es noted u o
   unfolding decided
-  decided-by z u o b e k = k ∙ ap (λ (y : Shape). decidedRegion es noted ws y u o) e
+  decided-by z lits u o b e h k = k ∙ (λ i. decidedRegion es noted (h i) (e i) u o)
 
-  pub potential-by : (z : Shape) (u : ℕ) (o : Out) (b : Answer) → z ≡ shapeOf ws → b ≡ potentialRegion es noted ws z u o → b ≡ potential ws es noted u o
+  pub potential-by : (z : Shape) (lits : List ℕ) (u : ℕ) (o : Out) (b : Answer) → z ≡ shapeOf ws → lits ≡ edgeLits ws → b ≡ potentialRegion es noted lits z u o → b ≡ potential ws es noted u o
   unfolding potential
-  potential-by z u o b e k = k ∙ ap (λ (y : Shape). potentialRegion es noted ws y u o) e
+  potential-by z lits u o b e h k = k ∙ (λ i. potentialRegion es noted (h i) (e i) u o)
 
   pub inside-by : (g : ℕ) (e : Ends) (o : Out) (b : Answer) → e ≡ endsOf es g false → b ≡ path ws es noted e o → b ≡ inside ws es noted g o
   unfolding inside

@@ -3,11 +3,12 @@ use mathlib.Core.Bool.{Bool, false}
 use mathlib.Core.List.{List, [], _∷_}
 use Prim.Native.Nat.{ℕ}
 use lib.Dec.{ltb}
-use lib.ListN.{getD}
+use lib.ListN.{getD, replicate}
 use Rattle.base.specs.Iter.{pick}
-use Rattle.plan.specs.Words.{verticesOf, edgesOf}
+use Rattle.base.specs.Lists.{filled}
+use Rattle.plan.specs.Words.{verticesOf, edgesOf, edgeLitOf}
 use Rattle.sat.specs.declared.OptLit.{OptLit}
-use Rattle.noting.specs.Words.{litsOf}
+use Rattle.noting.specs.Words.{litsOf, capped}
 use Rattle.reasons.specs.Reason.{litsIn}
 use Rattle.walks.specs.declared.Listed.{Listed}
 use Rattle.walks.specs.declared.Listed.the-variants.{Past, Missing}
@@ -16,9 +17,12 @@ use Rattle.walks.specs.Written.{Out, outOf}
 use Rattle.walks.specs.Answers.{Answer, answerOf, given, connectedPath, decidedRegion, potentialRegion}
 use Rattle.lists.specs.declared.Ends.{Ends}
 
--- the literals of the edges start at word 4232 of the plan
 abbrev pub shapeOf : List ℕ → Shape
-shapeOf ws = record { «num_vertices» = verticesOf ws; «num_edges» = edgesOf ws; «first_lit» = 4232 }
+shapeOf ws = record { «num_vertices» = verticesOf ws; «num_edges» = edgesOf ws; «first_lit» = 0 }
+
+-- the literals of the plan's edges, each in its place, and 0 past the last
+unfoldable pub edgeLits : List ℕ → List ℕ
+edgeLits ws = filled 0 (capped (edgesOf ws) 128) (edgeLitOf ws) (replicate 128 0)
 
 abbrev pub endsFrom : ℕ → ℕ → Ends
 endsFrom u v = record { u = u; v = v }
@@ -41,13 +45,13 @@ then a f = after f (a .listed) (a .text)
 -- the walks of a plan's words, its edge table and the noted words
 module _ (ws : List ℕ) (es : List (List ℕ)) (noted : List ℕ) where
   unfoldable pub path : Ends → Out → Answer
-  path p o = connectedPath es noted ws (shapeOf ws) (p .u) (p .v) o
+  path p o = connectedPath es noted (edgeLits ws) (shapeOf ws) (p .u) (p .v) o
 
   unfoldable pub decided : ℕ → Out → Answer
-  decided u o = decidedRegion es noted ws (shapeOf ws) u o
+  decided u o = decidedRegion es noted (edgeLits ws) (shapeOf ws) u o
 
   unfoldable pub potential : ℕ → Out → Answer
-  potential u o = potentialRegion es noted ws (shapeOf ws) u o
+  potential u o = potentialRegion es noted (edgeLits ws) (shapeOf ws) u o
 
   unfoldable pub twoPaths : Ends → Ends → Out → Answer
   twoPaths p q o = then (path p o) (path q)

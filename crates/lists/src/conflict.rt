@@ -9,13 +9,13 @@ use crate::potential;
 use edge_table::Edges;
 use graph::bounds::wide;
 use noting::Noted;
-use plan::Plan;
 use reasons::Verdict;
 use walks::Listed;
 ghost use mathlib.Core.Path.{_≡_};
 ghost use Rattle.walks.specs.Written.{outOf};
 ghost use Rattle.walks.specs.Answers.{answerOf};
 ghost use Rattle.lists.specs.Conflicts.{numChosen, spanAfter, spansAfter, chosenOf, crossingLits, apartLits, conflictLits};
+ghost use Rattle.plan.specs.Words.{wordsOf};
 
 // The bound literals of vertex v after a list.
 fn span(noted: &Noted, v: usize, r: Listed, out: &mut [u32]) -> Listed
@@ -50,7 +50,7 @@ fn spans(noted: &Noted, chosen: &[u8; 64], count: usize, r: Listed, out: &mut [u
 
 // Bounds of one region that do not meet.
 fn apart(
-    plan: &Plan,
+    plan: &[u8],
     edges: Edges,
     noted: &Noted,
     a: usize,
@@ -58,7 +58,7 @@ fn apart(
     out: &mut [u32],
     at: usize,
 ) -> Listed
-    ensures { λ r. ⌜ answerOf r (now (out .exit)) ≡ apartLits (now (plan .entry)) edges (now (noted .entry)) a b (outOf (now (out .entry)) at) ⌝ }
+    ensures { λ r. ⌜ answerOf r (now (out .exit)) ≡ apartLits (wordsOf (now (plan .entry))) edges (now (noted .entry)) a b (outOf (now (out .entry)) at) ⌝ }
 {
     let p = Ends { u: a, v: b };
     let r = path(plan, edges, noted, p, out, at);
@@ -76,7 +76,7 @@ fn crossing(noted: &Noted, v: usize, out: &mut [u32], at: usize) -> Listed
 // The list of a conflict. Of a potential region whose ranges need more than it weighs, the vertices of these ranges are the first
 // `count` of `chosen`. What is no conflict has no list.
 pub fn conflict_lits(
-    plan: &Plan,
+    plan: &[u8],
     edges: Edges,
     noted: &Noted,
     verdict: Verdict,
@@ -85,7 +85,7 @@ pub fn conflict_lits(
     out: &mut [u32],
     at: usize,
 ) -> Listed
-    ensures { λ r. ⌜ answerOf r (now (out .exit)) ≡ conflictLits (now (plan .entry)) edges (now (noted .entry)) verdict (chosenOf (now (chosen .entry)) count) (outOf (now (out .entry)) at) ⌝ }
+    ensures { λ r. ⌜ answerOf r (now (out .exit)) ≡ conflictLits (wordsOf (now (plan .entry))) edges (now (noted .entry)) verdict (chosenOf (now (chosen .entry)) count) (outOf (now (out .entry)) at) ⌝ }
 {
     match verdict {
         Verdict::Going => Listed::Missing,

@@ -5,7 +5,6 @@ pub mod conflict;
 use edge_table::Edges;
 use graph::bounds::wide;
 use noting::Noted;
-use plan::Plan;
 use reasons::reason::Reason;
 use sat::OptLit;
 use walks::Listed;
@@ -15,8 +14,9 @@ ghost use mathlib.Core.Path.{_≡_};
 ghost use lib.ListN.{replicate};
 ghost use Rattle.walks.specs.Written.{outOf};
 ghost use Rattle.walks.specs.Answers.{answerOf};
-ghost use Rattle.lists.specs.Parts.{shapeOf, endsOf, path, decided, potential, andWord, andLit, andOpt, inside, twoPaths, twoRegions, threeRegions};
+ghost use Rattle.lists.specs.Parts.{shapeOf, edgeLits, endsOf, path, decided, potential, andWord, andLit, andOpt, inside, twoPaths, twoRegions, threeRegions};
 ghost use Rattle.lists.specs.Lists.{between, tooLarge, mismatch, spread, sameSize, reasonLits};
+ghost use Rattle.plan.specs.Words.{wordsOf};
 
 // The reason buffer of the largest plan: its gates + 2 x its pens + 4.
 pub const LONGEST_LIST: usize = 260;
@@ -35,14 +35,28 @@ struct Ends {
     v: usize,
 }
 
-fn shape_of(plan: &Plan) -> Shape
-    ensures { λ r. ⌜ r ≡ shapeOf (now (plan .entry)) ⌝ }
+fn shape_of(plan: &[u8]) -> Shape
+    ensures { λ r. ⌜ r ≡ shapeOf (wordsOf (now (plan .entry))) ⌝ }
 {
     Shape {
         num_vertices: plan::num_vertices(plan) as usize,
         num_edges: plan::num_edges(plan) as usize,
-        first_lit: 4232,
+        first_lit: 0,
     }
+}
+
+// The literals of the plan's edges, as the walks take them.
+fn edge_lits(plan: &[u8]) -> [u32; 128]
+    ensures { λ r. ⌜ r ≡ edgeLits (wordsOf (now (plan .entry))) ⌝ }
+{
+    let n = noting::capped(plan::num_edges(plan), 128);
+    let mut lits = [0u32; 128];
+    let mut g = 0;
+    while g < n {
+        lits[g] = plan::edge_lit(plan, g);
+        g += 1;
+    }
+    lits
 }
 
 // The ends of edge g, the right one first with flip.
@@ -60,29 +74,32 @@ fn ends_of(edges: Edges, g: usize, flip: bool) -> Ends
     Ends { u: 0, v: 0 }
 }
 
-fn path(plan: &Plan, edges: Edges, noted: &Noted, p: Ends, out: &mut [u32], at: usize) -> Listed
-    ensures { λ r. ⌜ answerOf r (now (out .exit)) ≡ path (now (plan .entry)) edges (now (noted .entry)) p (outOf (now (out .entry)) at) ⌝ }
+fn path(plan: &[u8], edges: Edges, noted: &Noted, p: Ends, out: &mut [u32], at: usize) -> Listed
+    ensures { λ r. ⌜ answerOf r (now (out .exit)) ≡ path (wordsOf (now (plan .entry))) edges (now (noted .entry)) p (outOf (now (out .entry)) at) ⌝ }
 {
-    walks::reason_connected_path(edges, noted, plan, shape_of(plan), p.u, p.v, out, at)
+    let lits = edge_lits(plan);
+    walks::reason_connected_path(edges, noted, &lits, shape_of(plan), p.u, p.v, out, at)
 }
 
-fn decided(plan: &Plan, edges: Edges, noted: &Noted, u: usize, out: &mut [u32], at: usize) -> Listed
-    ensures { λ r. ⌜ answerOf r (now (out .exit)) ≡ decided (now (plan .entry)) edges (now (noted .entry)) u (outOf (now (out .entry)) at) ⌝ }
+fn decided(plan: &[u8], edges: Edges, noted: &Noted, u: usize, out: &mut [u32], at: usize) -> Listed
+    ensures { λ r. ⌜ answerOf r (now (out .exit)) ≡ decided (wordsOf (now (plan .entry))) edges (now (noted .entry)) u (outOf (now (out .entry)) at) ⌝ }
 {
-    walks::reason_decided_region(edges, noted, plan, shape_of(plan), u, out, at)
+    let lits = edge_lits(plan);
+    walks::reason_decided_region(edges, noted, &lits, shape_of(plan), u, out, at)
 }
 
 fn potential(
-    plan: &Plan,
+    plan: &[u8],
     edges: Edges,
     noted: &Noted,
     u: usize,
     out: &mut [u32],
     at: usize,
 ) -> Listed
-    ensures { λ r. ⌜ answerOf r (now (out .exit)) ≡ potential (now (plan .entry)) edges (now (noted .entry)) u (outOf (now (out .entry)) at) ⌝ }
+    ensures { λ r. ⌜ answerOf r (now (out .exit)) ≡ potential (wordsOf (now (plan .entry))) edges (now (noted .entry)) u (outOf (now (out .entry)) at) ⌝ }
 {
-    walks::reason_potential_region(edges, noted, plan, shape_of(plan), u, out, at)
+    let lits = edge_lits(plan);
+    walks::reason_potential_region(edges, noted, &lits, shape_of(plan), u, out, at)
 }
 
 // One literal after a list.
@@ -116,7 +133,7 @@ fn and_lit(r: Listed, x: u32, out: &mut [u32]) -> Listed
 }
 
 fn two_paths(
-    plan: &Plan,
+    plan: &[u8],
     edges: Edges,
     noted: &Noted,
     p: Ends,
@@ -124,7 +141,7 @@ fn two_paths(
     out: &mut [u32],
     at: usize,
 ) -> Listed
-    ensures { λ r. ⌜ answerOf r (now (out .exit)) ≡ twoPaths (now (plan .entry)) edges (now (noted .entry)) p q (outOf (now (out .entry)) at) ⌝ }
+    ensures { λ r. ⌜ answerOf r (now (out .exit)) ≡ twoPaths (wordsOf (now (plan .entry))) edges (now (noted .entry)) p q (outOf (now (out .entry)) at) ⌝ }
 {
     let r = path(plan, edges, noted, p, out, at);
     match r {
@@ -134,7 +151,7 @@ fn two_paths(
 }
 
 fn two_regions(
-    plan: &Plan,
+    plan: &[u8],
     edges: Edges,
     noted: &Noted,
     u: usize,
@@ -142,7 +159,7 @@ fn two_regions(
     out: &mut [u32],
     at: usize,
 ) -> Listed
-    ensures { λ r. ⌜ answerOf r (now (out .exit)) ≡ twoRegions (now (plan .entry)) edges (now (noted .entry)) u v (outOf (now (out .entry)) at) ⌝ }
+    ensures { λ r. ⌜ answerOf r (now (out .exit)) ≡ twoRegions (wordsOf (now (plan .entry))) edges (now (noted .entry)) u v (outOf (now (out .entry)) at) ⌝ }
 {
     let r = decided(plan, edges, noted, u, out, at);
     match r {
@@ -152,15 +169,15 @@ fn two_regions(
 }
 
 // The path from one end of edge g to the other.
-fn inside(plan: &Plan, edges: Edges, noted: &Noted, g: usize, out: &mut [u32], at: usize) -> Listed
-    ensures { λ r. ⌜ answerOf r (now (out .exit)) ≡ inside (now (plan .entry)) edges (now (noted .entry)) g (outOf (now (out .entry)) at) ⌝ }
+fn inside(plan: &[u8], edges: Edges, noted: &Noted, g: usize, out: &mut [u32], at: usize) -> Listed
+    ensures { λ r. ⌜ answerOf r (now (out .exit)) ≡ inside (wordsOf (now (plan .entry))) edges (now (noted .entry)) g (outOf (now (out .entry)) at) ⌝ }
 {
     path(plan, edges, noted, ends_of(edges, g, false), out, at)
 }
 
 // EdgeBetweenDifferentGroups.
 fn between(
-    plan: &Plan,
+    plan: &[u8],
     edges: Edges,
     noted: &Noted,
     h: u8,
@@ -169,7 +186,7 @@ fn between(
     out: &mut [u32],
     at: usize,
 ) -> Listed
-    ensures { λ r. ⌜ answerOf r (now (out .exit)) ≡ between (now (plan .entry)) edges (now (noted .entry)) h g flip (outOf (now (out .entry)) at) ⌝ }
+    ensures { λ r. ⌜ answerOf r (now (out .exit)) ≡ between (wordsOf (now (plan .entry))) edges (now (noted .entry)) h g flip (outOf (now (out .entry)) at) ⌝ }
 {
     let d = ends_of(edges, h as usize, false);
     let e = ends_of(edges, g as usize, flip);
@@ -181,7 +198,7 @@ fn between(
 
 // TooLargeIfRegionsAreMerged.
 fn too_large(
-    plan: &Plan,
+    plan: &[u8],
     edges: Edges,
     noted: &Noted,
     g: u8,
@@ -189,7 +206,7 @@ fn too_large(
     out: &mut [u32],
     at: usize,
 ) -> Listed
-    ensures { λ r. ⌜ answerOf r (now (out .exit)) ≡ tooLarge (now (plan .entry)) edges (now (noted .entry)) g l (outOf (now (out .entry)) at) ⌝ }
+    ensures { λ r. ⌜ answerOf r (now (out .exit)) ≡ tooLarge (wordsOf (now (plan .entry))) edges (now (noted .entry)) g l (outOf (now (out .entry)) at) ⌝ }
 {
     let e = ends_of(edges, g as usize, false);
     let r = two_regions(plan, edges, noted, e.u, e.v, out, at);
@@ -198,14 +215,14 @@ fn too_large(
 
 // InconsistentBoundsIfRegionsAreMerged; no list for any other reason.
 fn mismatch(
-    plan: &Plan,
+    plan: &[u8],
     edges: Edges,
     noted: &Noted,
     reason: Reason,
     out: &mut [u32],
     at: usize,
 ) -> Listed
-    ensures { λ r. ⌜ answerOf r (now (out .exit)) ≡ mismatch (now (plan .entry)) edges (now (noted .entry)) reason (outOf (now (out .entry)) at) ⌝ }
+    ensures { λ r. ⌜ answerOf r (now (out .exit)) ≡ mismatch (wordsOf (now (plan .entry))) edges (now (noted .entry)) reason (outOf (now (out .entry)) at) ⌝ }
 {
     if let Reason::InconsistentBoundsIfRegionsAreMerged {
         disconnected_edge_idx: g,
@@ -231,7 +248,7 @@ fn mismatch(
 
 // BoundPropagationWithinRegion.
 fn spread(
-    plan: &Plan,
+    plan: &[u8],
     edges: Edges,
     noted: &Noted,
     k: u8,
@@ -240,7 +257,7 @@ fn spread(
     out: &mut [u32],
     at: usize,
 ) -> Listed
-    ensures { λ r. ⌜ answerOf r (now (out .exit)) ≡ spread (now (plan .entry)) edges (now (noted .entry)) k u l (outOf (now (out .entry)) at) ⌝ }
+    ensures { λ r. ⌜ answerOf r (now (out .exit)) ≡ spread (wordsOf (now (plan .entry))) edges (now (noted .entry)) k u l (outOf (now (out .entry)) at) ⌝ }
 {
     let p = Ends {
         u: k as usize,
@@ -252,7 +269,7 @@ fn spread(
 
 // Two regions and a third one.
 fn three_regions(
-    plan: &Plan,
+    plan: &[u8],
     edges: Edges,
     noted: &Noted,
     a: usize,
@@ -261,7 +278,7 @@ fn three_regions(
     out: &mut [u32],
     at: usize,
 ) -> Listed
-    ensures { λ r. ⌜ answerOf r (now (out .exit)) ≡ threeRegions (now (plan .entry)) edges (now (noted .entry)) a b u (outOf (now (out .entry)) at) ⌝ }
+    ensures { λ r. ⌜ answerOf r (now (out .exit)) ≡ threeRegions (wordsOf (now (plan .entry))) edges (now (noted .entry)) a b u (outOf (now (out .entry)) at) ⌝ }
 {
     let r = two_regions(plan, edges, noted, a, b, out, at);
     match r {
@@ -272,14 +289,14 @@ fn three_regions(
 
 // AdjacentSameSizeRegions; no list for any other reason.
 fn same_size(
-    plan: &Plan,
+    plan: &[u8],
     edges: Edges,
     noted: &Noted,
     reason: Reason,
     out: &mut [u32],
     at: usize,
 ) -> Listed
-    ensures { λ r. ⌜ answerOf r (now (out .exit)) ≡ sameSize (now (plan .entry)) edges (now (noted .entry)) reason (outOf (now (out .entry)) at) ⌝ }
+    ensures { λ r. ⌜ answerOf r (now (out .exit)) ≡ sameSize (wordsOf (now (plan .entry))) edges (now (noted .entry)) reason (outOf (now (out .entry)) at) ⌝ }
 {
     if let Reason::AdjacentSameSizeRegions {
         region1_vertex: a,
@@ -311,14 +328,14 @@ fn same_size(
 // The Rust's `get_reason_lits`, where the edges and bounds are as noted. There is no list where a path is gone; if it is the second
 // of two, the literals of the first are written.
 pub fn reason_lits(
-    plan: &Plan,
+    plan: &[u8],
     edges: Edges,
     noted: &Noted,
     reason: Reason,
     out: &mut [u32],
     at: usize,
 ) -> Listed
-    ensures { λ r. ⌜ answerOf r (now (out .exit)) ≡ reasonLits (now (plan .entry)) edges (now (noted .entry)) reason (outOf (now (out .entry)) at) ⌝ }
+    ensures { λ r. ⌜ answerOf r (now (out .exit)) ≡ reasonLits (wordsOf (now (plan .entry))) edges (now (noted .entry)) reason (outOf (now (out .entry)) at) ⌝ }
 {
     match reason {
         Reason::NotPropagated => Listed::Missing,

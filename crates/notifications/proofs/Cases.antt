@@ -24,6 +24,11 @@ module _ (proposals words v w : List ℕ) (p x y : ℕ) where
   unfolding mergedAt
   merge-at-yes b e f g h = h ∙ (λ i. set ((f ∙ ap (set words (2 * p)) e) i) (2 * p + 1) (g i)) ∙ sym (pick-yes _ _ b)
 
+-- nothing is put at a place that is not proposed
+pub merged-idle : (proposals : List ℕ) (p : ℕ) (l : List ℕ) → proposedAt proposals p ≡ false → l ≡ mergedAt proposals p l
+unfolding mergedAt
+merged-idle proposals p l e = sym (pick-no _ _ e)
+
 module _ (proposals words : List ℕ) where
   merged-at-length : (p : ℕ) (l : List ℕ) → length (mergedAt proposals p l) ≡ length l
   unfolding mergedAt

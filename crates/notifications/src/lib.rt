@@ -6,7 +6,6 @@ use crate::merge::merge;
 use edge_table::Edges;
 use judge::Judgement;
 use noting::Noted;
-use plan::Plan;
 use sat::Lit;
 use undo_log::Cursor;
 ghost use mathlib.Core.Path.{_≡_};
@@ -14,6 +13,7 @@ ghost use Prim.Native.Nat.{_<_};
 ghost use Rattle.noting.specs.Words.{crossedIn};
 ghost use Rattle.judge.specs.declared.Judgement.the-variants.{Fine};
 ghost use Rattle.notifications.specs.Notifications.{litAt, triedOut, way, ending, isFine, isDue, joined, notified, notifiedAt, notifiedAll, onceMore, lastPass, progress, goneThrough};
+ghost use Rattle.plan.specs.Words.{wordsOf};
 
 // How far the notifications have come.
 pub struct Progress {
@@ -27,16 +27,16 @@ pub struct Progress {
 }
 
 // The literal at place p; a literal has 16 bits.
-pub fn lit_at(plan: &Plan, p: usize) -> u16
-    ensures { λ r. ⌜ r ≡ litAt (now (plan .entry)) p ⌝ }
+pub fn lit_at(plan: &[u8], p: usize) -> u16
+    ensures { λ r. ⌜ r ≡ litAt (wordsOf (now (plan .entry))) p ⌝ }
 {
     (plan::unique_lit(plan, p) % 65536) as u16
 }
 
 // The words noted with literal `lit`, tried out with no log, and the lowest vertex whose bounds then cross.
-pub fn try_out(plan: &Plan, noted: &mut Noted, lit: u16) -> usize
-    ensures { λ r. ⌜ (now (noted .exit) ≡ triedOut (now (plan .entry)) lit (now (noted .entry)))
-        × (r ≡ crossedIn (now (plan .entry)) (now (noted .exit))) ⌝ }
+pub fn try_out(plan: &[u8], noted: &mut Noted, lit: u16) -> usize
+    ensures { λ r. ⌜ (now (noted .exit) ≡ triedOut (wordsOf (now (plan .entry))) lit (now (noted .entry)))
+        × (r ≡ crossedIn (wordsOf (now (plan .entry))) (now (noted .exit))) ⌝ }
 {
     let mut none = [0u64; 1];
     let start = Cursor {
@@ -49,7 +49,7 @@ pub fn try_out(plan: &Plan, noted: &mut Noted, lit: u16) -> usize
 
 // What is noted is analyzed and judged; an analysis that is not refused is kept, and a fine one handed on.
 fn join(
-    plan: &Plan,
+    plan: &[u8],
     edges: Edges,
     noted: &Noted,
     crossed: usize,
@@ -61,8 +61,8 @@ fn join(
     x: Progress,
     past: usize,
 ) -> Progress
-    requires { ⌜ crossed ≡ crossedIn (now plan) (now noted) ⌝ }
-    ensures { λ r. ⌜ way r (now (noted .entry)) (now (table .exit)) (now (list .exit)) (now (words .exit)) (now (proposals .exit)) (now (left .exit)) ≡ joined (now (plan .entry)) edges past (way x (now (noted .entry)) (now (table .entry)) (now (list .entry)) (now (words .entry)) (now (proposals .entry)) (now (left .entry))) ⌝ }
+    requires { ⌜ crossed ≡ crossedIn (wordsOf (now plan)) (now noted) ⌝ }
+    ensures { λ r. ⌜ way r (now (noted .entry)) (now (table .exit)) (now (list .exit)) (now (words .exit)) (now (proposals .exit)) (now (left .exit)) ≡ joined (wordsOf (now (plan .entry))) edges past (way x (now (noted .entry)) (now (table .entry)) (now (list .entry)) (now (words .entry)) (now (proposals .entry)) (now (left .entry))) ⌝ }
 {
     let handed = x.handed;
     let found = judge::judge(plan, edges, noted, crossed, table, proposals, left);
@@ -95,7 +95,7 @@ fn join(
 
 // The literal at place p is notified, unless its variable stood on entry: refusal 10.
 fn notify(
-    plan: &Plan,
+    plan: &[u8],
     edges: Edges,
     log: &[u64],
     used: usize,
@@ -109,7 +109,7 @@ fn notify(
     p: usize,
 ) -> Progress
     requires { ⌜ p < 8589934592 ⌝ }
-    ensures { λ r. ⌜ way r (now (noted .exit)) (now (table .exit)) (now (list .exit)) (now (words .exit)) (now (proposals .exit)) (now (left .exit)) ≡ notified (now (plan .entry)) edges (now (log .entry)) used p (way x (now (noted .entry)) (now (table .entry)) (now (list .entry)) (now (words .entry)) (now (proposals .entry)) (now (left .entry))) ⌝ }
+    ensures { λ r. ⌜ way r (now (noted .exit)) (now (table .exit)) (now (list .exit)) (now (words .exit)) (now (proposals .exit)) (now (left .exit)) ≡ notified (wordsOf (now (plan .entry))) edges (now (log .entry)) used p (way x (now (noted .entry)) (now (table .entry)) (now (list .entry)) (now (words .entry)) (now (proposals .entry)) (now (left .entry))) ⌝ }
 {
     let lit = lit_at(plan, p);
     let variable = Lit(lit).var();
@@ -146,8 +146,8 @@ fn is_fine(j: Judgement) -> bool
 }
 
 // Whether it is the turn of the literal at place p: `entry` is the table on entry.
-fn is_due(plan: &Plan, entry: &[u8], j: Judgement, p: usize) -> bool
-    ensures { λ r. ⌜ r ≡ isDue (now (plan .entry)) (now (entry .entry)) j p ⌝ }
+fn is_due(plan: &[u8], entry: &[u8], j: Judgement, p: usize) -> bool
+    ensures { λ r. ⌜ r ≡ isDue (wordsOf (now (plan .entry))) (now (entry .entry)) j p ⌝ }
 {
     if is_fine(j) {
         return sweep::table::is_true(entry, plan::unique_lit(plan, p));
@@ -157,7 +157,7 @@ fn is_due(plan: &Plan, entry: &[u8], j: Judgement, p: usize) -> bool
 
 // The literal at place p is notified where it is true in the table on entry, unless there was a conflict or a refusal.
 fn notify_at(
-    plan: &Plan,
+    plan: &[u8],
     edges: Edges,
     entry: &[u8],
     log: &[u64],
@@ -172,7 +172,7 @@ fn notify_at(
     p: usize,
 ) -> Progress
     requires { ⌜ p < 8589934592 ⌝ }
-    ensures { λ r. ⌜ way r (now (noted .exit)) (now (table .exit)) (now (list .exit)) (now (words .exit)) (now (proposals .exit)) (now (left .exit)) ≡ notifiedAt (now (plan .entry)) edges (now (entry .entry)) (now (log .entry)) used p (way x (now (noted .entry)) (now (table .entry)) (now (list .entry)) (now (words .entry)) (now (proposals .entry)) (now (left .entry))) ⌝ }
+    ensures { λ r. ⌜ way r (now (noted .exit)) (now (table .exit)) (now (list .exit)) (now (words .exit)) (now (proposals .exit)) (now (left .exit)) ≡ notifiedAt (wordsOf (now (plan .entry))) edges (now (entry .entry)) (now (log .entry)) used p (way x (now (noted .entry)) (now (table .entry)) (now (list .entry)) (now (words .entry)) (now (proposals .entry)) (now (left .entry))) ⌝ }
 {
     let j = x.judgement;
     if is_due(plan, entry, j, p) {
@@ -196,7 +196,7 @@ fn notify_at(
 
 // In rising order the plan's literals that are true in the table on entry.
 fn notify_all(
-    plan: &Plan,
+    plan: &[u8],
     edges: Edges,
     entry: &[u8],
     log: &[u64],
@@ -209,7 +209,7 @@ fn notify_all(
     left: &mut [u32],
     x: Progress,
 ) -> Progress
-    ensures { λ r. ⌜ way r (now (noted .exit)) (now (table .exit)) (now (list .exit)) (now (words .exit)) (now (proposals .exit)) (now (left .exit)) ≡ notifiedAll (now (plan .entry)) edges (now (entry .entry)) (now (log .entry)) used (way x (now (noted .entry)) (now (table .entry)) (now (list .entry)) (now (words .entry)) (now (proposals .entry)) (now (left .entry))) ⌝ }
+    ensures { λ r. ⌜ way r (now (noted .exit)) (now (table .exit)) (now (list .exit)) (now (words .exit)) (now (proposals .exit)) (now (left .exit)) ≡ notifiedAll (wordsOf (now (plan .entry))) edges (now (entry .entry)) (now (log .entry)) used (way x (now (noted .entry)) (now (table .entry)) (now (list .entry)) (now (words .entry)) (now (proposals .entry)) (now (left .entry))) ⌝ }
 {
     let n = 2 * (plan::num_variables(plan) as usize);
     let mut y = x;
@@ -237,7 +237,7 @@ fn notify_all(
 
 // The last pass: what it proposes is kept, neither tested against the table nor handed on.
 fn analyze_once_more(
-    plan: &Plan,
+    plan: &[u8],
     edges: Edges,
     noted: &Noted,
     words: &mut [u64],
@@ -245,7 +245,7 @@ fn analyze_once_more(
     left: &mut [u32],
     x: Progress,
 ) -> Progress
-    ensures { λ r. ⌜ ending r (now (words .exit)) (now (proposals .exit)) (now (left .exit)) ≡ onceMore (now (plan .entry)) edges (now (noted .entry)) x (now (words .entry)) (now (proposals .entry)) (now (left .entry)) ⌝ }
+    ensures { λ r. ⌜ ending r (now (words .exit)) (now (proposals .exit)) (now (left .exit)) ≡ onceMore (wordsOf (now (plan .entry))) edges (now (noted .entry)) x (now (words .entry)) (now (proposals .entry)) (now (left .entry)) ⌝ }
 {
     let unset = [0u8; 1];
     let crossed = noting::note::crossed(plan, noted);
@@ -272,7 +272,7 @@ fn analyze_once_more(
 
 // The last pass, unless there was a conflict or a refusal before it.
 fn last_pass(
-    plan: &Plan,
+    plan: &[u8],
     edges: Edges,
     noted: &Noted,
     words: &mut [u64],
@@ -280,7 +280,7 @@ fn last_pass(
     left: &mut [u32],
     x: Progress,
 ) -> Progress
-    ensures { λ r. ⌜ ending r (now (words .exit)) (now (proposals .exit)) (now (left .exit)) ≡ lastPass (now (plan .entry)) edges (now (noted .entry)) x (now (words .entry)) (now (proposals .entry)) (now (left .entry)) ⌝ }
+    ensures { λ r. ⌜ ending r (now (words .exit)) (now (proposals .exit)) (now (left .exit)) ≡ lastPass (wordsOf (now (plan .entry))) edges (now (noted .entry)) x (now (words .entry)) (now (proposals .entry)) (now (left .entry)) ⌝ }
 {
     let j = x.judgement;
     if is_fine(j) {
@@ -291,7 +291,7 @@ fn last_pass(
 
 // All notifications and the last pass, where the list last left has `len` entries.
 pub fn go_through(
-    plan: &Plan,
+    plan: &[u8],
     edges: Edges,
     entry: &[u8],
     log: &[u64],
@@ -304,7 +304,7 @@ pub fn go_through(
     left: &mut [u32],
     len: usize,
 ) -> Progress
-    ensures { λ r. ⌜ way r (now (noted .exit)) (now (table .exit)) (now (list .exit)) (now (words .exit)) (now (proposals .exit)) (now (left .exit)) ≡ goneThrough (now (plan .entry)) edges (now (entry .entry)) (now (log .entry)) used (way (progress Fine 0 len 0) (now (noted .entry)) (now (table .entry)) (now (list .entry)) (now (words .entry)) (now (proposals .entry)) (now (left .entry))) ⌝ }
+    ensures { λ r. ⌜ way r (now (noted .exit)) (now (table .exit)) (now (list .exit)) (now (words .exit)) (now (proposals .exit)) (now (left .exit)) ≡ goneThrough (wordsOf (now (plan .entry))) edges (now (entry .entry)) (now (log .entry)) used (way (progress Fine 0 len 0) (now (noted .entry)) (now (table .entry)) (now (list .entry)) (now (words .entry)) (now (proposals .entry)) (now (left .entry))) ⌝ }
 {
     let start = Progress {
         judgement: Judgement::Fine,

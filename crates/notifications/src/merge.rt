@@ -1,10 +1,10 @@
 // What an analysis proposed is put beside what earlier ones did, two words for each place: the newest stays.
 use base::slices::word;
-use plan::Plan;
 ghost use mathlib.Core.Path.{_≡_};
 ghost use Prim.Native.Nat.{_*_, _+_, _<_};
 ghost use lib.ListN.{set};
 ghost use Rattle.notifications.specs.Notifications.{merged, mergedAt};
+ghost use Rattle.plan.specs.Words.{wordsOf};
 
 fn put(words: &mut [u64], i: usize, x: u64)
     ensures { λ _. ⌜ now (words .exit) ≡ set (now (words .entry)) i x ⌝ }
@@ -24,13 +24,13 @@ fn merge_at(proposals: &[u64], words: &mut [u64], p: usize)
     }
 }
 
-pub fn merge(plan: &Plan, proposals: &[u64], words: &mut [u64])
-    ensures { λ _. ⌜ now (words .exit) ≡ merged (now (plan .entry)) (now (proposals .entry)) (now (words .entry)) ⌝ }
+pub fn merge(plan: &[u8], proposals: &[u64], words: &mut [u64])
+    ensures { λ _. ⌜ now (words .exit) ≡ merged (wordsOf (now (plan .entry))) (now (proposals .entry)) (now (words .entry)) ⌝ }
 {
     let n = 2 * (plan::num_variables(plan) as usize);
-    let mut p = 0;
+    let mut p = sweep::next_proposed(proposals, 0, n);
     while p < n {
         merge_at(proposals, words, p);
-        p += 1;
+        p = sweep::next_proposed(proposals, p + 1, n);
     }
 }

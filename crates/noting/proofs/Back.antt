@@ -98,13 +98,3 @@ undo-is noted log noted₁ c used left hn hu hl =
   where
     at : ℕ → ℕ → Cursor
     at a b = record { used = a; standing = b }
-
--- counting the notifications that stand
-module _ (log : List ℕ) (n : ℕ) (h : 0 < n) (r : Record) (e : r ≡ recordOf (getD log (n - 1) 0)) (count whole : ℕ) (q : count + length (standing (recordsOf log n)) ≡ whole) where
-  pub count-more : r .kind ≡ 0 → count + 1 + length (standing (recordsOf log (n - 1))) ≡ whole
-  count-more z =
-      let m : length (standing (recordsOf log n)) ≡ suc (length (standing (recordsOf log (n - 1)))) = ap length (standing-more log n h r e z) in
-      omega arith
-
-  pub count-on : (r .kind ≡ 0 → ⊥) → count + length (standing (recordsOf log (n - 1))) ≡ whole
-  count-on z = ap (λ (ls : List ℕ). count + length ls) (standing-on log n h r e z) ∙ q

@@ -1,8 +1,10 @@
 pub mod Pushing
 pub mod Sizes
+pub mod Filling
 pub mod Steps
 pub mod Place
 pub mod Back
+pub mod Forwards
 pub mod Effects
 pub mod After
 pub mod UndoNote
@@ -18,9 +20,11 @@ pub mod Noted
 pub mod Unnoted
 pub mod Prefix
 pub mod Following
+pub mod Passed
 pub mod Logged
 pub mod Appending
 pub mod Differs
+pub mod Words
 pub mod Distinct
 pub mod Replaying
 pub mod Room

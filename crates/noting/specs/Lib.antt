@@ -3,6 +3,7 @@ pub mod Note
 pub mod Undo
 pub mod Standing
 pub mod Replay
+pub mod Following
 pub mod Buffers
 pub mod Good
 pub mod Logged

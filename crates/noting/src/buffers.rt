@@ -1,14 +1,14 @@
 // Refusal 7's tests of the lent buffers.
-use plan::Plan;
 ghost use mathlib.Core.Path.{_≡_};
 ghost use Prim.Native.Nat.{ℕ, _≤_};
 ghost use lib.ListN.{length};
 ghost use Rattle.base.specs.Lists.{some};
 ghost use Rattle.noting.specs.Buffers.{tableLen, codeBad, tableBad, listShort, reasonShort, logShort};
+ghost use Rattle.plan.specs.Words.{wordsOf};
 
 // The largest variable and one, 0 with none.
-pub fn table_len(plan: &Plan) -> usize
-    ensures { λ r. ⌜ r ≡ tableLen (now (plan .entry)) ⌝ }
+pub fn table_len(plan: &[u8]) -> usize
+    ensures { λ r. ⌜ r ≡ tableLen (wordsOf (now (plan .entry))) ⌝ }
 {
     let n = plan::num_variables(plan) as usize;
     if 0 < n {
@@ -32,8 +32,8 @@ fn some_code_bad(table: &[u8]) -> bool
     bad
 }
 
-pub fn table_bad(plan: &Plan, table: &[u8]) -> bool
-    ensures { λ r. ⌜ r ≡ tableBad (now (plan .entry)) (now (table .entry)) ⌝ }
+pub fn table_bad(plan: &[u8], table: &[u8]) -> bool
+    ensures { λ r. ⌜ r ≡ tableBad (wordsOf (now (plan .entry))) (now (table .entry)) ⌝ }
 {
     if table.len() < table_len(plan) {
         return true;
@@ -41,20 +41,20 @@ pub fn table_bad(plan: &Plan, table: &[u8]) -> bool
     some_code_bad(table)
 }
 
-pub fn list_short(plan: &Plan, n: usize) -> bool
-    ensures { λ r. ⌜ r ≡ listShort (now (plan .entry)) n ⌝ }
+pub fn list_short(plan: &[u8], n: usize) -> bool
+    ensures { λ r. ⌜ r ≡ listShort (wordsOf (now (plan .entry))) n ⌝ }
 {
     n < 2 * (plan::num_variables(plan) as usize)
 }
 
-pub fn reason_short(plan: &Plan, n: usize) -> bool
-    ensures { λ r. ⌜ r ≡ reasonShort (now (plan .entry)) n ⌝ }
+pub fn reason_short(plan: &[u8], n: usize) -> bool
+    ensures { λ r. ⌜ r ≡ reasonShort (wordsOf (now (plan .entry))) n ⌝ }
 {
     n < plan::num_edges(plan) as usize + 2 * (plan::num_vertices(plan) as usize) + 4
 }
 
-pub fn log_short(plan: &Plan, n: usize) -> bool
-    ensures { λ r. ⌜ r ≡ logShort (now (plan .entry)) n ⌝ }
+pub fn log_short(plan: &[u8], n: usize) -> bool
+    ensures { λ r. ⌜ r ≡ logShort (wordsOf (now (plan .entry))) n ⌝ }
 {
     n < 2 * (plan::num_slots(plan) as usize)
 }

@@ -6,12 +6,12 @@ pub mod replay;
 pub mod stands;
 pub mod undo;
 
-use plan::Plan;
 ghost use mathlib.Core.Path.{_≡_};
 ghost use lib.ListN.{replicate};
 ghost use Prim.Native.Nat.{ℕ, _+_, _≤_, _<_};
 ghost use Rattle.base.specs.Lists.{filled};
 ghost use Rattle.noting.specs.Words.{edgeStateOf, boundAt, lowerOf, upperOf, lowerLitOf, upperLitOf, capped, firstSize, lastSize, fresh};
+ghost use Rattle.plan.specs.Words.{wordsOf};
 
 pub const NOTED_WORDS: usize = 384;
 
@@ -77,7 +77,8 @@ pub fn upper_bound_lit(noted: &Noted, v: usize) -> u32
     bound_at(noted, 320, NO_BOUND_LIT, v)
 }
 
-fn capped(n: u32, most: u32) -> usize
+// n, but no more than `most`.
+pub fn capped(n: u32, most: u32) -> usize
     ensures { λ r. ⌜ r ≡ capped n most ⌝ }
 {
     if n < most {
@@ -86,8 +87,8 @@ fn capped(n: u32, most: u32) -> usize
     most as usize
 }
 
-fn first_size(plan: &Plan, v: usize) -> u32
-    ensures { λ r. ⌜ r ≡ firstSize (now (plan .entry)) v ⌝ }
+fn first_size(plan: &[u8], v: usize) -> u32
+    ensures { λ r. ⌜ r ≡ firstSize (wordsOf (now (plan .entry))) v ⌝ }
 {
     if 0 < plan::domain_len(plan, v) {
         return plan::domain(plan, v, 0);
@@ -95,8 +96,8 @@ fn first_size(plan: &Plan, v: usize) -> u32
     0
 }
 
-fn last_size(plan: &Plan, v: usize) -> u32
-    ensures { λ r. ⌜ r ≡ lastSize (now (plan .entry)) v ⌝ }
+fn last_size(plan: &[u8], v: usize) -> u32
+    ensures { λ r. ⌜ r ≡ lastSize (wordsOf (now (plan .entry))) v ⌝ }
 {
     let len = plan::domain_len(plan, v);
     if 0 < len {
@@ -117,39 +118,29 @@ fn fill(noted: &mut Noted, from: usize, n: usize, x: u32)
     }
 }
 
-fn fill_first(plan: &Plan, noted: &mut Noted, n: usize)
+// First and last sizes, a vertex at a time.
+fn fill_sizes(plan: &[u8], noted: &mut Noted, n: usize)
     requires { ⌜ n ≤ 64 ⌝ }
-    ensures { λ r. ⌜ now (noted .exit) ≡ filled 128 n (firstSize (now (plan .entry))) (now (noted .entry)) ⌝ }
+    ensures { λ r. ⌜ now (noted .exit) ≡ filled 192 n (lastSize (wordsOf (now (plan .entry)))) (filled 128 n (firstSize (wordsOf (now (plan .entry)))) (now (noted .entry))) ⌝ }
 {
     let mut i = 0;
     while i < n {
         let x = first_size(plan, i);
+        let y = last_size(plan, i);
         noted[128 + i] = x;
-        i += 1;
-    }
-}
-
-fn fill_last(plan: &Plan, noted: &mut Noted, n: usize)
-    requires { ⌜ n ≤ 64 ⌝ }
-    ensures { λ r. ⌜ now (noted .exit) ≡ filled 192 n (lastSize (now (plan .entry))) (now (noted .entry)) ⌝ }
-{
-    let mut i = 0;
-    while i < n {
-        let x = last_size(plan, i);
-        noted[192 + i] = x;
+        noted[192 + i] = y;
         i += 1;
     }
 }
 
 // Nothing noted. Words that the plan does not use stay as they are.
-pub fn fresh(plan: &Plan, noted: &mut Noted)
-    ensures { λ r. ⌜ now (noted .exit) ≡ fresh (now (plan .entry)) (now (noted .entry)) ⌝ }
+pub fn fresh(plan: &[u8], noted: &mut Noted)
+    ensures { λ r. ⌜ now (noted .exit) ≡ fresh (wordsOf (now (plan .entry))) (now (noted .entry)) ⌝ }
 {
     let vertices = capped(plan::num_vertices(plan), 64);
     let edges = capped(plan::num_edges(plan), 128);
     fill(noted, 0, edges, UNDECIDED);
-    fill_first(plan, noted, vertices);
-    fill_last(plan, noted, vertices);
+    fill_sizes(plan, noted, vertices);
     fill(noted, 320, vertices, NO_BOUND_LIT);
     fill(noted, 256, vertices, NO_BOUND_LIT);
 }

@@ -7,7 +7,6 @@ use crate::lower_bound;
 use crate::lower_bound_lit;
 use crate::upper_bound;
 use crate::upper_bound_lit;
-use plan::Plan;
 use undo_log::Cursor;
 use undo_log::EDGE;
 use undo_log::LEVEL_BOUNDARY;
@@ -23,7 +22,7 @@ ghost use lib.Dec.{ltb, eqb};
 ghost use Rattle.base.specs.Iter.{iter};
 ghost use Rattle.division.specs.Regions.{lowest};
 ghost use Rattle.undo_log.specs.Log.{pushWords};
-ghost use Rattle.plan.specs.Words.{variablesOf, variableAt, startAt, occurrenceAt};
+ghost use Rattle.plan.specs.Words.{wordsOf, variablesOf, variableAt, startAt, occurrenceAt};
 ghost use Rattle.noting.specs.Words.{crosses, crossedIn};
 ghost use Rattle.noting.specs.Note.{effect, sizeEffect, edgeEffect, effectOf, undoRecord, boundSet, edgeSet, applied, noting, pushedTo, noteSlot, boundary, oneMore, levelPushed, halved, searchedIn, placeFromFirst, placeFromLast, isAt, placeIn, known, noteAt, note};
 
@@ -44,9 +43,9 @@ pub struct Span {
     pub high: usize,
 }
 
-fn size_effect(plan: &Plan, noted: &Noted, holds: bool, v: usize, j: usize) -> Effect
+fn size_effect(plan: &[u8], noted: &Noted, holds: bool, v: usize, j: usize) -> Effect
     requires { ⌜ (v < 64) × (j < 32) ⌝ }
-    ensures { λ r. ⌜ r ≡ sizeEffect (now (plan .entry)) (now (noted .entry)) holds v j ⌝ }
+    ensures { λ r. ⌜ r ≡ sizeEffect (wordsOf (now (plan .entry))) (now (noted .entry)) holds v j ⌝ }
 {
     if holds {
         let x = plan::domain(plan, v, j + 1);
@@ -78,7 +77,7 @@ fn size_effect(plan: &Plan, noted: &Noted, holds: bool, v: usize, j: usize) -> E
     }
 }
 
-fn edge_effect(holds: bool, g: usize) -> Effect
+pub(crate) fn edge_effect(holds: bool, g: usize) -> Effect
     requires { ⌜ g < 128 ⌝ }
     ensures { λ r. ⌜ r ≡ edgeEffect holds g ⌝ }
 {
@@ -96,8 +95,8 @@ fn edge_effect(holds: bool, g: usize) -> Effect
     }
 }
 
-pub(crate) fn effect_of(plan: &Plan, noted: &Noted, lit: u16, s: usize) -> Effect
-    ensures { λ r. ⌜ r ≡ effectOf (now (plan .entry)) (now (noted .entry)) lit s ⌝ }
+fn effect_of(plan: &[u8], noted: &Noted, lit: u16, s: usize) -> Effect
+    ensures { λ r. ⌜ r ≡ effectOf (wordsOf (now (plan .entry))) (now (noted .entry)) lit s ⌝ }
 {
     let holds = plan::lit(plan, s) == lit as u32;
     if s < 2048 {
@@ -192,14 +191,14 @@ fn push(log: &mut [u64], cursor: Cursor, r: Record) -> Cursor
 
 // One slot of the literal's variable is noted.
 fn note_slot(
-    plan: &Plan,
+    plan: &[u8],
     noted: &mut Noted,
     log: &mut [u64],
     cursor: Cursor,
     lit: u16,
     s: usize,
 ) -> Cursor
-    ensures { λ c. ⌜ noting (now (noted .exit)) (now (log .exit)) c ≡ noteSlot (now (plan .entry)) lit s (noting (now (noted .entry)) (now (log .entry)) cursor) ⌝ }
+    ensures { λ c. ⌜ noting (now (noted .exit)) (now (log .exit)) c ≡ noteSlot (wordsOf (now (plan .entry))) lit s (noting (now (noted .entry)) (now (log .entry)) cursor) ⌝ }
 {
     let e = effect_of(plan, noted, lit, s);
     if e.kind == NOTHING {
@@ -212,21 +211,21 @@ fn note_slot(
 }
 
 fn note_occurrence(
-    plan: &Plan,
+    plan: &[u8],
     noted: &mut Noted,
     log: &mut [u64],
     cursor: Cursor,
     lit: u16,
     i: usize,
 ) -> Cursor
-    ensures { λ c. ⌜ noting (now (noted .exit)) (now (log .exit)) c ≡ noteSlot (now (plan .entry)) lit (occurrenceAt (now (plan .entry)) i) (noting (now (noted .entry)) (now (log .entry)) cursor) ⌝ }
+    ensures { λ c. ⌜ noting (now (noted .exit)) (now (log .exit)) c ≡ noteSlot (wordsOf (now (plan .entry))) lit (occurrenceAt (wordsOf (now (plan .entry))) i) (noting (now (noted .entry)) (now (log .entry)) cursor) ⌝ }
 {
     let s = plan::occurrence_at(plan, i) as usize;
     note_slot(plan, noted, log, cursor, lit, s)
 }
 
 fn note_occurrences(
-    plan: &Plan,
+    plan: &[u8],
     noted: &mut Noted,
     log: &mut [u64],
     cursor: Cursor,
@@ -235,7 +234,7 @@ fn note_occurrences(
     n: usize,
 ) -> Cursor
     requires { ⌜ from + n ≤ 8589934592 ⌝ }
-    ensures { λ c. ⌜ noting (now (noted .exit)) (now (log .exit)) c ≡ iter (λ i y. noteSlot (now (plan .entry)) lit (occurrenceAt (now (plan .entry)) (from + i)) y) n (noting (now (noted .entry)) (now (log .entry)) cursor) ⌝ }
+    ensures { λ c. ⌜ noting (now (noted .exit)) (now (log .exit)) c ≡ iter (λ i y. noteSlot (wordsOf (now (plan .entry))) lit (occurrenceAt (wordsOf (now (plan .entry))) (from + i)) y) n (noting (now (noted .entry)) (now (log .entry)) cursor) ⌝ }
 {
     let mut cur = cursor;
     let mut i = 0;
@@ -268,9 +267,9 @@ fn push_level(log: &mut [u64], cursor: Cursor, lit: u16) -> Cursor
 }
 
 // One halving of a part of the distinct variables.
-fn halve(plan: &Plan, x: u32, p: Span) -> Span
+fn halve(plan: &[u8], x: u32, p: Span) -> Span
     requires { ⌜ (p .low ≤ 4294967296) × (p .high ≤ 4294967296) ⌝ }
-    ensures { λ r. ⌜ r ≡ halved (now (plan .entry)) x 0 p ⌝ }
+    ensures { λ r. ⌜ r ≡ halved (wordsOf (now (plan .entry))) x 0 p ⌝ }
 {
     let low = p.low;
     let high = p.high;
@@ -284,8 +283,8 @@ fn halve(plan: &Plan, x: u32, p: Span) -> Span
     p
 }
 
-fn halve_all(plan: &Plan, x: u32) -> usize
-    ensures { λ r. ⌜ (r ≡ searchedIn (now (plan .entry)) x) × (r ≤ 4294967296) ⌝ }
+fn halve_all(plan: &[u8], x: u32) -> usize
+    ensures { λ r. ⌜ (r ≡ searchedIn (wordsOf (now (plan .entry))) x) × (r ≤ 4294967296) ⌝ }
 {
     let mut p = Span {
         low: 0,
@@ -309,14 +308,14 @@ fn less(a: u32, b: u32) -> usize
     0
 }
 
-fn place_from_first(plan: &Plan, x: u32) -> usize
-    ensures { λ r. ⌜ (r ≡ placeFromFirst (now (plan .entry)) x) × (r ≤ 4294967296) ⌝ }
+pub(crate) fn place_from_first(plan: &[u8], x: u32) -> usize
+    ensures { λ r. ⌜ (r ≡ placeFromFirst (wordsOf (now (plan .entry))) x) × (r ≤ 4294967296) ⌝ }
 {
     less(x, plan::variable_at(plan, 0))
 }
 
-fn place_from_last(plan: &Plan, x: u32) -> usize
-    ensures { λ r. ⌜ (r ≡ placeFromLast (now (plan .entry)) x) × (r ≤ 4294967296) ⌝ }
+fn place_from_last(plan: &[u8], x: u32) -> usize
+    ensures { λ r. ⌜ (r ≡ placeFromLast (wordsOf (now (plan .entry))) x) × (r ≤ 4294967296) ⌝ }
 {
     let last = less(plan::num_variables(plan), 1);
     let back = less(plan::variable_at(plan, last), x);
@@ -327,8 +326,8 @@ fn place_from_last(plan: &Plan, x: u32) -> usize
 }
 
 // Whether distinct variable k is x.
-pub(crate) fn is_variable(plan: &Plan, k: usize, x: u32) -> bool
-    ensures { λ r. ⌜ r ≡ isAt (now (plan .entry)) k x ⌝ }
+pub(crate) fn is_variable(plan: &[u8], k: usize, x: u32) -> bool
+    ensures { λ r. ⌜ r ≡ isAt (wordsOf (now (plan .entry))) k x ⌝ }
 {
     if k < plan::num_variables(plan) as usize {
         return plan::variable_at(plan, k) == x;
@@ -338,8 +337,8 @@ pub(crate) fn is_variable(plan: &Plan, k: usize, x: u32) -> bool
 
 // Variable x's place among the distinct variables, if it is one of them: looked up where the variables are a run of numbers or two,
 // else searched by halving.
-pub(crate) fn search(plan: &Plan, x: u32) -> usize
-    ensures { λ r. ⌜ (r ≡ placeIn (now (plan .entry)) x) × (r ≤ 4294967296) ⌝ }
+pub(crate) fn search(plan: &[u8], x: u32) -> usize
+    ensures { λ r. ⌜ (r ≡ placeIn (wordsOf (now (plan .entry))) x) × (r ≤ 4294967296) ⌝ }
 {
     let a = place_from_first(plan, x);
     if is_variable(plan, a, x) {
@@ -352,23 +351,23 @@ pub(crate) fn search(plan: &Plan, x: u32) -> usize
     halve_all(plan, x)
 }
 
-pub fn place_in(plan: &Plan, x: u32) -> usize
-    ensures { λ r. ⌜ r ≡ placeIn (now (plan .entry)) x ⌝ }
+pub fn place_in(plan: &[u8], x: u32) -> usize
+    ensures { λ r. ⌜ r ≡ placeIn (wordsOf (now (plan .entry))) x ⌝ }
 {
     search(plan, x)
 }
 
 // Whether variable x is one of the plan's: refusal 9 where it is not.
-pub fn known(plan: &Plan, x: u32) -> bool
-    ensures { λ r. ⌜ r ≡ known (now (plan .entry)) x ⌝ }
+pub fn known(plan: &[u8], x: u32) -> bool
+    ensures { λ r. ⌜ r ≡ known (wordsOf (now (plan .entry))) x ⌝ }
 {
     is_variable(plan, place_in(plan, x), x)
 }
 
 // How many occurrences distinct variable k has.
-pub(crate) fn num_occurrences(plan: &Plan, k: usize) -> usize
+pub(crate) fn num_occurrences(plan: &[u8], k: usize) -> usize
     requires { ⌜ k ≤ 4294967296 ⌝ }
-    ensures { λ r. ⌜ (r ≡ startAt (now (plan .entry)) (k + 1) - startAt (now (plan .entry)) k) × (r < 4294967296) ⌝ }
+    ensures { λ r. ⌜ (r ≡ startAt (wordsOf (now (plan .entry))) (k + 1) - startAt (wordsOf (now (plan .entry))) k) × (r < 4294967296) ⌝ }
 {
     let from = plan::start_at(plan, k) as usize;
     let to = plan::start_at(plan, k + 1) as usize;
@@ -380,7 +379,7 @@ pub(crate) fn num_occurrences(plan: &Plan, k: usize) -> usize
 
 // Every occurrence of the literal's variable, which is distinct variable k, is noted.
 fn note_at(
-    plan: &Plan,
+    plan: &[u8],
     noted: &mut Noted,
     log: &mut [u64],
     cursor: Cursor,
@@ -388,7 +387,7 @@ fn note_at(
     k: usize,
 ) -> Cursor
     requires { ⌜ k ≤ 4294967296 ⌝ }
-    ensures { λ c. ⌜ noting (now (noted .exit)) (now (log .exit)) c ≡ noteAt (now (plan .entry)) lit k (noting (now (noted .entry)) (now (log .entry)) cursor) ⌝ }
+    ensures { λ c. ⌜ noting (now (noted .exit)) (now (log .exit)) c ≡ noteAt (wordsOf (now (plan .entry))) lit k (noting (now (noted .entry)) (now (log .entry)) cursor) ⌝ }
 {
     let n = num_occurrences(plan, k);
     let from = plan::start_at(plan, k) as usize;
@@ -396,8 +395,8 @@ fn note_at(
 }
 
 // The literal stands from here on. A literal that the plan does not have changes no edge and no bound.
-fn note_level(plan: &Plan, noted: &mut Noted, log: &mut [u64], cursor: Cursor, lit: u16) -> Cursor
-    ensures { λ c. ⌜ noting (now (noted .exit)) (now (log .exit)) c ≡ note (now (plan .entry)) lit (noting (now (noted .entry)) (now (log .entry)) cursor) ⌝ }
+fn note_level(plan: &[u8], noted: &mut Noted, log: &mut [u64], cursor: Cursor, lit: u16) -> Cursor
+    ensures { λ c. ⌜ noting (now (noted .exit)) (now (log .exit)) c ≡ note (wordsOf (now (plan .entry))) lit (noting (now (noted .entry)) (now (log .entry)) cursor) ⌝ }
 {
     let c = push_level(log, cursor, lit);
     let x = sat::variable(lit as u32);
@@ -416,8 +415,8 @@ fn crosses(noted: &Noted, v: usize) -> bool
 }
 
 // The lowest vertex whose bounds cross; the number of vertices, 64 at most, where none do.
-pub fn crossed(plan: &Plan, noted: &Noted) -> usize
-    ensures { λ r. ⌜ r ≡ crossedIn (now (plan .entry)) (now (noted .entry)) ⌝ }
+pub fn crossed(plan: &[u8], noted: &Noted) -> usize
+    ensures { λ r. ⌜ r ≡ crossedIn (wordsOf (now (plan .entry))) (now (noted .entry)) ⌝ }
 {
     let n = capped(plan::num_vertices(plan), 64);
     let mut v: usize = 0;
@@ -437,10 +436,10 @@ pub struct Told {
 }
 
 // `notify`.
-pub fn note(plan: &Plan, noted: &mut Noted, log: &mut [u64], cursor: Cursor, lit: u16) -> Told
+pub fn note(plan: &[u8], noted: &mut Noted, log: &mut [u64], cursor: Cursor, lit: u16) -> Told
     ensures { λ r. ⌜ (noting (now (noted .exit)) (now (log .exit)) (r .cursor)
-        ≡ note (now (plan .entry)) lit (noting (now (noted .entry)) (now (log .entry)) cursor))
-        × (r .crossed ≡ crossedIn (now (plan .entry)) (now (noted .exit))) ⌝ }
+        ≡ note (wordsOf (now (plan .entry))) lit (noting (now (noted .entry)) (now (log .entry)) cursor))
+        × (r .crossed ≡ crossedIn (wordsOf (now (plan .entry))) (now (noted .exit))) ⌝ }
 {
     let c = note_level(plan, noted, log, cursor, lit);
     Told {

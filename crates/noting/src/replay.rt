@@ -1,35 +1,35 @@
 // The last part of refusal 7: the log's literals are noted afresh, oldest first, into working words, and each record that
 // noting would push is compared with the one in the log. Linear in the log and in the standing literals' occurrences.
 use crate::Noted;
-use crate::edge_state;
+use crate::capped;
 use crate::fresh;
 use crate::lower_bound;
-use crate::lower_bound_lit;
-use crate::note::NOTHING;
+use crate::note::Effect;
 use crate::note::apply;
-use crate::note::effect_of;
+use crate::note::edge_effect;
 use crate::note::is_variable;
 use crate::note::num_occurrences;
+use crate::note::place_from_first;
 use crate::note::search;
 use crate::note::undo_record;
-use crate::undo::record_at;
 use crate::upper_bound;
-use crate::upper_bound_lit;
-use plan::Plan;
 use undo_log::Cursor;
-use undo_log::LEVEL_BOUNDARY;
+use undo_log::LOWER_BOUND;
 use undo_log::Record;
+use undo_log::UPPER_BOUND;
 ghost use mathlib.Core.Path.{_≡_};
 ghost use mathlib.Core.Bool.{true, not, _||_};
 ghost use Prim.Native.Nat.{ℕ, _+_, _-_, _/_, _≤_, _<_};
+ghost use lib.Dec.{eqb};
 ghost use lib.ListN.{length, getD};
-ghost use Rattle.base.specs.Iter.{iter};
+ghost use Rattle.base.specs.Iter.{iter, pick};
 ghost use Rattle.base.specs.Lists.{some};
-ghost use Rattle.plan.specs.Words.{verticesOf, edgesOf, occurrenceAt};
-ghost use Rattle.noting.specs.Note.{placeIn};
+ghost use Rattle.plan.specs.Words.{wordsOf, verticesOf, edgesOf, occurrenceAt};
+ghost use Rattle.noting.specs.Note.{placeIn, known};
 ghost use Rattle.noting.specs.Undo.{recordsOf};
 ghost use Rattle.noting.specs.Standing.{standing};
-ghost use Rattle.noting.specs.Replay.{place, litAt, holdsAt, followed, followSlot, followAt, replayed, marked, setMark, opens, replayLevel, replay, edgeDiffers, vertexDiffers, notedDiffers, afresh, logBad};
+ghost use Rattle.noting.specs.Replay.{place, holdsAt, followed, followSlot, followAt, replayed, marked, setMark, replayLevel, notedDiffers, afresh, logBad};
+ghost use Rattle.noting.specs.Following.{followEffect, Replays, wordDiffers};
 
 // Whether the log is as noting gives it, and how far it was read.
 pub struct Place {
@@ -37,91 +37,157 @@ pub struct Place {
     pub at: usize,
 }
 
-fn word_at(log: &[u64], i: usize) -> u64
-    ensures { λ r. ⌜ r ≡ getD (now (log .entry)) i 0 ⌝ }
-{
-    if i < log.len() {
-        return log[i];
-    }
-    0
-}
-
 fn holds_at(log: &[u64], used: usize, at: usize, r: Record) -> bool
+    requires { ⌜ used ≤ length (now log) ⌝ }
     ensures { λ b. ⌜ b ≡ holdsAt (now (log .entry)) used at r ⌝ }
 {
     if at < used {
-        return word_at(log, at) == undo_log::word_of(r);
+        return log[at] == undo_log::word_of(r);
     }
     false
 }
 
-fn follow_slot(
-    plan: &Plan,
+// The record that an effect leaves is to stand there.
+fn follow_effect(
+    noted: &mut Noted,
+    log: &[u64],
+    used: usize,
+    e: Effect,
+    lit: u16,
+    at: usize,
+) -> Place
+    requires { ⌜ used ≤ length (now log) ⌝ }
+    ensures { λ r. ⌜ followed (now (noted .exit)) r ≡ followEffect (now (log .entry)) used lit e (followed (now (noted .entry)) (place true at)) ⌝ }
+{
+    let r = undo_record(noted, e);
+    if holds_at(log, used, at, r) {
+        apply(noted, e, lit);
+        return Place {
+            ok: true,
+            at: at + 1,
+        };
+    }
+    Place { ok: false, at }
+}
+
+// Each effect is made where it is followed, so that its kind is a constant there.
+fn follow_size(
+    plan: &[u8],
     noted: &mut Noted,
     log: &[u64],
     used: usize,
     lit: u16,
     s: usize,
-    p: Place,
+    at: usize,
 ) -> Place
-    ensures { λ r. ⌜ followed (now (noted .exit)) r ≡ followSlot (now (plan .entry)) (now (log .entry)) used lit s (followed (now (noted .entry)) p) ⌝ }
+    requires { ⌜ (s < 2048) × (used ≤ length (now log)) ⌝ }
+    ensures { λ r. ⌜ followed (now (noted .exit)) r ≡ followSlot (wordsOf (now (plan .entry))) (now (log .entry)) used lit s (followed (now (noted .entry)) (place true at)) ⌝ }
 {
-    let at = p.at;
-    if p.ok {
-        let e = effect_of(plan, noted, lit, s);
-        if e.kind == NOTHING {
-            return p;
-        }
-        let r = undo_record(noted, e);
-        if holds_at(log, used, at, r) {
-            apply(noted, e, lit);
-            return Place {
-                ok: true,
-                at: at + 1,
+    let v = s / 32;
+    if plan::lit(plan, s) == lit as u32 {
+        let x = plan::domain(plan, v, s % 32 + 1);
+        if lower_bound(noted, v) < x {
+            let e = Effect {
+                kind: LOWER_BOUND,
+                index: v as u8,
+                value: x,
             };
+            return follow_effect(noted, log, used, e, lit, at);
         }
-        return Place { ok: false, at };
+        return Place { ok: true, at };
     }
-    p
+    let x = plan::domain(plan, v, s % 32);
+    if x < upper_bound(noted, v) {
+        let e = Effect {
+            kind: UPPER_BOUND,
+            index: v as u8,
+            value: x,
+        };
+        return follow_effect(noted, log, used, e, lit, at);
+    }
+    Place { ok: true, at }
+}
+
+fn follow_edge(
+    plan: &[u8],
+    noted: &mut Noted,
+    log: &[u64],
+    used: usize,
+    lit: u16,
+    s: usize,
+    at: usize,
+) -> Place
+    requires { ⌜ (2048 ≤ s) × (s < 2176) × (used ≤ length (now log)) ⌝ }
+    ensures { λ r. ⌜ followed (now (noted .exit)) r ≡ followSlot (wordsOf (now (plan .entry))) (now (log .entry)) used lit s (followed (now (noted .entry)) (place true at)) ⌝ }
+{
+    let e = edge_effect(plan::lit(plan, s) == lit as u32, s - 2048);
+    follow_effect(noted, log, used, e, lit, at)
+}
+
+fn follow_slot(
+    plan: &[u8],
+    noted: &mut Noted,
+    log: &[u64],
+    used: usize,
+    lit: u16,
+    s: usize,
+    at: usize,
+) -> Place
+    requires { ⌜ used ≤ length (now log) ⌝ }
+    ensures { λ r. ⌜ followed (now (noted .exit)) r ≡ followSlot (wordsOf (now (plan .entry))) (now (log .entry)) used lit s (followed (now (noted .entry)) (place true at)) ⌝ }
+{
+    if s < 2048 {
+        return follow_size(plan, noted, log, used, lit, s, at);
+    }
+    if s < 2176 {
+        return follow_edge(plan, noted, log, used, lit, s, at);
+    }
+    Place { ok: true, at }
 }
 
 fn follow_occurrence(
-    plan: &Plan,
+    plan: &[u8],
     noted: &mut Noted,
     log: &[u64],
     used: usize,
     lit: u16,
     i: usize,
-    p: Place,
+    at: usize,
 ) -> Place
-    ensures { λ r. ⌜ followed (now (noted .exit)) r ≡ followSlot (now (plan .entry)) (now (log .entry)) used lit (occurrenceAt (now (plan .entry)) i) (followed (now (noted .entry)) p) ⌝ }
+    requires { ⌜ used ≤ length (now log) ⌝ }
+    ensures { λ r. ⌜ followed (now (noted .exit)) r ≡ followSlot (wordsOf (now (plan .entry))) (now (log .entry)) used lit (occurrenceAt (wordsOf (now (plan .entry))) i) (followed (now (noted .entry)) (place true at)) ⌝ }
 {
     let s = plan::occurrence_at(plan, i) as usize;
-    follow_slot(plan, noted, log, used, lit, s, p)
+    follow_slot(plan, noted, log, used, lit, s, at)
 }
 
-// Every occurrence of the literal's variable, which is distinct variable k.
+// Every occurrence of the literal's variable, which is distinct variable k, until the log is other than noting gives.
 fn follow_at(
-    plan: &Plan,
+    plan: &[u8],
     noted: &mut Noted,
     log: &[u64],
     used: usize,
     lit: u16,
     k: usize,
-    p: Place,
+    after: usize,
 ) -> Place
-    requires { ⌜ k ≤ 4294967296 ⌝ }
-    ensures { λ r. ⌜ followed (now (noted .exit)) r ≡ followAt (now (plan .entry)) (now (log .entry)) used lit k (followed (now (noted .entry)) p) ⌝ }
+    requires { ⌜ (k ≤ 4294967296) × (used ≤ length (now log)) ⌝ }
+    ensures { λ r. ⌜ followed (now (noted .exit)) r ≡ followAt (wordsOf (now (plan .entry))) (now (log .entry)) used lit k (followed (now (noted .entry)) (place true after)) ⌝ }
 {
     let n = num_occurrences(plan, k);
     let from = plan::start_at(plan, k) as usize;
-    let mut cur = p;
+    let mut at = after;
     let mut i = 0;
     while i < n {
-        cur = follow_occurrence(plan, noted, log, used, lit, from + i, cur);
-        i += 1;
+        let p = follow_occurrence(plan, noted, log, used, lit, from + i, at);
+        if p.ok {
+            at = p.at;
+            i += 1;
+            continue;
+        }
+        return p;
     }
-    cur
+    Place { ok: true, at }
 }
 
 fn marked(marks: &[u8; 2176], k: usize) -> bool
@@ -141,170 +207,133 @@ fn mark(marks: &mut [u8; 2176], k: usize)
     }
 }
 
-// Whether a notification starts there whose literal is known, and neither it nor its negation stood before. The literal's variable has
-// been searched: k is what was found.
-fn opens(plan: &Plan, marks: &[u8; 2176], log: &[u64], at: usize, k: usize) -> bool
-    requires { ⌜ k ≡ placeIn (now plan) (litAt (now log) at / 2) ⌝ }
-    ensures { λ r. ⌜ r ≡ opens (now (plan .entry)) (now (marks .entry)) (now (log .entry)) at ⌝ }
+// Variable x's place among the distinct variables; past all marks where it is none of them. The first look, which finds nearly all,
+// is made here, where the search is a call.
+fn find(plan: &[u8], x: u32) -> usize
+    ensures { λ r. ⌜ (r ≡ pick (known (wordsOf (now (plan .entry))) x) (placeIn (wordsOf (now (plan .entry))) x) 2176) × (r ≤ 4294967296) ⌝ }
 {
-    let lit = record_at(log, at).lit;
-    let r = Record {
-        kind: LEVEL_BOUNDARY,
-        index: 0,
-        bound: 0,
-        lit,
-    };
-    if word_at(log, at) == undo_log::word_of(r) {
-        if is_variable(plan, k, sat::variable(lit as u32)) {
-            if marked(marks, k) {
-                return false;
-            }
-            return true;
-        }
-        return false;
+    let a = place_from_first(plan, x);
+    if is_variable(plan, a, x) {
+        return a;
     }
-    false
+    let k = search(plan, x);
+    if is_variable(plan, k, x) {
+        return k;
+    }
+    2176
 }
 
-// One notification of the log; past the cursor, nothing.
+// One notification of the log.
 fn replay_level(
-    plan: &Plan,
+    plan: &[u8],
     noted: &mut Noted,
     marks: &mut [u8; 2176],
     log: &[u64],
     used: usize,
-    p: Place,
+    at: usize,
 ) -> Place
-    ensures { λ r. ⌜ replayed (now (marks .exit)) (now (noted .exit)) r ≡ replayLevel (now (plan .entry)) (now (log .entry)) used (replayed (now (marks .entry)) (now (noted .entry)) p) ⌝ }
+    requires { ⌜ (at < used) × (used ≤ length (now log)) ⌝ }
+    ensures { λ r. ⌜ replayed (now (marks .exit)) (now (noted .exit)) r ≡ replayLevel (wordsOf (now (plan .entry))) (now (log .entry)) used (replayed (now (marks .entry)) (now (noted .entry)) (place true at)) ⌝ }
 {
-    let at = p.at;
-    if p.ok {
-        if at < used {
-            let lit = record_at(log, at).lit;
-            let k = search(plan, sat::variable(lit as u32));
-            if opens(plan, marks, log, at, k) {
-                mark(marks, k);
-                let q = Place {
-                    ok: true,
-                    at: at + 1,
-                };
-                return follow_at(plan, noted, log, used, lit, k, q);
-            }
+    let w = log[at];
+    let lit = (w / 65536 % 65536) as u16;
+    if w == 65536 * (lit as u64) {
+        let k = find(plan, sat::variable(lit as u32));
+        if marked(marks, k) {
             return Place { ok: false, at };
         }
-        return p;
+        mark(marks, k);
+        return follow_at(plan, noted, log, used, lit, k, at + 1);
     }
-    p
+    Place { ok: false, at }
 }
 
-fn replay(plan: &Plan, noted: &mut Noted, marks: &mut [u8; 2176], log: &[u64], used: usize) -> Place
-    ensures { λ r. ⌜ replayed (now (marks .exit)) (now (noted .exit)) r ≡ replay (now (plan .entry)) (now (log .entry)) used (replayed (now (marks .entry)) (now (noted .entry)) (place true 0)) ⌝ }
+// Whether the log is as noting gives it, and as many notifications stand as it is said. The definition goes on for `used` turns; those
+// after the log is read through, or is other, change nothing.
+fn replay(
+    plan: &[u8],
+    noted: &mut Noted,
+    marks: &mut [u8; 2176],
+    log: &[u64],
+    used: usize,
+    count: usize,
+) -> bool
+    requires { ⌜ used ≤ length (now log) ⌝ }
+    ensures { λ r. ⌜ Replays (wordsOf (now (plan .entry))) (now (log .entry)) used count (replayed (now (marks .entry)) (now (noted .entry)) (place true 0)) r (now (noted .exit)) ⌝ }
 {
-    let mut p = Place { ok: true, at: 0 };
+    let mut at = 0;
+    let mut levels = 0;
+    while at < used {
+        let p = replay_level(plan, noted, marks, log, used, at);
+        if p.ok {
+            at = p.at;
+            levels += 1;
+            continue;
+        }
+        return false;
+    }
+    levels == count
+}
+
+// Whether some of the n words from `from` on differ. No way out of the loop, so that it compares several words at once.
+fn words_differ(a: &Noted, b: &Noted, from: usize, n: usize) -> bool
+    requires { ⌜ from + n ≤ 384 ⌝ }
+    ensures { λ r. ⌜ r ≡ some (wordDiffers (now (a .entry)) (now (b .entry)) from) n ⌝ }
+{
+    let mut found = false;
     let mut i = 0;
-    while i < used {
-        p = replay_level(plan, noted, marks, log, used, p);
+    while i < n {
+        if a[from + i] == b[from + i] {
+            i += 1;
+            continue;
+        }
+        found = true;
         i += 1;
     }
-    p
+    found
 }
 
-fn edge_differs(a: &Noted, b: &Noted, g: usize) -> bool
-    ensures { λ r. ⌜ r ≡ edgeDiffers (now (a .entry)) (now (b .entry)) g ⌝ }
+fn noted_differs(plan: &[u8], a: &Noted, b: &Noted) -> bool
+    ensures { λ r. ⌜ r ≡ notedDiffers (wordsOf (now (plan .entry))) (now (a .entry)) (now (b .entry)) ⌝ }
 {
-    edge_state(a, g) != edge_state(b, g)
-}
-
-fn vertex_differs(a: &Noted, b: &Noted, v: usize) -> bool
-    ensures { λ r. ⌜ r ≡ vertexDiffers (now (a .entry)) (now (b .entry)) v ⌝ }
-{
-    if lower_bound(a, v) != lower_bound(b, v) {
+    let edges = capped(plan::num_edges(plan), 128);
+    let n = capped(plan::num_vertices(plan), 64);
+    if words_differ(a, b, 0, edges) {
         return true;
     }
-    if upper_bound(a, v) != upper_bound(b, v) {
+    if words_differ(a, b, 128, n) {
         return true;
     }
-    if lower_bound_lit(a, v) != lower_bound_lit(b, v) {
+    if words_differ(a, b, 192, n) {
         return true;
     }
-    upper_bound_lit(a, v) != upper_bound_lit(b, v)
-}
-
-fn some_edge_differs(a: &Noted, b: &Noted, n: usize) -> bool
-    ensures { λ r. ⌜ r ≡ some (edgeDiffers (now (a .entry)) (now (b .entry))) n ⌝ }
-{
-    let mut g = 0;
-    while g < n {
-        if edge_differs(a, b, g) {
-            return true;
-        }
-        g += 1;
-    }
-    false
-}
-
-fn some_vertex_differs(a: &Noted, b: &Noted, n: usize) -> bool
-    ensures { λ r. ⌜ r ≡ some (vertexDiffers (now (a .entry)) (now (b .entry))) n ⌝ }
-{
-    let mut v = 0;
-    while v < n {
-        if vertex_differs(a, b, v) {
-            return true;
-        }
-        v += 1;
-    }
-    false
-}
-
-fn noted_differs(plan: &Plan, a: &Noted, b: &Noted) -> bool
-    ensures { λ r. ⌜ r ≡ notedDiffers (now (plan .entry)) (now (a .entry)) (now (b .entry)) ⌝ }
-{
-    if some_edge_differs(a, b, plan::num_edges(plan) as usize) {
+    if words_differ(a, b, 256, n) {
         return true;
     }
-    some_vertex_differs(a, b, plan::num_vertices(plan) as usize)
+    words_differ(a, b, 320, n)
 }
 
-// How many notifications stand by the log's first n records.
-fn num_standing(log: &[u64], n: usize) -> usize
-    ensures { λ r. ⌜ r ≡ length (standing (recordsOf (now (log .entry)) n)) ⌝ }
-{
-    let mut count = 0;
-    let mut left = n;
-    while 0 < left {
-        left -= 1;
-        let r = record_at(log, left);
-        if r.kind == LEVEL_BOUNDARY {
-            count += 1;
-        }
-    }
-    count
-}
-
-// Whether noting the log's literals afresh gives another log or other noted words.
-fn differs(plan: &Plan, noted: &Noted, log: &[u64], used: usize) -> bool
-    ensures { λ r. ⌜ r ≡ (not (afresh (now (plan .entry)) (now (log .entry)) used .follow .place .ok) || notedDiffers (now (plan .entry)) (afresh (now (plan .entry)) (now (log .entry)) used .follow .noted) (now (noted .entry))) ⌝ }
+// Whether noting the log's literals afresh gives another log, another number of notifications or other noted words.
+fn differs(plan: &[u8], noted: &Noted, log: &[u64], used: usize, count: usize) -> bool
+    requires { ⌜ used ≤ length (now log) ⌝ }
+    ensures { λ r. ⌜ r ≡ (not (eqb (length (standing (recordsOf (now (log .entry)) used))) count) || (not (afresh (wordsOf (now (plan .entry))) (now (log .entry)) used .follow .place .ok) || notedDiffers (wordsOf (now (plan .entry))) (afresh (wordsOf (now (plan .entry))) (now (log .entry)) used .follow .noted) (now (noted .entry)))) ⌝ }
 {
     let mut work = [0u32; 384];
     let mut marks = [0u8; 2176];
     fresh(plan, &mut work);
-    let p = replay(plan, &mut work, &mut marks, log, used);
-    if p.ok {
+    if replay(plan, &mut work, &mut marks, log, used, count) {
         return noted_differs(plan, &work, noted);
     }
     true
 }
 
 // The last part of refusal 7.
-pub fn log_bad(plan: &Plan, noted: &Noted, log: &[u64], cursor: Cursor) -> bool
-    ensures { λ r. ⌜ r ≡ logBad (now (plan .entry)) (now (noted .entry)) (now (log .entry)) cursor ⌝ }
+pub fn log_bad(plan: &[u8], noted: &Noted, log: &[u64], cursor: Cursor) -> bool
+    ensures { λ r. ⌜ r ≡ logBad (wordsOf (now (plan .entry))) (now (noted .entry)) (now (log .entry)) cursor ⌝ }
 {
     let used = cursor.used;
     if log.len() < used {
         return true;
     }
-    if num_standing(log, used) != cursor.standing {
-        return true;
-    }
-    differs(plan, noted, log, used)
+    differs(plan, noted, log, used, cursor.standing)
 }

@@ -6,3 +6,4 @@ pub mod Proper
 pub mod Passes
 pub mod Abstract
 pub mod Unmarked
+pub mod Reading

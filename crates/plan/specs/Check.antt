@@ -76,6 +76,13 @@ planBad ws ends =
     || (some (variableBad ws) (variablesOf ws)
     || startsBad ws)))
 
+-- some variable is out of range. Of its own, because initialise saves the table's entries of variables in range alone.
+unfoldable pub variableHigh : List ℕ → ℕ → Bool
+variableHigh ws k = ltb 4095 (variableAt ws k)
+
+unfoldable pub variablesHigh : List ℕ → Bool
+variablesHigh ws = some (variableHigh ws) (variablesOf ws)
+
 -- what the first test leaves: the counts are within their limits
 pub record Counts (ws : List ℕ) : Type 0 where
   pub vertices : verticesOf ws ≤ 64

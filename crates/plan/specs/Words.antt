@@ -4,11 +4,17 @@ use mathlib.Core.Bool.{Bool}
 use mathlib.Core.List.{List}
 use Prim.Native.Nat.{ℕ, _+_, _*_, _/_, _%_}
 use lib.Dec.{eqb, ltb}
-use lib.ListN.{getD}
+use lib.ListN.{length, getD, replicate}
 use Rattle.base.specs.Iter.{pick}
+use Rattle.base.specs.Bytes.{wordsIn}
 
 abbrev pub word : List ℕ → ℕ → ℕ
 word ws i = getD ws i 0
+
+-- The words of a plan that is lent as bytes, the lowest byte of each first. Fewer bytes than a plan has hold none of
+-- them: every word counts as 0.
+unfoldable pub wordsOf : List ℕ → List ℕ
+wordsOf b = pick (ltb (length b) 60964) (replicate 15241 0) (wordsIn b 0 15241)
 
 -- word `from + i`, for i below n
 unfoldable pub entry : ℕ → ℕ → List ℕ → ℕ → ℕ
@@ -75,8 +81,9 @@ positionOf = entry 6536 2176
 abbrev pub variableAt : List ℕ → ℕ → ℕ
 variableAt = entry 8712 2176
 
-abbrev pub startAt : List ℕ → ℕ → ℕ
-startAt = entry 10888 2177
+-- A start is at most 2176, as many as there are slots: on any words, no variable has more occurrences.
+unfoldable pub startAt : List ℕ → ℕ → ℕ
+startAt ws k = pick (ltb 2176 (entry 10888 2177 ws k)) 2176 (entry 10888 2177 ws k)
 
 abbrev pub occurrenceAt : List ℕ → ℕ → ℕ
 occurrenceAt = entry 13065 2176

@@ -1,7 +1,7 @@
-// The plan's own test. Every call begins with it, so that a corrupted state is refused and never reaches an index; it is
-// linear in what the plan uses.
+// The plan's own test, linear in what the plan uses. A call tests only the counts, which bound its loops: reading a
+// plan's words is total, so that no words whatever are unsafe. Whether the words are a plan at all is asked by a call of
+// its own, as often as a host likes.
 use crate::BUILT;
-use crate::Plan;
 use crate::domain;
 use crate::domain_len;
 use crate::lit;
@@ -16,6 +16,7 @@ use crate::position;
 use crate::start_at;
 use crate::variable_at;
 use crate::weight;
+use crate::word;
 use base::less_one;
 use base::wide;
 use edge_table::Edges;
@@ -25,11 +26,11 @@ ghost use Prim.Native.Nat.{ℕ, pred, _+_, _-_, _*_, _/_, _%_, _<_, _≤_};
 ghost use lib.Dec.{eqb, ltb, leb};
 ghost use Rattle.base.specs.Iter.{iter};
 ghost use Rattle.base.specs.Lists.{some};
-ghost use Rattle.plan.specs.Words.{word, verticesOf, edgesOf, variablesOf, slotsOf, domainLenOf, startAt};
-ghost use Rattle.plan.specs.Check.{countsBad, usedSlot, entryBad, vertexBad, edgeBad, occurrenceBad, variableOrderBad, variableBad, slotCount, startsBad, planBad, Counts};
+ghost use Rattle.plan.specs.Words.{wordsOf, word, verticesOf, edgesOf, variablesOf, slotsOf, domainLenOf, startAt};
+ghost use Rattle.plan.specs.Check.{countsBad, variableHigh, variablesHigh, usedSlot, entryBad, vertexBad, edgeBad, occurrenceBad, variableOrderBad, variableBad, slotCount, startsBad, planBad, Counts};
 
-fn counts_bad(plan: &Plan) -> bool
-    ensures { λ r. ⌜ r ≡ countsBad (now (plan .entry)) ⌝ }
+fn counts_bad(plan: &[u8]) -> bool
+    ensures { λ r. ⌜ r ≡ countsBad (wordsOf (now (plan .entry))) ⌝ }
 {
     if 64 < num_vertices(plan) {
         return true;
@@ -43,18 +44,46 @@ fn counts_bad(plan: &Plan) -> bool
     if 2176 < num_slots(plan) {
         return true;
     }
-    if 1 < plan[2] {
+    if 1 < word(plan, 2) {
         return true;
     }
-    if 1 < plan[3] {
+    if 1 < word(plan, 3) {
         return true;
     }
     mark(plan) != BUILT
 }
 
+// Whether no count is over its limit, each option is off or on, and the words have the mark of a plan that was built.
+pub fn counts_ok(plan: &[u8]) -> bool
+    ensures { λ r. ⌜ r ≡ not (countsBad (wordsOf (now (plan .entry)))) ⌝ }
+{
+    !counts_bad(plan)
+}
+
+fn variable_high(plan: &[u8], k: usize) -> bool
+    ensures { λ r. ⌜ r ≡ variableHigh (wordsOf (now (plan .entry))) k ⌝ }
+{
+    4095 < variable_at(plan, k)
+}
+
+// Whether some variable is out of range.
+pub fn variables_high(plan: &[u8]) -> bool
+    ensures { λ r. ⌜ r ≡ variablesHigh (wordsOf (now (plan .entry))) ⌝ }
+{
+    let n = num_variables(plan) as usize;
+    let mut k = 0;
+    while k < n {
+        if variable_high(plan, k) {
+            return true;
+        }
+        k += 1;
+    }
+    false
+}
+
 // Whether a slot holds a literal.
-pub fn used_slot(plan: &Plan, s: usize) -> bool
-    ensures { λ r. ⌜ r ≡ usedSlot (now (plan .entry)) s ⌝ }
+pub fn used_slot(plan: &[u8], s: usize) -> bool
+    ensures { λ r. ⌜ r ≡ usedSlot (wordsOf (now (plan .entry))) s ⌝ }
 {
     if s < 2048 {
         let v = s / 32;
@@ -66,8 +95,8 @@ pub fn used_slot(plan: &Plan, s: usize) -> bool
     s - 2048 < num_edges(plan) as usize
 }
 
-fn entry_bad(plan: &Plan, v: usize, j: usize) -> bool
-    ensures { λ r. ⌜ r ≡ entryBad (now (plan .entry)) v j ⌝ }
+fn entry_bad(plan: &[u8], v: usize, j: usize) -> bool
+    ensures { λ r. ⌜ r ≡ entryBad (wordsOf (now (plan .entry))) v j ⌝ }
 {
     if 1000000 < domain(plan, v, j) {
         return true;
@@ -78,8 +107,8 @@ fn entry_bad(plan: &Plan, v: usize, j: usize) -> bool
     domain(plan, v, j) <= domain(plan, v, j - 1)
 }
 
-fn some_entry_bad(plan: &Plan, v: usize, len: usize) -> bool
-    ensures { λ r. ⌜ r ≡ some (entryBad (now (plan .entry)) v) len ⌝ }
+fn some_entry_bad(plan: &[u8], v: usize, len: usize) -> bool
+    ensures { λ r. ⌜ r ≡ some (entryBad (wordsOf (now (plan .entry))) v) len ⌝ }
 {
     let mut j = 0;
     while j < len {
@@ -91,9 +120,9 @@ fn some_entry_bad(plan: &Plan, v: usize, len: usize) -> bool
     false
 }
 
-fn vertex_bad(plan: &Plan, v: usize) -> bool
+fn vertex_bad(plan: &[u8], v: usize) -> bool
     requires { ⌜ v < 64 ⌝ }
-    ensures { λ r. ⌜ r ≡ vertexBad (now (plan .entry)) v ⌝ }
+    ensures { λ r. ⌜ r ≡ vertexBad (wordsOf (now (plan .entry))) v ⌝ }
 {
     if 1000000 < weight(plan, v) {
         return true;
@@ -105,9 +134,9 @@ fn vertex_bad(plan: &Plan, v: usize) -> bool
     some_entry_bad(plan, v, len)
 }
 
-fn some_vertex_bad(plan: &Plan, n: usize) -> bool
+fn some_vertex_bad(plan: &[u8], n: usize) -> bool
     requires { ⌜ n ≤ 64 ⌝ }
-    ensures { λ r. ⌜ r ≡ some (vertexBad (now (plan .entry))) n ⌝ }
+    ensures { λ r. ⌜ r ≡ some (vertexBad (wordsOf (now (plan .entry)))) n ⌝ }
 {
     let mut v = 0;
     while v < n {
@@ -119,9 +148,9 @@ fn some_vertex_bad(plan: &Plan, n: usize) -> bool
     false
 }
 
-fn edge_bad<'a>(plan: &'a Plan, edges: &'a Edges, g: usize) -> bool
+fn edge_bad<'a>(plan: &'a [u8], edges: &'a Edges, g: usize) -> bool
     requires { ⌜ g < 128 ⌝ }
-    ensures { λ r. ⌜ r ≡ edgeBad (now (plan .entry)) (now (edges .entry)) g ⌝ }
+    ensures { λ r. ⌜ r ≡ edgeBad (wordsOf (now (plan .entry))) (now (edges .entry)) g ⌝ }
 {
     let n = num_vertices(plan);
     if n <= wide(edges[g][0]) {
@@ -130,9 +159,9 @@ fn edge_bad<'a>(plan: &'a Plan, edges: &'a Edges, g: usize) -> bool
     n <= wide(edges[g][1])
 }
 
-fn some_edge_bad<'a>(plan: &'a Plan, edges: &'a Edges, m: usize) -> bool
+fn some_edge_bad<'a>(plan: &'a [u8], edges: &'a Edges, m: usize) -> bool
     requires { ⌜ m ≤ 128 ⌝ }
-    ensures { λ r. ⌜ r ≡ some (edgeBad (now (plan .entry)) (now (edges .entry))) m ⌝ }
+    ensures { λ r. ⌜ r ≡ some (edgeBad (wordsOf (now (plan .entry))) (now (edges .entry))) m ⌝ }
 {
     let mut g = 0;
     while g < m {
@@ -144,9 +173,9 @@ fn some_edge_bad<'a>(plan: &'a Plan, edges: &'a Edges, m: usize) -> bool
     false
 }
 
-fn occurrence_bad(plan: &Plan, k: usize, i: usize) -> bool
+fn occurrence_bad(plan: &[u8], k: usize, i: usize) -> bool
     requires { ⌜ k < 2176 ⌝ }
-    ensures { λ r. ⌜ r ≡ occurrenceBad (now (plan .entry)) k i ⌝ }
+    ensures { λ r. ⌜ r ≡ occurrenceBad (wordsOf (now (plan .entry))) k i ⌝ }
 {
     let s = occurrence_at(plan, i);
     if used_slot(plan, s as usize) {
@@ -168,16 +197,16 @@ fn occurrence_bad(plan: &Plan, k: usize, i: usize) -> bool
     true
 }
 
-fn occurrence_bad_from(plan: &Plan, k: usize, from: usize, i: usize) -> bool
+fn occurrence_bad_from(plan: &[u8], k: usize, from: usize, i: usize) -> bool
     requires { ⌜ (k < 2176) × (from + i ≤ 2176) ⌝ }
-    ensures { λ r. ⌜ r ≡ occurrenceBad (now (plan .entry)) k (from + i) ⌝ }
+    ensures { λ r. ⌜ r ≡ occurrenceBad (wordsOf (now (plan .entry))) k (from + i) ⌝ }
 {
     occurrence_bad(plan, k, from + i)
 }
 
-fn some_occurrence_bad(plan: &Plan, k: usize, from: usize, n: usize) -> bool
+fn some_occurrence_bad(plan: &[u8], k: usize, from: usize, n: usize) -> bool
     requires { ⌜ (k < 2176) × (from + n ≤ 2176) ⌝ }
-    ensures { λ r. ⌜ r ≡ some (λ i. occurrenceBad (now (plan .entry)) k (from + i)) n ⌝ }
+    ensures { λ r. ⌜ r ≡ some (λ i. occurrenceBad (wordsOf (now (plan .entry))) k (from + i)) n ⌝ }
 {
     let mut i = 0;
     while i < n {
@@ -190,8 +219,8 @@ fn some_occurrence_bad(plan: &Plan, k: usize, from: usize, n: usize) -> bool
 }
 
 // Whether distinct variable k is out of range or not over the one before it.
-fn variable_order_bad(plan: &Plan, k: usize) -> bool
-    ensures { λ r. ⌜ r ≡ variableOrderBad (now (plan .entry)) k ⌝ }
+fn variable_order_bad(plan: &[u8], k: usize) -> bool
+    ensures { λ r. ⌜ r ≡ variableOrderBad (wordsOf (now (plan .entry))) k ⌝ }
 {
     if 4095 < variable_at(plan, k) {
         return true;
@@ -202,9 +231,9 @@ fn variable_order_bad(plan: &Plan, k: usize) -> bool
     variable_at(plan, k) <= variable_at(plan, k - 1)
 }
 
-fn variable_bad(plan: &Plan, k: usize) -> bool
-    requires { ⌜ (k < 2176) × (slotsOf (now plan) ≤ 2176) ⌝ }
-    ensures { λ r. ⌜ r ≡ variableBad (now (plan .entry)) k ⌝ }
+fn variable_bad(plan: &[u8], k: usize) -> bool
+    requires { ⌜ (k < 2176) × (slotsOf (wordsOf (now plan)) ≤ 2176) ⌝ }
+    ensures { λ r. ⌜ r ≡ variableBad (wordsOf (now (plan .entry))) k ⌝ }
 {
     if variable_order_bad(plan, k) {
         return true;
@@ -220,9 +249,9 @@ fn variable_bad(plan: &Plan, k: usize) -> bool
     some_occurrence_bad(plan, k, from, end - from)
 }
 
-fn some_variable_bad(plan: &Plan, n: usize) -> bool
-    requires { ⌜ (n ≤ 2176) × (slotsOf (now plan) ≤ 2176) ⌝ }
-    ensures { λ r. ⌜ r ≡ some (variableBad (now (plan .entry))) n ⌝ }
+fn some_variable_bad(plan: &[u8], n: usize) -> bool
+    requires { ⌜ (n ≤ 2176) × (slotsOf (wordsOf (now plan)) ≤ 2176) ⌝ }
+    ensures { λ r. ⌜ r ≡ some (variableBad (wordsOf (now (plan .entry)))) n ⌝ }
 {
     let mut k = 0;
     while k < n {
@@ -234,17 +263,17 @@ fn some_variable_bad(plan: &Plan, n: usize) -> bool
     false
 }
 
-fn add_slots(plan: &Plan, v: usize, n: usize) -> usize
-    requires { ⌜ n + pred (domainLenOf (now plan) v) < 1000000 ⌝ }
-    ensures { λ r. ⌜ r ≡ n + pred (domainLenOf (now (plan .entry)) v) ⌝ }
+fn add_slots(plan: &[u8], v: usize, n: usize) -> usize
+    requires { ⌜ n + pred (domainLenOf (wordsOf (now plan)) v) < 1000000 ⌝ }
+    ensures { λ r. ⌜ r ≡ n + pred (domainLenOf (wordsOf (now (plan .entry))) v) ⌝ }
 {
     n + less_one(domain_len(plan, v) as usize)
 }
 
 // How many slots are in use.
-fn slot_count(plan: &Plan) -> usize
-    requires { ⌜ Counts (now plan) ⌝ }
-    ensures { λ r. ⌜ r ≡ slotCount (now (plan .entry)) ⌝ }
+fn slot_count(plan: &[u8]) -> usize
+    requires { ⌜ Counts (wordsOf (now plan)) ⌝ }
+    ensures { λ r. ⌜ r ≡ slotCount (wordsOf (now (plan .entry))) ⌝ }
 {
     let vertices = num_vertices(plan) as usize;
     let mut n = num_edges(plan) as usize;
@@ -256,9 +285,9 @@ fn slot_count(plan: &Plan) -> usize
     n
 }
 
-fn starts_bad(plan: &Plan) -> bool
-    requires { ⌜ Counts (now plan) ⌝ }
-    ensures { λ r. ⌜ r ≡ startsBad (now (plan .entry)) ⌝ }
+fn starts_bad(plan: &[u8]) -> bool
+    requires { ⌜ Counts (wordsOf (now plan)) ⌝ }
+    ensures { λ r. ⌜ r ≡ startsBad (wordsOf (now (plan .entry))) ⌝ }
 {
     let slots = num_slots(plan);
     if start_at(plan, 0) != 0 {
@@ -271,8 +300,8 @@ fn starts_bad(plan: &Plan) -> bool
 }
 
 // Whether the words and the edge table are a plan that the calls can work on.
-pub fn plan_ok<'a>(plan: &'a Plan, edges: &'a Edges) -> bool
-    ensures { λ r. ⌜ r ≡ not (planBad (now (plan .entry)) (now (edges .entry))) ⌝ }
+pub fn plan_ok<'a>(plan: &'a [u8], edges: &'a Edges) -> bool
+    ensures { λ r. ⌜ r ≡ not (planBad (wordsOf (now (plan .entry))) (now (edges .entry))) ⌝ }
 {
     if counts_bad(plan) {
         return false;

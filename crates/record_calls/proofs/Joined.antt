@@ -1,5 +1,5 @@
--- A call on the loaded words of a log of records is the flat call on the words of the whole log. So a list of calls in this
--- form gives the replies that the flat calls give: each is the same definition on the log's words.
+-- Where the plan passes its own test, a call on the loaded words of a log of records is the flat call on the words of the whole log.
+-- So a list of calls in this form gives the replies that the flat calls give: each is the same definition on the log's words.
 use mathlib.Core.Path.{_≡_, refl, sym, ap, ap₂, subst, _∙_}
 use mathlib.Core.Bool.{Bool, true, false, _||_}
 use mathlib.Core.List.{List, [], _∷_, map}
@@ -36,10 +36,12 @@ use Rattle.graph_division.specs.declared.Answer.the-variants.{Refused}
 use Rattle.graph_division.specs.Calls.{outcome, Called, called, refuse, withNoted, withJudged, notedIn, adding, accepting, handingOn, settledBy, settled, propagated, undone, Fetched, fetched, copied, giving, recordedFor, reasonFetched, lastFetched}
 use Rattle.graph_division.specs.Initialize.{notedAt, notedUpTo, takenOver, taking, endedBy, entering, finished, begun, initialized}
 use Rattle.record_calls.specs.Reach.{reaches}
+use Rattle.record_calls.specs.Checked.{checked, checkedInitialized, checkedPropagated, checkedUndone, checkedReason, checkedLast}
 use Rattle.record_calls.proofs.Loaded.{AllFit, Within, loaded-length, loaded-in, pushed-there, pushed-moved, pushed-none, popped-moved, popped-none}
 use Rattle.refusals.proofs.Accepted.{propagate-accepted, initialize-accepted}
 use Rattle.noting.specs.Good.{GoodLog}
 use Rattle.noting.proofs.Valid.{note-valid}
+use Rattle.plan.specs.Check.{planBad, variablesHigh}
 use Rattle.plan.specs.Proper.{ProperWords}
 use Rattle.walks.specs.Written.{outOf, written}
 use Rattle.calls.specs.Table.{trueIn}
@@ -54,7 +56,7 @@ use Rattle.noting.proofs.Room.{room}
 use Rattle.plan.specs.Words.{word, startAt, variablesOf, uniqueLitAt}
 use Rattle.noting.specs.Note.{placeIn}
 use Rattle.record_calls.proofs.Pushed.{Alike, alike-start, note-alike, alike-stored}
-use Rattle.record_calls.proofs.Reached.{reached, state-same, state-out}
+use Rattle.record_calls.proofs.Reached.{reached, reached-passes, reached-proper, state-same, state-out}
 
 -- one literal more, of another variable
 one-more : (v l : ℕ) (ls : List ℕ) → eqb (l / 2) v ≡ false → hasVariable v (l ∷ ls) ≡ hasVariable v ls
@@ -83,7 +85,7 @@ module _ (s : GraphDivision) (c : Cursor) (log : List Record) (blank : List ℕ)
   ends = s .edges .ends
 
   abbrev can : Bool
-  can = reaches (s .plan) (length log) c
+  can = reaches (s .plan) ends (length log) c
 
   as-long : length whole ≡ length log
   as-long = length-map log wordOf
@@ -91,8 +93,8 @@ module _ (s : GraphDivision) (c : Cursor) (log : List Record) (blank : List ℕ)
   part-long : length part ≡ 4352
   part-long = loaded-length log (c .used) blank ∙ long
 
-  can-whole : can ≡ true → reaches (s .plan) (length whole) c ≡ true
-  can-whole e = ap (λ (n : ℕ). reaches (s .plan) n c) as-long ∙ e
+  can-whole : can ≡ true → reaches (s .plan) ends (length whole) c ≡ true
+  can-whole e = ap (λ (n : ℕ). reaches (s .plan) ends n c) as-long ∙ e
 
   -- the two agree up to the cursor
   pub agrees : can ≡ true → (i : ℕ) → i < c .used → getD part i 0 ≡ getD whole i 0
@@ -104,8 +106,25 @@ module _ (s : GraphDivision) (c : Cursor) (log : List Record) (blank : List ℕ)
   pub same-state : can ≡ true → stateBad (s .plan) ends (s .noted) part c ≡ stateBad (s .plan) ends (s .noted) whole c
   same-state e = state-same (s .plan) ends (s .noted) c part whole (can-whole e) part-long (agrees e)
 
-  pub out-state : can ≡ false → stateBad (s .plan) ends (s .noted) whole c ≡ true
-  out-state e = state-out (s .plan) ends (s .noted) c whole (ap (λ (n : ℕ). reaches (s .plan) n c) as-long ∙ e)
+  abbrev fails : Bool
+  fails = planBad (s .plan) ends
+
+  pub out-state : fails ≡ false → can ≡ false → stateBad (s .plan) ends (s .noted) whole c ≡ true
+  out-state f e = state-out (s .plan) ends (s .noted) c whole f (ap (λ (n : ℕ). reaches (s .plan) ends n c) as-long ∙ e)
+
+  proper-plan : can ≡ true → ProperWords (s .plan) ends
+  proper-plan e = reached-proper (s .plan) ends (s .noted) c (length log) e
+
+  passing : can ≡ true → fails ≡ false
+  passing e = reached-passes (s .plan) ends (s .noted) c (length log) e
+
+  -- what is loaded, or turned away: y behind the plan's own test
+  by-test : {A : Type 0} (x away y : A) → (can ≡ true → x ≡ y) → (fails ≡ false → can ≡ false → away ≡ y) →
+      pick can x away ≡ checked s away y
+  unfolding checked
+  by-test x away y f g = tested can
+      (λ e. pick-yes _ _ e ∙ f e ∙ sym (pick-no _ _ (passing e)))
+      (λ e. pick-no _ _ e ∙ tested fails (λ b. sym (pick-yes _ _ b)) (λ b. g b e ∙ sym (pick-no _ _ b)))
 
   -- ---- `undo`
   abbrev pub Moved : Outcome → Type 0
@@ -119,11 +138,11 @@ module _ (s : GraphDivision) (c : Cursor) (log : List Record) (blank : List ℕ)
   unfolding undoRefusal
   undo-refusal-same lit e = λ i. pick (same-state e i) 7 (pick (unknownLit (s .plan) lit) 9 (pick (notNewest (litNumber lit) (standing (same-records e i))) 11 0))
 
-  pub undo-joined : (lit : ℤ) → pick can (undone s c lit part) (refuse 7 s c) ≡ undone s c lit whole
+  pub undo-joined : (lit : ℤ) → pick can (undone s c lit part) (refuse 7 s c) ≡ checkedUndone s c lit whole
   unfolding undone undo undoRefusal
-  undo-joined lit = tested can
-      (λ e. pick-yes _ _ e ∙ ap₂ answered (undo-refusal-same lit e) (same-records e))
-      (λ e. pick-no _ _ e ∙ sym (ap (λ (n : ℕ). answered n (recordsOf whole (c .used))) (pick-yes _ _ (out-state e)) ∙ pick-no _ _ refl))
+  undo-joined lit = by-test _ _ _
+      (λ e. ap₂ answered (undo-refusal-same lit e) (same-records e))
+      (λ f e. sym (ap (λ (n : ℕ). answered n (recordsOf whole (c .used))) (pick-yes _ _ (out-state f e)) ∙ pick-no _ _ refl))
     where
       answered : ℕ → List Record → Outcome
       answered n rs = pick (eqb n 0) (outcome (withNoted (takenBack rs (s .noted)) s) (record { used = kept rs; standing = c .standing - 1 }) answer.Undone) (refuse n s c)
@@ -143,24 +162,24 @@ module _ (s : GraphDivision) (c : Cursor) (log : List Record) (blank : List ℕ)
   unfolding fetchRefusal
   fetch-same n e = ap (λ (b : Bool). pick (b || reasonShort (s .plan) n) 7 0) (same-state e)
 
-  fetch-out : (n : ℕ) → can ≡ false → fetchRefusal (s .plan) ends (s .noted) n whole c ≡ 7
+  fetch-out : (n : ℕ) → fails ≡ false → can ≡ false → fetchRefusal (s .plan) ends (s .noted) n whole c ≡ 7
   unfolding fetchRefusal
-  fetch-out n e = pick-yes _ _ (ap (λ (b : Bool). b || reasonShort (s .plan) n) (out-state e))
+  fetch-out n f e = pick-yes _ _ (ap (λ (b : Bool). b || reasonShort (s .plan) n) (out-state f e))
 
-  pub reason-joined : (lit : ℤ) (b : List ℕ) → pick can (reasonFetched s c part lit b) (fetched (Refused 7) b) ≡ reasonFetched s c whole lit b
+  pub reason-joined : (lit : ℤ) (b : List ℕ) → pick can (reasonFetched s c part lit b) (fetched (Refused 7) b) ≡ checkedReason s c whole lit b
   unfolding reasonFetched
-  reason-joined lit b = tested can
-      (λ e. pick-yes _ _ e ∙ ap answered (fetch-same (length b) e))
-      (λ e. pick-no _ _ e ∙ sym (ap answered (fetch-out (length b) e) ∙ pick-no _ _ refl))
+  reason-joined lit b = by-test _ _ _
+      (λ e. ap answered (fetch-same (length b) e))
+      (λ f e. sym (ap answered (fetch-out (length b) f e) ∙ pick-no _ _ refl))
     where
       answered : ℕ → Fetched
       answered n = pick (eqb n 0) (pick (eqb (literalRefusal (s .plan) lit) 0) (giving s (recordedFor s (litNumber lit)) b) (fetched (Refused (literalRefusal (s .plan) lit)) b)) (fetched (Refused n) b)
 
-  pub last-joined : (b : List ℕ) → pick can (lastFetched s c part b) (fetched (Refused 7) b) ≡ lastFetched s c whole b
+  pub last-joined : (b : List ℕ) → pick can (lastFetched s c part b) (fetched (Refused 7) b) ≡ checkedLast s c whole b
   unfolding lastFetched
-  last-joined b = tested can
-      (λ e. pick-yes _ _ e ∙ ap answered (fetch-same (length b) e))
-      (λ e. pick-no _ _ e ∙ sym (ap answered (fetch-out (length b) e) ∙ pick-no _ _ refl))
+  last-joined b = by-test _ _ _
+      (λ e. ap answered (fetch-same (length b) e))
+      (λ f e. sym (ap answered (fetch-out (length b) f e) ∙ pick-no _ _ refl))
     where
       answered : ℕ → Fetched
       answered n = pick (eqb n 0) (copied (s .plan) (s .last) (s .«last_len») b) (fetched (Refused n) b)
@@ -173,6 +192,17 @@ module _ (s : GraphDivision) (c : Cursor) (log : List Record) (blank : List ℕ)
   refused-back : (n : ℕ) (t list : List ℕ) → back (called (refuse n s c) t list part) ≡ called (refuse n s c) t list whole
   unfolding back refuse
   refused-back n t list = ap (λ (l : Lent). called (refuse n s c) t list (map wordOf (l .log))) (pushed-none part c log)
+
+  -- the same of what is pushed back: the loaded words turned away are the whole log turned away
+  back-test : (t list : List ℕ) (x y : Called) → (can ≡ true → back x ≡ y) →
+      (fails ≡ false → can ≡ false → called (refuse 7 s c) t list whole ≡ y) →
+      back (pick can x (called (refuse 7 s c) t list part)) ≡ checked s (called (refuse 7 s c) t list whole) y
+  unfolding checked
+  back-test t list x y f g = tested can
+      (λ e. ap back (pick-yes _ _ e) ∙ f e ∙ sym (pick-no _ _ (passing e)))
+      (λ e.
+      ap back (pick-no _ _ e) ∙ refused-back 7 t list
+      ∙ tested fails (λ b. sym (pick-yes _ _ b)) (λ b. g b e ∙ sym (pick-no _ _ b)))
 
   -- the log has room for the records that were pushed on the loaded words
   abbrev Fits : Called → Type 0
@@ -196,9 +226,9 @@ module _ (s : GraphDivision) (c : Cursor) (log : List Record) (blank : List ℕ)
     unfolding tableStateBad
     table-same e = ap (λ (b : Bool). b || (listShort (s .plan) (length list) || tableBad (s .plan) t)) (same-state e)
 
-    table-out : can ≡ false → tableStateBad (s .plan) ends (s .noted) t (length list) whole c ≡ true
+    table-out : fails ≡ false → can ≡ false → tableStateBad (s .plan) ends (s .noted) t (length list) whole c ≡ true
     unfolding tableStateBad
-    table-out e = ap (λ (b : Bool). b || (listShort (s .plan) (length list) || tableBad (s .plan) t)) (out-state e)
+    table-out f e = ap (λ (b : Bool). b || (listShort (s .plan) (length list) || tableBad (s .plan) t)) (out-state f e)
 
     module _ (lit : ℤ) where
       abbrev refusal : List ℕ → ℕ
@@ -224,13 +254,13 @@ module _ (s : GraphDivision) (c : Cursor) (log : List Record) (blank : List ℕ)
         alike =
             let a = propagate-accepted (s .plan) ends (s .noted) part c len t (length list) lit ok in
             let b = propagate-accepted (s .plan) ends (s .noted) whole c len t (length list) lit (sym (refusal-same e) ∙ ok) in
-            let p = a .0 .state .plan in
+            let p = proper-plan e in
             let k = a .1 .is-known in
-            let ra = room (s .plan) ends p (s .noted) part c (a .0 .state .valid .passes) (a .0 .state .valid .long) l k (a .2) in
-            let rb = room (s .plan) ends p (s .noted) whole c (b .0 .state .valid .passes) (b .0 .state .valid .long) l k (b .2) in
+            let ra = room (s .plan) ends p (s .noted) part c (a .0 .state .passes) (a .0 .state .long) l k (a .2) in
+            let rb = room (s .plan) ends p (s .noted) whole c (b .0 .state .passes) (b .0 .state .long) l k (b .2) in
             let o = occurrences-known (s .plan) (l / 2) k in
-            let st = logged-length (s .plan) part (passed-logged (s .plan) ends p (s .noted) part c (a .0 .state .valid .passes)) in
-            let n = counts (s .plan) ends p (s .noted) part c (a .0 .state .valid .passes) in
+            let st = logged-length (s .plan) part (passed-logged (s .plan) ends p (s .noted) part c (a .0 .state .passes)) in
+            let n = counts (s .plan) ends p (s .noted) part c (a .0 .state .passes) in
             let g = note-alike part whole (c .used) (s .plan) l (noting (s .noted) part c) (noting (s .noted) whole c)
             (alike-start part whole (c .used) (s .noted) c refl (omega (arith, st, n)) (λ i h. sym (agrees e i h))) k (omega (arith, ra, o)) (omega (arith, rb, o)) in
             (g .0, omega (arith, g .1, rb, o, as-long))
@@ -276,12 +306,10 @@ module _ (s : GraphDivision) (c : Cursor) (log : List Record) (blank : List ℕ)
         worked-fits pending = pick-ind Fits (inRange (pos 0) pending) _ _ (λ _. settled-fits _ _) (λ _. x-fits)
 
       pub propagated-back : (pending : ℤ) → AllFit (pick can (propagated s c lit pending t list part) (called (refuse 7 s c) t list part) .log) →
-          back (pick can (propagated s c lit pending t list part) (called (refuse 7 s c) t list part)) ≡ propagated s c lit pending t list whole
+          back (pick can (propagated s c lit pending t list part) (called (refuse 7 s c) t list part)) ≡ checkedPropagated s c lit pending t list whole
       unfolding propagated propagateRefusal
-      propagated-back pending fits = tested can
-          (λ e.
-          ap back (pick-yes _ _ e)
-          ∙ tested (eqb (refusal part) 0)
+      propagated-back pending fits = back-test t list _ _
+          (λ e. tested (eqb (refusal part) 0)
           (λ z.
           ap back (pick-yes _ _ z)
           ∙ worked-back e (eqb-true _ _ z) pending (subst (λ (m : Called). AllFit (m .log)) (pick-yes _ _ e ∙ pick-yes _ _ z) fits)
@@ -291,10 +319,8 @@ module _ (s : GraphDivision) (c : Cursor) (log : List Record) (blank : List ℕ)
           ∙ refused-back (refusal part) t list
           ∙ ap (λ (n : ℕ). called (refuse n s c) t list whole) (refusal-same e)
           ∙ sym (pick-no _ _ (ap (λ (n : ℕ). eqb n 0) (sym (refusal-same e)) ∙ z))))
-          (λ e.
-          ap back (pick-no _ _ e)
-          ∙ refused-back 7 t list
-          ∙ sym (ap (λ (n : ℕ). pick (eqb n 0) (pick (inRange (pos 0) pending) (settled s c l t list whole) (adding s c l t list whole)) (called (refuse n s c) t list whole)) (pick-yes _ _ (table-out e)) ∙ pick-no _ _ refl))
+          (λ f e.
+          sym (ap (λ (n : ℕ). pick (eqb n 0) (pick (inRange (pos 0) pending) (settled s c l t list whole) (adding s c l t list whole)) (called (refuse n s c) t list whole)) (pick-yes _ _ (table-out f e)) ∙ pick-no _ _ refl))
 
       propagated-fits : (pending : ℤ) → Fits (pick can (propagated s c lit pending t list part) (called (refuse 7 s c) t list part))
       unfolding propagated
@@ -453,7 +479,7 @@ module _ (s : GraphDivision) (c : Cursor) (log : List Record) (blank : List ℕ)
 
     start-same : can ≡ true → start-refusal part ≡ start-refusal whole
     unfolding initializeRefusal
-    start-same e = ap (λ (b : Bool). pick b 7 (pick (s .initialized) 8 0)) (table-same e)
+    start-same e = ap (λ (b : Bool). pick b 7 (pick (variablesHigh ws) 7 (pick (s .initialized) 8 0))) (table-same e)
 
     entered-came : Came ws ends t part (c .used) (finished s c t part .progress .judgement) (finished s c t part .progress .past)
     unfolding finished entering
@@ -465,7 +491,7 @@ module _ (s : GraphDivision) (c : Cursor) (log : List Record) (blank : List ℕ)
         let a = initialize-accepted ws ends (s .noted) part c len t (length list) (s .initialized) ok .0 .state in
         let b = initialize-accepted ws ends (s .noted) whole c len t (length list) (s .initialized) (sym (start-same e) ∙ ok) .0 .state in
         let f = finished s c t part in
-        ended-back e (a .plan) (a .valid) (b .valid) (f .words) (f .left) (f .progress) (f .progress .judgement) (f .table) (f .list) entered-came fits
+        ended-back e (proper-plan e) a b (f .words) (f .left) (f .progress) (f .progress .judgement) (f .table) (f .list) entered-came fits
         ∙ ap (λ (w : Way). endedBy s c t whole (w .words) (w .left) (w .progress) (w .progress .judgement) t (w .table) (w .list) list) (finished-same e)
 
     begun-fits : can ≡ true → start-refusal part ≡ 0 → Fits (begun s c t part list)
@@ -474,7 +500,7 @@ module _ (s : GraphDivision) (c : Cursor) (log : List Record) (blank : List ℕ)
         let a = initialize-accepted ws ends (s .noted) part c len t (length list) (s .initialized) ok .0 .state in
         let b = initialize-accepted ws ends (s .noted) whole c len t (length list) (s .initialized) (sym (start-same e) ∙ ok) .0 .state in
         let f = finished s c t part in
-        ended-fits e (a .plan) (a .valid) (b .valid) (f .words) (f .left) (f .progress) (f .progress .judgement) (f .table) (f .list) entered-came
+        ended-fits e (proper-plan e) a b (f .words) (f .left) (f .progress) (f .progress .judgement) (f .table) (f .list) entered-came
 
     initialized-fits : Fits (pick can (initialized s c t part list) (called (refuse 7 s c) t list part))
     unfolding initialized
@@ -482,12 +508,10 @@ module _ (s : GraphDivision) (c : Cursor) (log : List Record) (blank : List ℕ)
         (λ e. pick-ind Fits (eqb (start-refusal part) 0) _ _ (λ z. begun-fits e (eqb-true _ _ z)) (λ _. refused-fits (start-refusal part) t list))
         (λ _. refused-fits 7 t list)
 
-    pub initialized-back : AllFit (pick can (initialized s c t part list) (called (refuse 7 s c) t list part) .log) → back (pick can (initialized s c t part list) (called (refuse 7 s c) t list part)) ≡ initialized s c t whole list
+    pub initialized-back : AllFit (pick can (initialized s c t part list) (called (refuse 7 s c) t list part) .log) → back (pick can (initialized s c t part list) (called (refuse 7 s c) t list part)) ≡ checkedInitialized s c t whole list
     unfolding initialized initializeRefusal
-    initialized-back fits = tested can
-        (λ e.
-        ap back (pick-yes _ _ e)
-        ∙ tested (eqb (start-refusal part) 0)
+    initialized-back fits = back-test t list _ _
+        (λ e. tested (eqb (start-refusal part) 0)
         (λ z.
         ap back (pick-yes _ _ z)
         ∙ begun-back e (eqb-true _ _ z) (subst (λ (m : Called). AllFit (m .log)) (pick-yes _ _ e ∙ pick-yes _ _ z) fits)
@@ -497,10 +521,8 @@ module _ (s : GraphDivision) (c : Cursor) (log : List Record) (blank : List ℕ)
         ∙ refused-back (start-refusal part) t list
         ∙ ap (λ (n : ℕ). called (refuse n s c) t list whole) (start-same e)
         ∙ sym (pick-no _ _ (ap (λ (n : ℕ). eqb n 0) (sym (start-same e)) ∙ z))))
-        (λ e.
-        ap back (pick-no _ _ e)
-        ∙ refused-back 7 t list
-        ∙ sym (ap (λ (n : ℕ). pick (eqb n 0) (begun s c t whole list) (called (refuse n s c) t list whole)) (pick-yes _ _ (table-out e)) ∙ pick-no _ _ refl))
+        (λ f e.
+        sym (ap (λ (n : ℕ). pick (eqb n 0) (begun s c t whole list) (called (refuse n s c) t list whole)) (pick-yes _ _ (table-out f e)) ∙ pick-no _ _ refl))
 
     module _ (o : Outcome) (t′ list′ words : List ℕ) where
       -- the log then
@@ -512,7 +534,7 @@ module _ (s : GraphDivision) (c : Cursor) (log : List Record) (blank : List ℕ)
       moved-as = pushedRun words (o .cursor .used) (lent log c) .cursor ≡ movedTo c (o .cursor .used)
 
       module _ (lit pending : ℤ) (e : called o t′ list′ words ≡ pick can (propagated s c lit pending t list part) (called (refuse 7 s c) t list part)) where
-        pub propagate-joined : AllFit words → logged-as (propagated s c lit pending t list whole)
+        pub propagate-joined : AllFit words → logged-as (checkedPropagated s c lit pending t list whole)
         unfolding back
         propagate-joined fits = ap back e ∙ propagated-back lit pending (subst (λ (m : Called). AllFit (m .log)) e fits)
 
@@ -520,7 +542,7 @@ module _ (s : GraphDivision) (c : Cursor) (log : List Record) (blank : List ℕ)
         propagate-moved = pushed-moved words c log (o .cursor .used) (subst Fits (sym e) (propagated-fits lit pending))
 
       module _ (e : called o t′ list′ words ≡ pick can (initialized s c t part list) (called (refuse 7 s c) t list part)) where
-        pub initialize-joined : AllFit words → logged-as (initialized s c t whole list)
+        pub initialize-joined : AllFit words → logged-as (checkedInitialized s c t whole list)
         unfolding back
         initialize-joined fits = ap back e ∙ initialized-back (subst (λ (m : Called). AllFit (m .log)) e fits)
 

@@ -11,10 +11,10 @@ use Rattle.undo_log.specs.Log.{wordOf}
 use Rattle.graph_division.specs.declared.GraphDivision.{GraphDivision}
 use Rattle.graph_division.specs.declared.Outcome.{Outcome}
 use Rattle.graph_division.specs.declared.Answer.{Answer}
-use Rattle.graph_division.specs.Calls.{called, fetched, propagated, undone}
-use Rattle.graph_division.specs.Initialize.{initialized}
-use Rattle.graph_division.specs.Runs.{Query, Request, initialize, propagate, undo, ask, kept, Reply, replied, repliedFetched, asked}
+use Rattle.graph_division.specs.Calls.{called, fetched}
+use Rattle.graph_division.specs.Runs.{Query, Request, initialize, propagate, undo, ask, kept, Reply, replied, repliedFetched}
 use Rattle.graph_division.specs.Runs as flat
+use Rattle.record_calls.specs.Checked.{checkedInitialized, checkedPropagated, checkedUndone, checkedAsked}
 
 -- what is kept from call to call: the state, the cursor, and the records up to it
 pub record Kept : Type 0 where
@@ -37,14 +37,14 @@ keeping s c log = record { state = s; cursor = c; records = take (c .used) log }
 -- a call with its contract: the request, what it replies, and what is kept then
 pub data Made (k : Kept) : Request → Reply → Kept → Type 0 where
   initializes : (t list t′ list′ : List ℕ) (rest log′ : List Record) (r : Outcome) →
-      called r t′ list′ (map wordOf log′) ≡ initialized (k .state) (k .cursor) t (logWords k rest) list →
+      called r t′ list′ (map wordOf log′) ≡ checkedInitialized (k .state) (k .cursor) t (logWords k rest) list →
       Made k (initialize t list (map wordOf rest)) (replied r t′ list′ (map wordOf log′)) (keeping (r .state) (r .cursor) log′)
   propagates : (lit pending : ℤ) (t list t′ list′ : List ℕ) (rest log′ : List Record) (r : Outcome) →
-      called r t′ list′ (map wordOf log′) ≡ propagated (k .state) (k .cursor) lit pending t list (logWords k rest) →
+      called r t′ list′ (map wordOf log′) ≡ checkedPropagated (k .state) (k .cursor) lit pending t list (logWords k rest) →
       Made k (propagate lit pending t list (map wordOf rest)) (replied r t′ list′ (map wordOf log′)) (keeping (r .state) (r .cursor) log′)
-  undoes : (lit : ℤ) (rest : List Record) (r : Outcome) → r ≡ undone (k .state) (k .cursor) lit (logWords k rest) →
+  undoes : (lit : ℤ) (rest : List Record) (r : Outcome) → r ≡ checkedUndone (k .state) (k .cursor) lit (logWords k rest) →
       Made k (undo lit (map wordOf rest)) (replied r [] [] (logWords k rest)) (keeping (r .state) (r .cursor) (k .records ++ rest))
-  asks : (q : Query) (b b′ : List ℕ) (rest : List Record) (a : Answer) → fetched a b′ ≡ asked (k .state) (k .cursor) (logWords k rest) q b →
+  asks : (q : Query) (b b′ : List ℕ) (rest : List Record) (a : Answer) → fetched a b′ ≡ checkedAsked (k .state) (k .cursor) (logWords k rest) q b →
       Made k (ask q b (map wordOf rest)) (repliedFetched (inWords k) (logWords k rest) (fetched a b′)) (keeping (k .state) (k .cursor) (k .records ++ rest))
 
 -- a list of them

@@ -12,6 +12,7 @@ ghost use Rattle.undo_log.specs.Log.{wordOf};
 ghost use Rattle.graph_division.specs.declared.Answer.the-variants.{Refused};
 ghost use Rattle.graph_division.specs.Calls.{fetched, lastFetched, reasonFetched};
 ghost use Rattle.record_calls.specs.Reach.{reaches};
+ghost use Rattle.record_calls.specs.Checked.{checkedReason, checkedLast};
 
 // On the loaded words of a log of `len` records.
 pub(crate) fn calc_reason_words(
@@ -22,9 +23,9 @@ pub(crate) fn calc_reason_words(
     lit: i32,
     buffer: &mut [u32],
 ) -> Answer
-    ensures { λ r. ⌜ fetched r (now (buffer .exit)) ≡ pick (reaches (s .plan) len cursor) (reasonFetched s cursor (now (words .entry)) lit (now (buffer .entry))) (fetched (Refused 7) (now (buffer .entry))) ⌝ }
+    ensures { λ r. ⌜ fetched r (now (buffer .exit)) ≡ pick (reaches (s .plan) (s .edges .ends) len cursor) (reasonFetched s cursor (now (words .entry)) lit (now (buffer .entry))) (fetched (Refused 7) (now (buffer .entry))) ⌝ }
 {
-    if reaches(&s.plan, len, cursor) {
+    if reaches(s, len, cursor) {
         return by_value::calc_reason::calc_reason(s, words, cursor, lit, buffer);
     }
     Answer::Refused { number: 7 }
@@ -38,7 +39,7 @@ pub fn calc_reason(
     lit: i32,
     buffer: &mut [u32],
 ) -> Answer
-    ensures { λ r. ⌜ fetched r (now (buffer .exit)) ≡ reasonFetched s (now (cursor .entry)) (map wordOf (now (log .entry))) lit (now (buffer .entry)) ⌝ }
+    ensures { λ r. ⌜ fetched r (now (buffer .exit)) ≡ checkedReason s (now (cursor .entry)) (map wordOf (now (log .entry))) lit (now (buffer .entry)) ⌝ }
 {
     let mut words = [0u64; 4352];
     let c = *cursor;
@@ -54,9 +55,9 @@ pub(crate) fn calc_last_words(
     cursor: Cursor,
     buffer: &mut [u32],
 ) -> Answer
-    ensures { λ r. ⌜ fetched r (now (buffer .exit)) ≡ pick (reaches (s .plan) len cursor) (lastFetched s cursor (now (words .entry)) (now (buffer .entry))) (fetched (Refused 7) (now (buffer .entry))) ⌝ }
+    ensures { λ r. ⌜ fetched r (now (buffer .exit)) ≡ pick (reaches (s .plan) (s .edges .ends) len cursor) (lastFetched s cursor (now (words .entry)) (now (buffer .entry))) (fetched (Refused 7) (now (buffer .entry))) ⌝ }
 {
-    if reaches(&s.plan, len, cursor) {
+    if reaches(s, len, cursor) {
         return by_value::calc_reason::calc_last(s, words, cursor, buffer);
     }
     Answer::Refused { number: 7 }
@@ -64,7 +65,7 @@ pub(crate) fn calc_last_words(
 
 // The list last left: empty before any analysis and after a consistent notification.
 pub fn calc_last(s: GraphDivision, log: &[Record], cursor: &Cursor, buffer: &mut [u32]) -> Answer
-    ensures { λ r. ⌜ fetched r (now (buffer .exit)) ≡ lastFetched s (now (cursor .entry)) (map wordOf (now (log .entry))) (now (buffer .entry)) ⌝ }
+    ensures { λ r. ⌜ fetched r (now (buffer .exit)) ≡ checkedLast s (now (cursor .entry)) (map wordOf (now (log .entry))) (now (buffer .entry)) ⌝ }
 {
     let mut words = [0u64; 4352];
     let c = *cursor;

@@ -14,6 +14,7 @@ ghost use Rattle.undo_log.specs.Log.{wordOf};
 ghost use Rattle.graph_division.specs.Calls.{called, refuse};
 ghost use Rattle.graph_division.specs.Initialize.{initialized};
 ghost use Rattle.record_calls.specs.Reach.{reaches};
+ghost use Rattle.record_calls.specs.Checked.{checkedInitialized};
 
 // On the loaded words of a log of `len` records.
 pub(crate) fn initialize_words(
@@ -24,9 +25,9 @@ pub(crate) fn initialize_words(
     len: usize,
     cursor: Cursor,
 ) -> Outcome
-    ensures { λ r. ⌜ called r (now (table .exit)) (now (list .exit)) (now (words .exit)) ≡ pick (reaches (s .plan) len cursor) (initialized s cursor (now (table .entry)) (now (words .entry)) (now (list .entry))) (called (refuse 7 s cursor) (now (table .entry)) (now (list .entry)) (now (words .entry))) ⌝ }
+    ensures { λ r. ⌜ called r (now (table .exit)) (now (list .exit)) (now (words .exit)) ≡ pick (reaches (s .plan) (s .edges .ends) len cursor) (initialized s cursor (now (table .entry)) (now (words .entry)) (now (list .entry))) (called (refuse 7 s cursor) (now (table .entry)) (now (list .entry)) (now (words .entry))) ⌝ }
 {
-    if reaches(&s.plan, len, cursor) {
+    if reaches(s, len, cursor) {
         return by_value::initialize::initialize(s, table, list, words, cursor);
     }
     refuse(s, cursor)
@@ -40,7 +41,7 @@ pub fn initialize(
     log: &mut [Record],
     cursor: &mut Cursor,
 ) -> Outcome
-    ensures { λ r. ⌜ (called r (now (table .exit)) (now (list .exit)) (map wordOf (now (log .exit))) ≡ initialized s (now (cursor .entry)) (now (table .entry)) (map wordOf (now (log .entry))) (now (list .entry))) × (now (cursor .exit) ≡ r .cursor) ⌝ }
+    ensures { λ r. ⌜ (called r (now (table .exit)) (now (list .exit)) (map wordOf (now (log .exit))) ≡ checkedInitialized s (now (cursor .entry)) (now (table .entry)) (map wordOf (now (log .entry))) (now (list .entry))) × (now (cursor .exit) ≡ r .cursor) ⌝ }
 {
     let mut words = [0u64; 4352];
     let c = *cursor;

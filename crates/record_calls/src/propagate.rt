@@ -13,6 +13,7 @@ ghost use Rattle.base.specs.Iter.{pick};
 ghost use Rattle.undo_log.specs.Log.{wordOf};
 ghost use Rattle.graph_division.specs.Calls.{called, refuse, propagated};
 ghost use Rattle.record_calls.specs.Reach.{reaches};
+ghost use Rattle.record_calls.specs.Checked.{checkedPropagated};
 
 // On the loaded words of a log of `len` records.
 pub(crate) fn propagate_words(
@@ -25,9 +26,9 @@ pub(crate) fn propagate_words(
     lit: i32,
     num_pending_propagations: i32,
 ) -> Outcome
-    ensures { λ r. ⌜ called r (now (table .exit)) (now (list .exit)) (now (words .exit)) ≡ pick (reaches (s .plan) len cursor) (propagated s cursor lit «num_pending_propagations» (now (table .entry)) (now (list .entry)) (now (words .entry))) (called (refuse 7 s cursor) (now (table .entry)) (now (list .entry)) (now (words .entry))) ⌝ }
+    ensures { λ r. ⌜ called r (now (table .exit)) (now (list .exit)) (now (words .exit)) ≡ pick (reaches (s .plan) (s .edges .ends) len cursor) (propagated s cursor lit «num_pending_propagations» (now (table .entry)) (now (list .entry)) (now (words .entry))) (called (refuse 7 s cursor) (now (table .entry)) (now (list .entry)) (now (words .entry))) ⌝ }
 {
-    if reaches(&s.plan, len, cursor) {
+    if reaches(s, len, cursor) {
         return by_value::propagate::propagate(
             s,
             table,
@@ -51,7 +52,7 @@ pub fn propagate(
     lit: i32,
     num_pending_propagations: i32,
 ) -> Outcome
-    ensures { λ r. ⌜ (called r (now (table .exit)) (now (list .exit)) (map wordOf (now (log .exit))) ≡ propagated s (now (cursor .entry)) lit «num_pending_propagations» (now (table .entry)) (now (list .entry)) (map wordOf (now (log .entry)))) × (now (cursor .exit) ≡ r .cursor) ⌝ }
+    ensures { λ r. ⌜ (called r (now (table .exit)) (now (list .exit)) (map wordOf (now (log .exit))) ≡ checkedPropagated s (now (cursor .entry)) lit «num_pending_propagations» (now (table .entry)) (now (list .entry)) (map wordOf (now (log .entry)))) × (now (cursor .exit) ≡ r .cursor) ⌝ }
 {
     let mut words = [0u64; 4352];
     let c = *cursor;

@@ -13,6 +13,7 @@ ghost use Rattle.base.specs.Iter.{pick};
 ghost use Rattle.undo_log.specs.Log.{wordOf};
 ghost use Rattle.graph_division.specs.Calls.{refuse, undone};
 ghost use Rattle.record_calls.specs.Reach.{reaches};
+ghost use Rattle.record_calls.specs.Checked.{checkedUndone};
 
 // On the loaded words of a log of `len` records.
 pub(crate) fn undo_words(
@@ -22,9 +23,9 @@ pub(crate) fn undo_words(
     cursor: Cursor,
     lit: i32,
 ) -> Outcome
-    ensures { λ r. ⌜ r ≡ pick (reaches (s .plan) len cursor) (undone s cursor lit (now (words .entry))) (refuse 7 s cursor) ⌝ }
+    ensures { λ r. ⌜ r ≡ pick (reaches (s .plan) (s .edges .ends) len cursor) (undone s cursor lit (now (words .entry))) (refuse 7 s cursor) ⌝ }
 {
-    if reaches(&s.plan, len, cursor) {
+    if reaches(s, len, cursor) {
         return by_value::undo::undo(s, words, cursor, lit);
     }
     refuse(s, cursor)
@@ -32,7 +33,7 @@ pub(crate) fn undo_words(
 
 // Takes back the newest notification, which must be the literal's: 11 where it is not. The records stay as they are.
 pub fn undo(s: GraphDivision, log: &[Record], cursor: &mut Cursor, lit: i32) -> Outcome
-    ensures { λ r. ⌜ (r ≡ undone s (now (cursor .entry)) lit (map wordOf (now (log .entry)))) × (now (cursor .exit) ≡ r .cursor) ⌝ }
+    ensures { λ r. ⌜ (r ≡ checkedUndone s (now (cursor .entry)) lit (map wordOf (now (log .entry)))) × (now (cursor .exit) ≡ r .cursor) ⌝ }
 {
     let mut words = [0u64; 4352];
     let c = *cursor;

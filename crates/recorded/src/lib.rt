@@ -1,10 +1,9 @@
 // The reasons recorded for the distinct literals: the Rust's `propagation_reasons`, an array of records that hold the enum.
 use base::slices::word;
-use plan::Plan;
 use reasons::reason::Reason;
 ghost use mathlib.Core.Path.{_≡_};
 ghost use Prim.Native.Nat.{_*_, _<_};
-ghost use Rattle.plan.specs.Words.{variablesOf};
+ghost use Rattle.plan.specs.Words.{wordsOf, variablesOf};
 ghost use Rattle.recorded.specs.Recorded.{noReasons, reasonAt, newest, recorded};
 ghost use Rattle.noting.specs.Words.{capped};
 
@@ -62,8 +61,8 @@ fn capped(n: usize) -> usize
 }
 
 // What an analysis has proposed is recorded.
-pub fn record(plan: &Plan, proposals: &[u64], reasons: Reasons) -> Reasons
-    ensures { λ r. ⌜ r ≡ recorded (now (plan .entry)) (now (proposals .entry)) reasons ⌝ }
+pub fn record(plan: &[u8], proposals: &[u64], reasons: Reasons) -> Reasons
+    ensures { λ r. ⌜ r ≡ recorded (wordsOf (now (plan .entry))) (now (proposals .entry)) reasons ⌝ }
 {
     let n = capped(2 * (plan::num_variables(plan) as usize));
     let mut t = reasons;

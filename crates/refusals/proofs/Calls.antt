@@ -10,6 +10,7 @@ use Rattle.base.specs.Iter.{pick}
 use Rattle.base.proofs.Loop.{pick-no}
 use Rattle.undo_log.specs.declared.Cursor.{Cursor}
 use Rattle.plan.specs.Plan.{planOf}
+use Rattle.plan.specs.Proper.{ProperWords}
 use Rattle.division.specs.Plan.{Plan}
 use Rattle.division.specs.Runs.{reasonOf}
 use Rattle.noting.specs.Note.{noting}
@@ -20,7 +21,6 @@ use Rattle.calls.specs.Calls.{World, Query, reasonFor, page, Answer, noted, ref
 use Rattle.refusals.specs.Refusals.{stateBad, literalRefusal, initializeRefusal, propagateRefusal, undoRefusal, fetchRefusal}
 use Rattle.refusals.specs.Calls.{litGiven, tableRoom, stateRoom, fetchRoom, refusedOr, takenBack}
 use Rattle.refusals.proofs.Standing.{newest-is}
-use Rattle.refusals.proofs.State.{state-proper}
 use Rattle.refusals.proofs.Numbers.{given-small, literal-is, initialize-is, fetch-is, propagate-is, undo-is}
 
 -- the choices, over plain tests
@@ -54,7 +54,7 @@ then-case true h a b w f = refl
 then-case false true a b w f = refl
 then-case false false a b w f = f refl
 
-module _ (ws : List ℕ) (ends : List (List ℕ)) (words log : List ℕ) (c : Cursor) (w : World) where
+module _ (ws : List ℕ) (ends : List (List ℕ)) (p : ProperWords ws ends) (words log : List ℕ) (c : Cursor) (w : World) where
   abbrev d : Plan
   d = planOf ws ends
 
@@ -67,13 +67,13 @@ module _ (ws : List ℕ) (ends : List (List ℕ)) (words log : List ℕ) (c : Cu
   unfolding onInitialize
   initialize-call t n =
       two-case w t (finishBy d w t (all t) (all t .judgement)) 8 (not (tableRoom ws ends words n log c) || badTable d t) (w .done) refl
-      ∙ sym (ap (λ (k : ℕ). refusedOr k w t (finishBy d w t (all t) (all t .judgement))) (initialize-is ws ends words log c w t n))
+      ∙ sym (ap (λ (k : ℕ). refusedOr k w t (finishBy d w t (all t) (all t .judgement))) (initialize-is ws ends p words log c w t n))
 
   pub ask-call : (n : ℕ) (q : Query) → onAsk d w (fetchRoom ws ends words n log c) q ≡ refusedOr (fetchRefusal ws ends words n log c) w [] (tell w (answerTo d w q))
   unfolding onAsk
   ask-call n q =
       told-case w (not (fetchRoom ws ends words n log c)) 7 _
-      ∙ one-case w [] (tell w (answerTo d w q)) 7 (not (fetchRoom ws ends words n log c)) refl ∙ sym (ap (λ (k : ℕ). refusedOr k w [] (tell w (answerTo d w q))) (fetch-is ws ends words log c w n))
+      ∙ one-case w [] (tell w (answerTo d w q)) 7 (not (fetchRoom ws ends words n log c)) refl ∙ sym (ap (λ (k : ℕ). refusedOr k w [] (tell w (answerTo d w q))) (fetch-is ws ends p words log c w n))
 
   -- the page, whose buffer 7 asks nothing of
   pub page-call : (n : ℕ) →
@@ -88,9 +88,9 @@ module _ (ws : List ℕ) (ends : List (List ℕ)) (words log : List ℕ) (c : Cu
       onAsk d w (fetchRoom ws ends words n log c) (reasonFor (litGiven l))
       ≡ refusedOr (fetchRefusal ws ends words n log c) w [] (refusedOr (literalRefusal ws l) w [] (tell w (giveReason d w (reasonOf (litGiven l) (w .reasons)))))
   unfolding onAsk answerTo fetchRoom fetchRefusal
-  reason-call n l = told-case w (not (fetchRoom ws ends words n log c)) 7 _ ∙ then-case (stateBad ws ends words log c) (reasonShort ws n) _ _ w (λ e.
+  reason-call n l = told-case w (not (fetchRoom ws ends words n log c)) 7 _ ∙ then-case (stateBad ws ends words log c) (reasonShort ws n) _ _ w (λ _.
       told-case w (not (knows d (litGiven l))) 9 _ ∙ one-case w [] (tell w (giveReason d w (reasonOf (litGiven l) (w .reasons)))) 9 (not (knows d (litGiven l))) refl
-      ∙ sym (ap (λ (k : ℕ). refusedOr k w [] (tell w (giveReason d w (reasonOf (litGiven l) (w .reasons))))) (literal-is ws ends (state-proper ws ends words log c e) l)))
+      ∙ sym (ap (λ (k : ℕ). refusedOr k w [] (tell w (giveReason d w (reasonOf (litGiven l) (w .reasons))))) (literal-is ws ends p l)))
 
   module _ (s : w .standing ≡ standingOf (noting words log c)) (l : ℤ) where
     -- what is done with a literal that is not refused
@@ -104,11 +104,11 @@ module _ (ws : List ℕ) (ends : List (List ℕ)) (words log : List ℕ) (c : Cu
     unfolding onPropagate
     propagate-call t n pending =
         three-case w t (told t pending) 10 (not (tableRoom ws ends words n log c) || badTable d t) (not (knows d (litGiven l))) (taken w (litGiven l)) refl
-        ∙ sym (ap (λ (k : ℕ). refusedOr k w t (told t pending)) (propagate-is ws ends words log c w s l t n))
+        ∙ sym (ap (λ (k : ℕ). refusedOr k w t (told t pending)) (propagate-is ws ends p words log c w s l t n))
 
     pub undo-call : onUndo d w (stateRoom ws ends words log c) (litGiven l) ≡ refusedOr (undoRefusal ws ends words log c l) w [] (takenBack w (w .standing))
     unfolding onUndo
     undo-call =
         ap (λ (o : Outcome). pick (not (stateRoom ws ends words log c)) (refuse 7 w []) (pick (not (knows d (litGiven l))) (refuse 9 w []) o)) (newest-is w (litGiven l) (w .standing) (given-small l))
         ∙ three-case w [] (takenBack w (w .standing)) 11 (not (stateRoom ws ends words log c)) (not (knows d (litGiven l))) (notNewest (litGiven l) (w .standing)) refl
-        ∙ sym (ap (λ (k : ℕ). refusedOr k w [] (takenBack w (w .standing))) (undo-is ws ends words log c w s l))
+        ∙ sym (ap (λ (k : ℕ). refusedOr k w [] (takenBack w (w .standing))) (undo-is ws ends p words log c w s l))

@@ -13,9 +13,9 @@ use Rattle.base.proofs.Loop.{pick-yes, pick-no}
 use Rattle.base.proofs.Tests.{or-none, and-left, and-right, not-false}
 use Rattle.undo_log.specs.declared.Cursor.{Cursor}
 use Rattle.plan.specs.Plan.{planOf}
+use Rattle.plan.specs.Proper.{ProperWords}
 use Rattle.division.specs.Plan.{Plan, Proper}
 use Rattle.noting.specs.Note.{noting}
-use Rattle.noting.specs.Buffers.{reasonShort}
 use Rattle.noting.specs.Standing.{standingOf}
 use Rattle.calls.specs.Table.{knows, variables, tooHigh, badTable}
 use Rattle.calls.specs.Calls.{World, Query, reasonFor, lastLeft, page, Call, initialize, propagate, undo, ask, accepted, Outcome, refuse, answerTo, tell, call}
@@ -25,7 +25,6 @@ use Rattle.calls.proofs.Queries.{ofGraph, query-late}
 use Rattle.calls.proofs.Refusals.{asksGraph, refusals, acceptances}
 use Rattle.refusals.specs.Refusals.{stateBad, literalRefusal, initializeRefusal, propagateRefusal, undoRefusal, fetchRefusal}
 use Rattle.refusals.specs.Calls.{litGiven, tableRoom, stateRoom, fetchRoom, refusedOr, takenBack}
-use Rattle.refusals.proofs.State.{state-proper}
 use Rattle.refusals.proofs.Numbers.{literal-is, initialize-is, fetch-is}
 use Rattle.refusals.proofs.Accepted.{pick-zero}
 use Rattle.refusals.proofs.Calls.{initialize-call, propagate-call, undo-call, ask-call, reason-call}
@@ -84,19 +83,19 @@ page-late : {d : Plan} {w : World} {room : Bool} {n m : ℕ} → m < 7 → Appli
 page-late h (Applies.noRoom c e) = omega arith
 page-late {d = d} {w = w} h (Applies.ofQuery room q m x) = omega (arith, query-late d w x)
 
-module _ (ws : List ℕ) (ends : List (List ℕ)) (words log : List ℕ) (c : Cursor) (w : World) where
+module _ (ws : List ℕ) (ends : List (List ℕ)) (p : ProperWords ws ends) (words log : List ℕ) (c : Cursor) (w : World) where
   abbrev d : Plan
   d = planOf ws ends
 
   pub initialize-first : (t : List ℕ) (n : ℕ) → 0 < initializeRefusal ws ends words t n log c (w .done) →
       First d w (initialize (tableRoom ws ends words n log c) t) (initializeRefusal ws ends words t n log c (w .done))
   unfolding call asksGraph
-  initialize-first t n h = numbered d w (initialize (tableRoom ws ends words n log c) t) (λ e. absurd (false≢true e)) _ t _ (initialize-call ws ends words log c w t n) h
+  initialize-first t n h = numbered d w (initialize (tableRoom ws ends words n log c) t) (λ e. absurd (false≢true e)) _ t _ (initialize-call ws ends p words log c w t n) h
 
   -- where it is 0, neither 7 nor 8 applies; 10 and on are left to the work
   pub initialize-none : (t : List ℕ) (n : ℕ) → initializeRefusal ws ends words t n log c (w .done) ≡ 0 → (m : ℕ) → m ≤ 8 → Applies d w (initialize (tableRoom ws ends words n log c) t) m → ⊥
   initialize-none t n z m h a =
-      let (x, y) = pick-zero (not (tableRoom ws ends words n log c) || badTable d t) 7 (pick (w .done) 8 0) (omega arith) (sym (initialize-is ws ends words log c w t n) ∙ z) in
+      let (x, y) = pick-zero (not (tableRoom ws ends words n log c) || badTable d t) 7 (pick (w .done) 8 0) (omega arith) (sym (initialize-is ws ends p words log c w t n) ∙ z) in
       let (r, b) = or-none (not (tableRoom ws ends words n log c)) (badTable d t) x in
       initialize-clear (not-false _ r) b (pick-zero (w .done) 8 0 (omega arith) y .0) h a
 
@@ -105,11 +104,11 @@ module _ (ws : List ℕ) (ends : List (List ℕ)) (words log : List ℕ) (c : Cu
   unfolding call asksGraph
   ask-first n q h =
       numbered d w (ask (fetchRoom ws ends words n log c) q)
-      (λ e. let z = fetch-is ws ends words log c w n ∙ pick-no 7 0 (ap not (and-left (fetchRoom ws ends words n log c) (ofGraph q) e)) in absurd (omega arith)) _ [] _ (ask-call ws ends words log c w n q) h
+      (λ e. let z = fetch-is ws ends p words log c w n ∙ pick-no 7 0 (ap not (and-left (fetchRoom ws ends words n log c) (ofGraph q) e)) in absurd (omega arith)) _ [] _ (ask-call ws ends p words log c w n q) h
 
   pub last-none : (n : ℕ) → fetchRefusal ws ends words n log c ≡ 0 → (m : ℕ) → Applies d w (ask (fetchRoom ws ends words n log c) lastLeft) m → ⊥
   unfolding call answerTo tell accepted asksGraph ofGraph
-  last-none n z = cleared d w (ask (fetchRoom ws ends words n log c) lastLeft) (λ e. absurd (false≢true (and-right (fetchRoom ws ends words n log c) false e))) _ [] _ (ask-call ws ends words log c w n lastLeft) z refl
+  last-none n z = cleared d w (ask (fetchRoom ws ends words n log c) lastLeft) (λ e. absurd (false≢true (and-right (fetchRoom ws ends words n log c) false e))) _ [] _ (ask-call ws ends p words log c w n lastLeft) z refl
 
   -- the page, whose buffer 7 asks nothing of; where 7 does not apply, 19 is left to the work
   pub page-first : (n : ℕ) → stateBad ws ends words log c ≡ true →
@@ -124,36 +123,34 @@ module _ (ws : List ℕ) (ends : List (List ℕ)) (words log : List ℕ) (c : Cu
   pub reason-unknown : (n : ℕ) (l : ℤ) → fetchRefusal ws ends words n log c ≡ 0 → 0 < literalRefusal ws l → First d w (ask (fetchRoom ws ends words n log c) (reasonFor (litGiven l))) (literalRefusal ws l)
   unfolding call refusedOr asksGraph ofGraph
   reason-unknown n l z h =
-      numbered d w (ask (fetchRoom ws ends words n log c) (reasonFor (litGiven l))) (λ e. absurd (false≢true (and-right (fetchRoom ws ends words n log c) false e))) _ [] _ (reason-call ws ends words log c w n l ∙ pick-yes _ _ (eq-eqb (fetchRefusal ws ends words n log c) 0 z)) h
+      numbered d w (ask (fetchRoom ws ends words n log c) (reasonFor (litGiven l))) (λ e. absurd (false≢true (and-right (fetchRoom ws ends words n log c) false e))) _ [] _ (reason-call ws ends p words log c w n l ∙ pick-yes _ _ (eq-eqb (fetchRefusal ws ends words n log c) 0 z)) h
 
   -- where both are 0, none up to 9 applies; 15 and 16 are left to the work
   pub reason-none : (n : ℕ) (l : ℤ) → fetchRefusal ws ends words n log c ≡ 0 → literalRefusal ws l ≡ 0 →
       (m : ℕ) → m ≤ 9 → Applies d w (ask (fetchRoom ws ends words n log c) (reasonFor (litGiven l))) m → ⊥
-  unfolding fetchRefusal
   reason-none n l z y m h a =
-      let r = pick-zero (not (fetchRoom ws ends words n log c)) 7 0 (omega arith) (sym (fetch-is ws ends words log c w n) ∙ z) .0 in
-      let g = or-none (stateBad ws ends words log c) (reasonShort ws n) (pick-zero (stateBad ws ends words log c || reasonShort ws n) 7 0 (omega arith) z .0) .0 in
-      let k = pick-zero (not (knows d (litGiven l))) 9 0 (omega arith) (sym (literal-is ws ends (state-proper ws ends words log c g) l) ∙ y) .0 in
+      let r = pick-zero (not (fetchRoom ws ends words n log c)) 7 0 (omega arith) (sym (fetch-is ws ends p words log c w n) ∙ z) .0 in
+      let k = pick-zero (not (knows d (litGiven l))) 9 0 (omega arith) (sym (literal-is ws ends p l) ∙ y) .0 in
       reason-clear (not-false _ r) (not-false _ k) h a
 
   module _ (s : w .standing ≡ standingOf (noting words log c)) (l : ℤ) where
     pub propagate-first : (t : List ℕ) (n : ℕ) (pending : Bool) → 0 < propagateRefusal ws ends words t n log c l →
         First d w (propagate (tableRoom ws ends words n log c) t (litGiven l) pending) (propagateRefusal ws ends words t n log c l)
     unfolding call asksGraph
-    propagate-first t n pending h = numbered d w (propagate (tableRoom ws ends words n log c) t (litGiven l) pending) (λ e. absurd (false≢true e)) _ t _ (propagate-call ws ends words log c w s l t n pending) h
+    propagate-first t n pending h = numbered d w (propagate (tableRoom ws ends words n log c) t (litGiven l) pending) (λ e. absurd (false≢true e)) _ t _ (propagate-call ws ends p words log c w s l t n pending) h
 
     -- where it is 0, none up to 11 applies
     pub propagate-none : (t : List ℕ) (n : ℕ) (pending : Bool) → propagateRefusal ws ends words t n log c l ≡ 0 →
         (m : ℕ) → m ≤ 11 → Applies d w (propagate (tableRoom ws ends words n log c) t (litGiven l) pending) m → ⊥
     unfolding call accepted asksGraph
     propagate-none t n pending z m h a =
-        cleared d w (propagate (tableRoom ws ends words n log c) t (litGiven l) true) (λ e. absurd (false≢true e)) _ t _ (propagate-call ws ends words log c w s l t n true ∙ ap (refusedOr (propagateRefusal ws ends words t n log c l) w t) (pick-yes _ _ refl)) z refl m
+        cleared d w (propagate (tableRoom ws ends words n log c) t (litGiven l) true) (λ e. absurd (false≢true e)) _ t _ (propagate-call ws ends p words log c w s l t n true ∙ ap (refusedOr (propagateRefusal ws ends words t n log c l) w t) (pick-yes _ _ refl)) z refl m
         (pended h a)
 
     pub undo-first : 0 < undoRefusal ws ends words log c l → First d w (undo (stateRoom ws ends words log c) (litGiven l)) (undoRefusal ws ends words log c l)
     unfolding call asksGraph
-    undo-first h = numbered d w (undo (stateRoom ws ends words log c) (litGiven l)) (λ e. absurd (false≢true e)) _ [] _ (undo-call ws ends words log c w s l) h
+    undo-first h = numbered d w (undo (stateRoom ws ends words log c) (litGiven l)) (λ e. absurd (false≢true e)) _ [] _ (undo-call ws ends p words log c w s l) h
 
     pub undo-none : undoRefusal ws ends words log c l ≡ 0 → (m : ℕ) → Applies d w (undo (stateRoom ws ends words log c) (litGiven l)) m → ⊥
     unfolding call takenBack accepted asksGraph
-    undo-none z = cleared d w (undo (stateRoom ws ends words log c) (litGiven l)) (λ e. absurd (false≢true e)) _ [] _ (undo-call ws ends words log c w s l) z refl
+    undo-none z = cleared d w (undo (stateRoom ws ends words log c) (litGiven l)) (λ e. absurd (false≢true e)) _ [] _ (undo-call ws ends p words log c w s l) z refl

@@ -23,7 +23,7 @@ use Rattle.refusals.specs.Calls.{litGiven, tableRoom, stateRoom, fetchRo
 use Rattle.refusals.proofs.Known.{known-is, outside-unknown}
 use Rattle.refusals.proofs.Tables.{bad-table}
 use Rattle.refusals.proofs.Standing.{taken-is}
-use Rattle.refusals.proofs.State.{state-proper}
+use Rattle.refusals.proofs.State.{none-high}
 
 pub given-inside : (l : ℤ) → inRange (pos 8191) l ≡ true → litGiven l ≡ toNat l
 unfolding litGiven
@@ -61,8 +61,8 @@ unfolding pick
 state-case true x y g = refl
 state-case false x y g = g refl
 
-module _ (ws : List ℕ) (ends : List (List ℕ)) where
-  module _ (p : ProperWords ws ends) (l : ℤ) where
+module _ (ws : List ℕ) (ends : List (List ℕ)) (p : ProperWords ws ends) where
+  module _ (l : ℤ) where
     pub unknown-is : unknownLit ws l ≡ not (knows (planOf ws ends) (litGiven l))
     unfolding unknownLit
     unknown-is = tested (inRange (pos 8191) l)
@@ -84,8 +84,11 @@ module _ (ws : List ℕ) (ends : List (List ℕ)) where
     -- 7 and 8
     pub initialize-is : (t : List ℕ) (n : ℕ) →
         initializeRefusal ws ends noted t n log c (w .done) ≡ pick (not (tableRoom ws ends noted n log c) || badTable (planOf ws ends) t) 7 (pick (w .done) 8 0)
-    unfolding initializeRefusal tableStateBad tableRoom
-    initialize-is t n = table-case (stateBad ws ends noted log c) (listShort ws n) (tableBad ws t) (badTable (planOf ws ends) t) _ _ (λ e. bad-table ws ends (state-proper ws ends noted log c e) t) (λ _. refl)
+    unfolding initializeRefusal tableStateBad tableRoom pick
+    initialize-is t n =
+        ap (λ (b : Bool). pick (tableStateBad ws ends noted t n log c) 7 (pick b 7 (pick (w .done) 8 0))) (none-high ws ends p)
+        ∙ table-case (stateBad ws ends noted log c) (listShort ws n) (tableBad ws t) (badTable (planOf ws ends) t) _ _
+        (λ _. bad-table ws ends p t) (λ _. refl)
 
     -- 7
     pub fetch-is : (n : ℕ) → fetchRefusal ws ends noted n log c ≡ pick (not (fetchRoom ws ends noted n log c)) 7 0
@@ -99,8 +102,8 @@ module _ (ws : List ℕ) (ends : List (List ℕ)) where
           ≡ pick (not (tableRoom ws ends noted n log c) || badTable (planOf ws ends) t) 7 (pick (not (knows (planOf ws ends) (litGiven l))) 9 (pick (taken w (litGiven l)) 10 0))
       unfolding propagateRefusal tableStateBad tableRoom
       propagate-is t n = table-case (stateBad ws ends noted log c) (listShort ws n) (tableBad ws t) (badTable (planOf ws ends) t) _ _
-          (λ e. bad-table ws ends (state-proper ws ends noted log c e) t)
-          (λ e. literal-case (state-proper ws ends noted log c e) l _ _ (λ i. ap (λ (b : Bool). pick b 10 0)
+          (λ _. bad-table ws ends p t)
+          (λ _. literal-case l _ _ (λ i. ap (λ (b : Bool). pick b 10 0)
           (ap₂ (λ (m : ℕ) (ls : List ℕ). hasVariable (m / 2) ls) (number-inside l i) (sym s) ∙ taken-is w (litGiven l))))
 
       -- 7, 9 and 11
@@ -108,5 +111,5 @@ module _ (ws : List ℕ) (ends : List (List ℕ)) where
           ≡ pick (not (stateRoom ws ends noted log c)) 7 (pick (not (knows (planOf ws ends) (litGiven l))) 9 (pick (notNewest (litGiven l) (w .standing)) 11 0))
       unfolding undoRefusal stateRoom
       undo-is = state-case (stateBad ws ends noted log c) _ _
-          (λ e. literal-case (state-proper ws ends noted log c e) l _ _ (λ i. ap (λ (b : Bool). pick b 11 0)
+          (λ _. literal-case l _ _ (λ i. ap (λ (b : Bool). pick b 11 0)
           (ap₂ (λ (m : ℕ) (ls : List ℕ). notNewest m ls) (number-inside l i) (sym s))))

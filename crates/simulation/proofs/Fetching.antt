@@ -144,7 +144,7 @@ module _ (s : GraphDivision) (log : List ℕ) (c : Cursor) (w : World) (r : Repr
   pub last-simulated : SimulatesFetched s log c b (lastFetched s c log b) (calls.onAsk (statePlan s) w (fetchRoom ws ends (s .noted) (length b) log c) calls.lastLeft)
   unfolding lastFetched refusedOr calls.answerTo
   last-simulated =
-      let f = ask-call ws ends (s .noted) log c w (length b) calls.lastLeft in
+      let f = ask-call ws ends (r .proper) (s .noted) log c w (length b) calls.lastLeft in
       tested (eqb number 0)
       (λ t.
       let h : length (w .last) ≤ length b = omega (arith, last-short, buffer-long (eqb-true number 0 t)) in
@@ -237,7 +237,7 @@ module _ (s : GraphDivision) (log : List ℕ) (c : Cursor) (w : World) (r : Repr
   pub reason-simulated : (lit : ℤ) → SimulatesFetched s log c b (reasonFetched s c log lit b) (calls.onAsk (statePlan s) w (fetchRoom ws ends (s .noted) (length b) log c) (calls.reasonFor (litGiven lit)))
   unfolding reasonFetched refusedOr
   reason-simulated lit =
-      let f = reason-call ws ends (s .noted) log c w (length b) lit in
+      let f = reason-call ws ends (r .proper) (s .noted) log c w (length b) lit in
       tested (eqb number 0)
       (λ t. tested (eqb (literalRefusal ws lit) 0)
       (λ u. fetched-by (pick-yes _ _ t ∙ pick-yes _ _ u) (f ∙ pick-yes _ _ t ∙ pick-yes _ _ u) (given-reason (eqb-true number 0 t) lit (literal-accepted ws lit (eqb-true (literalRefusal ws lit) 0 u))))
@@ -248,7 +248,7 @@ module _ (s : GraphDivision) (log : List ℕ) (c : Cursor) (w : World) (r : Repr
       SimulatesFetched s log c b (runFetched s c log from to b) (calls.onAsk (statePlan s) w (fetchRoom ws ends (s .noted) (length b) log c) (calls.runBetween (vertexGiven from) (vertexGiven to)))
   unfolding runFetched refusedOr calls.answerTo
   run-simulated from to =
-      let f = ask-call ws ends (s .noted) log c w (length b) (calls.runBetween (vertexGiven from) (vertexGiven to)) in
+      let f = ask-call ws ends (r .proper) (s .noted) log c w (length b) (calls.runBetween (vertexGiven from) (vertexGiven to)) in
       tested (eqb number 0)
       (λ t. fetched-by (pick-yes _ _ t) (f ∙ pick-yes _ _ t) (given-run (eqb-true number 0 t) from to))
       (λ t. fetched-by (pick-no _ _ t) (f ∙ pick-no _ _ t) (refused number))
@@ -305,7 +305,7 @@ module _ (s : GraphDivision) (log : List ℕ) (c : Cursor) (w : World) (r : Repr
   unfolding pageFetched calls.answerTo
   page-simulated =
       let good = state-good s log c w r in
-      fetched-by (pick-no _ _ good) (page-call ws ends (s .noted) log c w (length b) ∙ pick-no _ _ good) given-page
+      fetched-by (pick-no _ _ good) (page-call ws ends (r .proper) (s .noted) log c w (length b) ∙ pick-no _ _ good) given-page
 
   -- a query that is lent a reason buffer: of what refusal 7 asks, only its length is left
   by-length : (x : Fetched) (q : calls.Query) → SimulatesFetched s log c b x (calls.onAsk (statePlan s) w (fetchRoom ws ends (s .noted) (length b) log c) q) →

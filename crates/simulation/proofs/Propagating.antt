@@ -157,7 +157,7 @@ module _ (s : GraphDivision) (log : List ℕ) (c : Cursor) (w : World) (r : Repr
       SimulatesCalled s list (propagated s c lit pending t list log) (calls.onPropagate (statePlan s) w (tableRoom ws ends (s .noted) (length list) log c) t (litGiven lit) (not (inRange (pos 0) pending)))
   unfolding propagated refusedOr
   propagate-simulated pending =
-      let f = propagate-call ws ends (s .noted) log c w (r .standing) lit t (length list) (not (inRange (pos 0) pending)) in
+      let f = propagate-call ws ends (r .proper) (s .noted) log c w (r .standing) lit t (length list) (not (inRange (pos 0) pending)) in
       tested (eqb number 0)
       (λ y. let e = eqb-true number 0 y in tested (inRange (pos 0) pending)
       (λ i. called-by s list (pick-yes _ _ y ∙ pick-yes _ _ i) (f ∙ pick-yes _ _ y ∙ pick-no _ _ (ap not i)) (settles e))

@@ -15,7 +15,7 @@ use Rattle.base.proofs.Loop.{pick-yes, pick-no, tested}
 use Rattle.edge_table.specs.declared.EdgeTable.{EdgeTable}
 use Rattle.undo_log.specs.declared.Cursor.{Cursor}
 use Rattle.division.specs.Plan.{Plan}
-use Rattle.plan.specs.Check.{planBad}
+use Rattle.plan.specs.Check.{countsBad}
 use Rattle.plan.specs.Words.{slotsOf}
 use Rattle.plan.specs.Plan.{planOf}
 use Rattle.noting.specs.Replay.{logBad}
@@ -115,7 +115,7 @@ module _ (k : Kept) (w : World) (r : RepresentsKept k w) where
   module _ (tail : List ℕ) (short : logShort (k .state .plan) (length (logFor k tail)) ≡ true) where
     bad : stateBad (k .state .plan) (k .state .edges .ends) (k .state .noted) (logFor k tail) (k .cursor) ≡ true
     unfolding stateBad
-    bad = ap (λ (b : Bool). planBad (k .state .plan) (k .state .edges .ends) || (b || logBad (k .state .plan) (k .state .noted) (logFor k tail) (k .cursor))) short ∙ or-true (planBad (k .state .plan) (k .state .edges .ends))
+    bad = ap (λ (b : Bool). countsBad (k .state .plan) || (b || logBad (k .state .plan) (k .state .noted) (logFor k tail) (k .cursor))) short ∙ or-true (countsBad (k .state .plan))
 
     no-room : (b : Bool) → roomFor (k .state .plan) (length (logFor k tail)) b ≡ false
     unfolding roomFor

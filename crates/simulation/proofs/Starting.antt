@@ -516,13 +516,13 @@ module _ (s : GraphDivision) (log : List ℕ) (c : Cursor) (w : World) (r : Repr
 
   defined : calls.onInitialize (statePlan s) w (tableRoom (s .plan) (s .edges .ends) (s .noted) (length list) log c) t ≡ refusedOr number w t worked
   defined =
-      initialize-call (s .plan) (s .edges .ends) (s .noted) log c w t (length list)
+      initialize-call (s .plan) (s .edges .ends) (r .proper) (s .noted) log c w t (length list)
       ∙ ap (λ (b : Bool). refusedOr (initializeRefusal (s .plan) (s .edges .ends) (s .noted) t (length list) log c b) w t worked) (sym (r .done))
 
   accepted : number ≡ 0 → SimulatesCalled s list (begun s c t log list) worked
   unfolding listShort
   accepted e =
-      let (g, _) = initialize-accepted (s .plan) (s .edges .ends) (s .noted) log c (r .valid .words) t (length list) (s .initialized) e in
+      let (g, _, _) = initialize-accepted (s .plan) (s .edges .ends) (s .noted) log c (r .valid .words) t (length list) (s .initialized) e in
       begun-simulated s log c w r t list (ltb-false (length list) (2 * variablesOf (s .plan)) (g .list)) (g .table)
 
   pub initialize-simulated : SimulatesCalled s list (initialized s c t log list) (calls.onInitialize (statePlan s) w (tableRoom (s .plan) (s .edges .ends) (s .noted) (length list) log c) t)

@@ -52,7 +52,7 @@ module _ (s : GraphDivision) (log : List ℕ) (c : Cursor) (w : World) (r : Repr
   pub undo-simulated : Simulates s (undone s c lit log) log (calls.onUndo (statePlan s) w (stateRoom (s .plan) (s .edges .ends) (s .noted) log c) (litGiven lit))
   unfolding undone refusedOr
   undo-simulated =
-      let f = undo-call (s .plan) (s .edges .ends) (s .noted) log c w (r .standing) lit in
+      let f = undo-call (s .plan) (s .edges .ends) (r .proper) (s .noted) log c w (r .standing) lit in
       tested (eqb number 0)
       (λ t. simulates-by s log (pick-yes _ _ t) (f ∙ pick-yes _ _ t) (taken-back (eqb-true number 0 t)))
       (λ t. simulates-by s log (pick-no _ _ t) (f ∙ pick-no _ _ t) (refused-simulates s log c w r number []))

@@ -2,8 +2,9 @@
 -- among the plan's distinct literals, both signs, which rise: 0 up to twice the distinct variables.
 use mathlib.Core.Bool.{Bool, _&&_}
 use mathlib.Core.List.{List}
-use Prim.Native.Nat.{ℕ, _*_, _%_}
-use lib.Dec.{ltb}
+use Prim.Native.Nat.{ℕ, _+_, _*_, _%_}
+use lib.Dec.{ltb, leb}
+use lib.Bits.{bitOr}
 use lib.ListN.{getD}
 use Rattle.base.specs.Iter.{iter, pick}
 use Rattle.base.specs.Lists.{filled}
@@ -15,6 +16,14 @@ use Rattle.plan.specs.Words.{variablesOf, uniqueLitAt}
 -- the first word of a place that is proposed is not 0
 unfoldable pub proposedAt : List ℕ → ℕ → Bool
 proposedAt words p = ltb 0 (getD words (2 * p) 0)
+
+-- the lowest proposed place from `from` on, or n where there is none below n
+unfoldable pub nextProposed : List ℕ → ℕ → ℕ → ℕ
+nextProposed words from n = lowest (λ p. leb from p && proposedAt words p) n
+
+-- the first words of n places from p on, or-ed
+unfoldable pub firstWords : List ℕ → ℕ → ℕ → ℕ
+firstWords words p n = iter (λ i x. bitOr x (getD words (2 * (p + i)) 0)) n 0
 
 -- an analysis starts with no proposals: two words for each place
 unfoldable pub cleared : List ℕ → List ℕ → List ℕ

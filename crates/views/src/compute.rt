@@ -2,7 +2,6 @@
 use crate::View;
 use edge_table::Edges;
 use noting::Noted;
-use plan::Plan;
 use regions::compute_regions;
 use regions::limits::region_bounds;
 use regions::weights::region_weights;
@@ -10,7 +9,7 @@ ghost use mathlib.Core.Path.{_≡_};
 ghost use mathlib.Core.Bool.{true, false};
 ghost use Prim.Native.Nat.{_+_, _≤_};
 ghost use Rattle.base.specs.Lists.{filled};
-ghost use Rattle.plan.specs.Words.{word};
+ghost use Rattle.plan.specs.Words.{wordsOf, word};
 ghost use Rattle.views.specs.Compute.{weightWords, computedOf, regionsFrom, boundsFrom, withRegions, withBounds, computeView};
 
 // Each vertex's label, and each region's weight at its label. Not known where the graph cannot be walked or the weights cannot be added.
@@ -28,8 +27,8 @@ pub struct Bounds {
 }
 
 // The weight of each vertex.
-fn weight_words(plan: &Plan) -> [u32; 64]
-    ensures { λ r. ⌜ r ≡ weightWords (now (plan .entry)) ⌝ }
+fn weight_words(plan: &[u8]) -> [u32; 64]
+    ensures { λ r. ⌜ r ≡ weightWords (wordsOf (now (plan .entry))) ⌝ }
 {
     let mut words = [0u32; 64];
     let mut v = 0;
@@ -42,8 +41,8 @@ fn weight_words(plan: &Plan) -> [u32; 64]
 }
 
 // The decided regions, or the potential ones.
-pub fn compute(plan: &Plan, edges: Edges, noted: &Noted, potential: bool) -> Regions
-    ensures { λ r. ⌜ r ≡ regionsFrom (now (plan .entry)) edges (now (noted .entry)) potential ⌝ }
+pub fn compute(plan: &[u8], edges: Edges, noted: &Noted, potential: bool) -> Regions
+    ensures { λ r. ⌜ r ≡ regionsFrom (wordsOf (now (plan .entry))) edges (now (noted .entry)) potential ⌝ }
 {
     let vertices = plan::num_vertices(plan) as usize;
     let num_edges = plan::num_edges(plan) as usize;
@@ -150,8 +149,8 @@ pub fn lower_bounds(labels: &[u8; 64], noted: &Noted, vertices: usize) -> Bounds
 
 // The regions of the noted words, their weights and bounds. The answer is false, and the view stays, where there are none: a count is
 // past its limit, an edge's end is no vertex, or a weight is over 1,000,000.
-pub fn compute_view(plan: &Plan, edges: Edges, noted: &Noted, view: &mut View) -> bool
-    ensures { λ r. ⌜ computedOf r (now (view .exit)) ≡ computeView (now (plan .entry)) edges (now (noted .entry)) (now (view .entry)) ⌝ }
+pub fn compute_view(plan: &[u8], edges: Edges, noted: &Noted, view: &mut View) -> bool
+    ensures { λ r. ⌜ computedOf r (now (view .exit)) ≡ computeView (wordsOf (now (plan .entry))) edges (now (noted .entry)) (now (view .entry)) ⌝ }
 {
     let vertices = plan::num_vertices(plan) as usize;
     let decided = compute(plan, edges, noted, false);

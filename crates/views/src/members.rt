@@ -2,7 +2,6 @@
 // and the first with the least upper bound.
 use edge_table::Edges;
 use noting::Noted;
-use plan::Plan;
 use walks::Listed;
 use walks::Shape;
 use walks::region_vertices;
@@ -13,6 +12,7 @@ ghost use lib.ListN.{length, take};
 ghost use Rattle.division.specs.Analysis.{best};
 ghost use Rattle.noting.specs.Words.{stateOf};
 ghost use Rattle.views.specs.Members.{reaches, membersFrom, higher, lesser, extremes};
+ghost use Rattle.plan.specs.Words.{wordsOf};
 
 // The two vertices. Not found where the region cannot be walked.
 pub struct Extremes {
@@ -28,8 +28,8 @@ struct Members {
     list: [u32; 64],
 }
 
-fn list_members(plan: &Plan, edges: Edges, noted: &Noted, region: usize) -> Members
-    ensures { λ r. ⌜ (r .known ≡ reaches (now (plan .entry)) edges (now (noted .entry)) region) × (r .known ≡ true → (r .count ≤ length (r .list)) × (take (r .count) (r .list) ≡ membersFrom (now (plan .entry)) edges (now (noted .entry)) region)) ⌝ }
+fn list_members(plan: &[u8], edges: Edges, noted: &Noted, region: usize) -> Members
+    ensures { λ r. ⌜ (r .known ≡ reaches (wordsOf (now (plan .entry))) edges (now (noted .entry)) region) × (r .known ≡ true → (r .count ≤ length (r .list)) × (take (r .count) (r .list) ≡ membersFrom (wordsOf (now (plan .entry))) edges (now (noted .entry)) region)) ⌝ }
 {
     let shape = Shape {
         num_vertices: plan::num_vertices(plan) as usize,
@@ -92,8 +92,8 @@ fn lowest_upper(noted: &Noted, vertices: &[u32], region: usize) -> usize
 
 // The vertices that step 4 names where the bounds of a region do not meet. The region is lent as a part of the list
 // that the search wrote.
-pub fn extreme_vertices(plan: &Plan, edges: Edges, noted: &Noted, region: usize) -> Extremes
-    ensures { λ r. ⌜ r ≡ extremes (now (plan .entry)) edges (now (noted .entry)) region ⌝ }
+pub fn extreme_vertices(plan: &[u8], edges: Edges, noted: &Noted, region: usize) -> Extremes
+    ensures { λ r. ⌜ r ≡ extremes (wordsOf (now (plan .entry))) edges (now (noted .entry)) region ⌝ }
 {
     let m = list_members(plan, edges, noted, region);
     if m.known {

@@ -3,6 +3,7 @@ use Prim.Native.Nat.{ℕ, _+_, _*_, _/_, _%_}
 use native.Mathlib.Omega.{arith}
 use Rattle.analysis.specs.Placed.{placeOfLit, placeFor, edgePlaceOf, domPlaceOf}
 use borrow.Author.Needs.{needs}
+use Rattle.plan.specs.Words.{wordsOf}
 use Rattle.analysis.proofs.dom_place.Statement.{statement}
 use Rattle.analysis.proofs.dom_place.Tie as tie
 
@@ -17,7 +18,7 @@ place-for-requires c κs = search needs
 
 returns : tie.Need-returns
 unfolding domPlaceOf
-returns c = (c .place-for .ensures) ∙ ap₂ (placeFor (c .before .before .before .args .plan .now)) (c .before .before .dom-index .ensures) (c .before .dom-lit .ensures)
+returns c = (c .place-for .ensures) ∙ ap₂ (placeFor (wordsOf (c .before .before .before .before .args .plan .now))) (c .before .before .dom-index .ensures) (c .before .dom-lit .ensures)
 
 pub dom-place-spec : {M : Type 1} → statement M
 dom-place-spec =

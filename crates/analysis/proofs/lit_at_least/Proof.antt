@@ -1,7 +1,7 @@
 use Prim.Native.Nat.{pred}
 use mathlib.Core.Path.{_≡_, _∙_, ap}
 use Rattle.division.specs.Analysis.{place}
-use Rattle.plan.specs.Words.{domainOf}
+use Rattle.plan.specs.Words.{wordsOf, domainOf}
 use Rattle.analysis.specs.Placed.{domPlaceOf}
 use borrow.Author.Needs.{needs}
 use Rattle.analysis.proofs.lit_at_least.Statement.{statement}
@@ -23,7 +23,7 @@ dom-place-requires : tie.Need-dom-place-requires
 dom-place-requires c κs = search needs
 
 returns : tie.Need-returns
-returns c = (c .dom-place .ensures) ∙ ap (domPlaceOf (c .before .before .before .before .args .plan .now) (c .before .before .before .before .args .v)) ((c .before .less-one .ensures) ∙ ap pred ((c .before .before .sizes-below .ensures) ∙ ap (place (domainOf (c .before .before .before .before .args .plan .now) (c .before .before .before .before .args .v)) (c .before .before .before .before .args .x)) (c .before .before .before .domain-len .ensures)))
+returns c = (c .dom-place .ensures) ∙ ap (domPlaceOf (wordsOf (c .before .before .before .before .before .args .plan .now)) (c .before .before .before .before .before .args .v)) ((c .before .less-one .ensures) ∙ ap pred ((c .before .before .sizes-below .ensures) ∙ ap (place (domainOf (wordsOf (c .before .before .before .before .before .args .plan .now)) (c .before .before .before .before .before .args .v)) (c .before .before .before .before .before .args .x)) (c .before .before .before .domain-len .ensures)))
 
 pub lit-at-least-spec : {M : Type 1} → statement M
 lit-at-least-spec =

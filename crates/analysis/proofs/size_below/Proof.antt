@@ -12,7 +12,7 @@ cast-result : tie.Need-cast-result
 cast-result c = search needs
 
 returns : tie.Need-returns
-returns c = ap (λ (i : ℕ). ltb i (c .before .args .x)) (c .domain .ensures)
+returns c = ap (λ (i : ℕ). ltb i (c .before .before .args .x)) (c .domain .ensures)
 
 pub size-below-spec : {M : Type 1} → statement M
 size-below-spec = tie.close (tie.spec domain-requires cast-result returns)

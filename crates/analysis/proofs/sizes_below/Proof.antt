@@ -2,13 +2,13 @@ use mathlib.Core.Path.{_≡_, refl, sym, _∙_}
 use native.Mathlib.Omega.{arith}
 use borrow.Author.Needs.{needs}
 use Rattle.division.specs.Analysis.{place}
-use Rattle.plan.specs.Words.{domainOf}
+use Rattle.plan.specs.Words.{wordsOf, domainOf}
 use Rattle.analysis.proofs.Place.{place-none, place-found, place-next}
 use Rattle.analysis.proofs.sizes_below.Statement.{statement}
 use Rattle.analysis.proofs.sizes_below.Tie as tie
 
 abbrev Inv-loop : tie.InvT-loop
-Inv-loop plan v x n k₀ k = place (domainOf plan v) x k ≡ place (domainOf plan v) x n
+Inv-loop plan v x n k₀ k = place (domainOf (wordsOf plan) v) x k ≡ place (domainOf (wordsOf plan) v) x n
 
 abbrev μ-loop : tie.MeasureT-loop
 μ-loop plan v x n k₀ k = k

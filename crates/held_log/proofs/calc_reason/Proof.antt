@@ -52,7 +52,7 @@ use Rattle.undo_log.proofs.Cursor as S
 use Rattle.undo_log.proofs.Cursor.Laws as S′
 use Rattle.graph_division.specs.declared.GraphDivision.{GraphDivision}
 use Rattle.graph_division.specs.declared.Answer.{Answer}
-use Rattle.graph_division.specs.Calls.{fetched, reasonFetched}
+use Rattle.graph_division.specs.Calls.{fetched}
 use Rattle.graph_division.proofs.GraphDivision as P
 use Rattle.graph_division.proofs.GraphDivision.Laws as P′
 use Rattle.graph_division.proofs.Answer as E
@@ -64,6 +64,7 @@ use Rattle.held_log.proofs.UndoLog.Laws as J′
 use Rattle.held_log.proofs.LocalRecords.{count, field, laws, varr, records-in, records-out, type as arrTy}
 use Rattle.held_log.proofs.LocalCursor.{cursor-in, cursor-out}
 use Rattle.held_log.proofs.Parts.{R, Q, Y, mst, ml, IsRecords, IsCursor, IsLog, records-are, cursor-is, long, room as room-of}
+use Rattle.record_calls.specs.Checked.{checkedReason}
 use Rattle.record_calls.proofs.calc_reason.calc_reason as call
 use Rattle.record_calls.proofs.calc_reason.calc_reason.Symbol as call-def
 use Rattle.record_calls.proofs.calc_reason.calc_reason.Symbol.{name as #call}
@@ -116,7 +117,7 @@ module _ {M : Type 1} (𝓤 : URA M) (H : Heap 𝓤) (A : Atoms 𝓤) (W : Given
   Post = walkOf 𝓤 H A held.ended stayed (held.clauses 𝓤 H A mem′ run) .post (((κ₀, tt), (q₀, tt), tt, a, vals), tt)
 
   abbrev Said : Answer → List ℕ → Type 0
-  Said r bs′ = fetched r bs′ ≡ reasonFetched st c (map wordOf rs) x bs
+  Said r bs′ = fetched r bs′ ≡ checkedReason st c (map wordOf rs) x bs
 
   exits : (r : Answer) (u : Val) (bs′ : List ℕ) → length bs′ ≡ length bs → Said r bs′
       → ent 𝓤 (⋆ 𝓤 H A (‵ (flft κ₀ q₀) ∷ ‵ (finally u32 γ₀ bs′) ∷ ‵ (E.the-row .own r (u ∷ [])) ∷ [])) (Post u)
@@ -175,8 +176,8 @@ module _ {M : Type 1} (𝓤 : URA M) (H : Heap 𝓤) (A : Atoms 𝓤) (W : Given
         -- [pre; lentC; lentL; _11; _10; _9; _8; _7; _4; _3; _2; _1; _0]
         calls-at ! fm (Call 𝓤 H A mem′ run) known (to-call l₅ l₆ ν δ ν′ δ′) (and-then ! (read ! (from ! (stop !)) (look ! 21 refl)) (and-then ! (read ! (from ! (stop !)) (look ! 9 refl)) (and-then ! (read ! (from ! (stop !)) (look ! 7 refl)) (and-then ! (read ! (from ! (stop !)) (look ! 17 refl)) (and-then ! (read ! (from ! (stop !)) (look ! 3 refl)) (no-more !)))))) (λ u.
         use1 W (later (some (λ (r : Answer). ((‵ (flft (ν ∷ []) fullShare) ⊛ ‵ (flft (ν′ ∷ []) fullShare) ⊛ ‵ (flft κ₀ q₀) ⊛ ‵ ftrue) ⊛ ‵ (E.the-row .own r (u ∷ []))) ⊛ raw (ensured 𝓤 H A call.ended (call.clauses 𝓤 H A mem′ run) (ν ∷ [], (ν′ ∷ [], (κ₀, tt))) (st, (rref l₅ δ rs, (cref l₆ δ′ c, (x, (buffer, tt))))) tt r)))) (id⊢ 𝓤 _) $ await ! tt $ pick ! (λ r.
-        split ! $ move ! (1 ∷ []) $ use1 W (some (λ (k : Unit {0} × (Unit {0} × (Unit {0} × (Unit {0} × (List ℕ × Unit {0}))))). ‵ (lasts call.ended (ν ∷ [], (ν′ ∷ [], (κ₀, tt))) (st, (rref l₅ δ rs, (cref l₆ δ′ c, (x, (buffer, tt))))) k) ⊛ raw (fact 𝓤 (fetched r (k .1 .1 .1 .1 .0) ≡ reasonFetched st c (map wordOf rs) x bs)))) (id⊢ 𝓤 _) $ pick ! (λ k.
-        split ! $ move ! (1 ∷ []) $ heard ! (fetched r (k .1 .1 .1 .1 .0) ≡ reasonFetched st c (map wordOf rs) x bs) (λ f.
+        split ! $ move ! (1 ∷ []) $ use1 W (some (λ (k : Unit {0} × (Unit {0} × (Unit {0} × (Unit {0} × (List ℕ × Unit {0}))))). ‵ (lasts call.ended (ν ∷ [], (ν′ ∷ [], (κ₀, tt))) (st, (rref l₅ δ rs, (cref l₆ δ′ c, (x, (buffer, tt))))) k) ⊛ raw (fact 𝓤 (fetched r (k .1 .1 .1 .1 .0) ≡ checkedReason st c (map wordOf rs) x bs)))) (id⊢ 𝓤 _) $ pick ! (λ k.
+        split ! $ move ! (1 ∷ []) $ heard ! (fetched r (k .1 .1 .1 .1 .0) ≡ checkedReason st c (map wordOf rs) x bs) (λ f.
         fsplit ! $ let-go ! $ fsplit ! $ let-go ! $ fsplit ! $ let-go ! $ fsplit ! $ let-go ! $ fsplit ! $ move ! (1 ∷ []) $ let-go ! $ fsplit ! $ move ! (1 ∷ []) $ feqL ! (λ same-buffer.
         move ! (1 ∷ []) $ split ! $ move ! (1 ∷ []) $ peeks ! E.the-row (Is E.the-row) (shows 𝓤 H A E.the-row) r (u ∷ []) (λ is. land ! (from ! (stop !)) (init ! 25 refl (EL.lawful E.the-type E′.the-laws 𝓤 H A W tt .typed r _ is .0)) $
         move ! (1 ∷ []) $ split ! $ move ! (1 ∷ []) $ split ! $ move ! (1 ∷ []) $ split ! $ move ! (1 ∷ []) $ let-go ! $ move ! (2 ∷ []) $ lft-end ! tt $ move ! (0 ∷ 6 ∷ []) $ lent-back ! tt $ fsplit ! $ let-go ! $ use1 W (‵ (cells (mem R) rs l₅ 0)) (whole-in 𝓤 H A W R rs l₅ 0) $ use1 W (given (IsRecords rs) (‵ (fat fullShare arrTy l₅ 0 (varr rs)))) (records-out 𝓤 H A W rs l₅ 0 len) $ learn ! (λ arr′.

@@ -50,7 +50,7 @@ use Rattle.undo_log.proofs.Cursor as S
 use Rattle.undo_log.proofs.Cursor.Laws as S′
 use Rattle.graph_division.specs.declared.GraphDivision.{GraphDivision}
 use Rattle.graph_division.specs.declared.Outcome.{Outcome}
-use Rattle.graph_division.specs.Calls.{outcome, undone}
+use Rattle.graph_division.specs.Calls.{outcome}
 use Rattle.graph_division.proofs.GraphDivision as P
 use Rattle.graph_division.proofs.GraphDivision.Laws as P′
 use Rattle.graph_division.proofs.Outcome as O
@@ -64,6 +64,7 @@ use Rattle.held_log.proofs.Held.Laws as K′
 use Rattle.held_log.proofs.LocalRecords.{count, field, laws, varr, records-in, records-out, type as arrTy}
 use Rattle.held_log.proofs.LocalCursor.{cursor-in, cursor-out}
 use Rattle.held_log.proofs.Parts.{R, Q, Y, N, mst, ml, log-of, held-of, IsRecords, IsCursor, IsLog, is-log, is-held, records-are, cursor-is, long, room as room-of}
+use Rattle.record_calls.specs.Checked.{checkedUndone}
 use Rattle.record_calls.proofs.undo.undo as call
 use Rattle.record_calls.proofs.undo.undo.Symbol as call-def
 use Rattle.record_calls.proofs.undo.undo.Symbol.{name as #call}
@@ -110,7 +111,7 @@ module _ {M : Type 1} (𝓤 : URA M) (H : Heap 𝓤) (A : Atoms 𝓤) (W : Given
   Post = walkOf 𝓤 H A held.ended stayed (held.clauses 𝓤 H A mem′ run) .post ((tt, tt, tt, a, vals), tt)
 
   abbrev Said : Outcome → List Record → Cursor → Type 0
-  Said r zs d = (outcome (r .state) d (r .answer) ≡ undone st c x (map wordOf rs)) × (zs ≡ rs)
+  Said r zs d = (outcome (r .state) d (r .answer) ≡ checkedUndone st c x (map wordOf rs)) × (zs ≡ rs)
 
   exits : (r : Outcome) (u : Val) (zs : List Record) (d : Cursor) → Is N r (u ∷ []) → IsRecords zs → IsCursor d → Said r zs d
       → ent 𝓤 (⋆ 𝓤 H A (‵ ftrue ∷ [])) (Post (LL.val K.the-type K′.the-laws (held-of r zs d)))
@@ -164,8 +165,8 @@ module _ {M : Type 1} (𝓤 : URA M) (H : Heap 𝓤) (A : Atoms 𝓤) (W : Given
         -- [pre; lentC; lentL; true0; _12; _11; _10; _9; _8; _7; _6; _3; _2; _1; _0]
         calls-at ! fm (Call 𝓤 H A mem′ run) known (to-call l₄ l₅ ν δ ν′ δ′) (and-then ! (read ! (from ! (stop !)) (look ! 24 refl)) (and-then ! (read ! (from ! (stop !)) (look ! 12 refl)) (and-then ! (read ! (from ! (stop !)) (look ! 10 refl)) (and-then ! (read ! (from ! (stop !)) (look ! 20 refl)) (no-more !))))) (λ u.
         use1 W (later (some (λ (r : Outcome). ((‵ (flft (ν ∷ []) fullShare) ⊛ ‵ (flft (ν′ ∷ []) fullShare) ⊛ ‵ ftrue) ⊛ ‵ (N .own r (u ∷ []))) ⊛ raw (ensured 𝓤 H A call.ended (call.clauses 𝓤 H A mem′ run) (ν ∷ [], (ν′ ∷ [], tt)) (st, (rref l₄ δ rs, (cref l₅ δ′ c, (x, tt)))) tt r)))) (id⊢ 𝓤 _) $ await ! tt $ pick ! (λ r.
-        split ! $ move ! (1 ∷ []) $ use1 W (some (λ (k : Unit {0} × (Unit {0} × (Cursor × (Unit {0} × Unit {0})))). ‵ (lasts call.ended (ν ∷ [], (ν′ ∷ [], tt)) (st, (rref l₄ δ rs, (cref l₅ δ′ c, (x, tt)))) k) ⊛ raw (fact 𝓤 ((r ≡ undone st c x (map wordOf rs)) × ((k .1 .1 .0) ≡ r .cursor))))) (id⊢ 𝓤 _) $ pick ! (λ k.
-        split ! $ move ! (1 ∷ []) $ heard ! ((r ≡ undone st c x (map wordOf rs)) × ((k .1 .1 .0) ≡ r .cursor)) (λ f.
+        split ! $ move ! (1 ∷ []) $ use1 W (some (λ (k : Unit {0} × (Unit {0} × (Cursor × (Unit {0} × Unit {0})))). ‵ (lasts call.ended (ν ∷ [], (ν′ ∷ [], tt)) (st, (rref l₄ δ rs, (cref l₅ δ′ c, (x, tt)))) k) ⊛ raw (fact 𝓤 ((r ≡ checkedUndone st c x (map wordOf rs)) × ((k .1 .1 .0) ≡ r .cursor))))) (id⊢ 𝓤 _) $ pick ! (λ k.
+        split ! $ move ! (1 ∷ []) $ heard ! ((r ≡ checkedUndone st c x (map wordOf rs)) × ((k .1 .1 .0) ≡ r .cursor)) (λ f.
         fsplit ! $ let-go ! $ fsplit ! $ let-go ! $ fsplit ! $ move ! (1 ∷ []) $ let-go ! $
         move ! (1 ∷ []) $ split ! $ move ! (1 ∷ []) $ peeks ! N (Is N) (shows 𝓤 H A N) r (u ∷ []) (λ is. land ! (from ! (stop !)) (init ! 18 refl (LL.lawful O.the-type O′.the-laws 𝓤 H A W .typed r _ is .0)) $ rewrite ! 18 (λ (v : Val). ‵ (fat fullShare O′.mir l₆ 0 v)) (ap only (LL.tells O.the-type O′.the-laws r _ is)) refl $ let-go ! $
         split ! $ move ! (1 ∷ []) $ split ! $ move ! (1 ∷ []) $ let-go ! $ move ! (1 ∷ []) $ lft-end ! tt $ move ! (0 ∷ 4 ∷ []) $ lent-back ! tt $ fsplit ! $ let-go ! $ use1 W (‵ (cells (mem R) rs l₄ 0)) (whole-in 𝓤 H A W R rs l₄ 0) $ use1 W (given (IsRecords rs) (‵ (fat fullShare arrTy l₄ 0 (varr rs)))) (records-out 𝓤 H A W rs l₄ 0 len) $ learn ! (λ arr′.

@@ -18,7 +18,7 @@ cast-t5 : tie.Need-cast-t5
 cast-t5 c = search needs
 
 returns : tie.Need-returns
-returns c = ap₂ (λ (x : ℕ) (y : ℕ). let z : Shape = record { «num_vertices» = x; «num_edges» = y; «first_lit» = 4232 } in z) (c .before .num-vertices .ensures) (c .num-edges .ensures)
+returns c = ap₂ (λ (x : ℕ) (y : ℕ). let z : Shape = record { «num_vertices» = x; «num_edges» = y; «first_lit» = 0 } in z) (c .before .num-vertices .ensures) (c .num-edges .ensures)
 
 pub shape-of-spec : {M : Type 1} → statement M
 shape-of-spec =

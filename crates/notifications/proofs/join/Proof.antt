@@ -43,7 +43,7 @@ same-length-5 c = search needs
 returns : tie.Need-returns
 returns c =
     let j = c .before .before .before .before .before .before .before .before .before .before .before .before .before .before .before .before .before .before .before in
-    join-fine _ _ _ _ _ _ _ (judge-told _ _ _ _ _ _ _ (j .before .before .before .before .before .before .before .before .before .pre) (j .judge .ensures)) _ _ _ _ (c .before .before .before .before .before .before .before .before .before .before .before .before .before .enum-told .given .1) (c .before .before .before .before .before .before .before .before .before .before .merge .ensures) (c .before .before .before .before .hand-on .ensures)
+    join-fine _ _ _ _ _ _ _ (judge-told _ _ _ _ _ _ _ (j .before .before .before .before .before .before .before .before .before .before .pre) (j .judge .ensures)) _ _ _ _ (c .before .before .before .before .before .before .before .before .before .before .before .before .before .enum-told .given .1) (c .before .before .before .before .before .before .before .before .before .before .merge .ensures) (c .before .before .before .before .hand-on .ensures)
 
 same-length-6 : tie.Need-same-length-6
 same-length-6 c = search needs
@@ -60,7 +60,7 @@ same-length-9 c = search needs
 returns-2 : tie.Need-returns-2
 returns-2 c =
     let j = c .before .before .before .before .before .before .before .before .before .before .before .before in
-    join-clash _ _ _ _ _ _ _ (judge-told _ _ _ _ _ _ _ (j .before .before .before .before .before .before .before .before .before .pre) (j .judge .ensures)) _ _ (c .before .before .before .before .before .before .found .given .1) (c .before .before .merge2 .ensures)
+    join-clash _ _ _ _ _ _ _ (judge-told _ _ _ _ _ _ _ (j .before .before .before .before .before .before .before .before .before .before .pre) (j .judge .ensures)) _ _ (c .before .before .before .before .before .before .found .given .1) (c .before .before .merge2 .ensures)
 
 same-length-10 : tie.Need-same-length-10
 same-length-10 c = search needs
@@ -74,7 +74,7 @@ same-length-12 c = search needs
 returns-3 : tie.Need-returns-3
 returns-3 c =
     let j = c .before .before .before .before .before .before .before in
-    join-stopped _ _ _ _ _ _ _ (judge-told _ _ _ _ _ _ _ (j .before .before .before .before .before .before .before .before .before .pre) (j .judge .ensures)) _ (c .before .found2 .given .1)
+    join-stopped _ _ _ _ _ _ _ (judge-told _ _ _ _ _ _ _ (j .before .before .before .before .before .before .before .before .before .before .pre) (j .judge .ensures)) _ (c .before .found2 .given .1)
 
 pub join-spec : {M : Type 1} → statement M
 join-spec =

@@ -4,14 +4,14 @@ use native.Mathlib.Omega.{arith}
 use lib.ListN.{length}
 use Rattle.base.specs.Iter.{iter}
 use Rattle.base.proofs.Loop.{iter-zero, iter-more, iter-done}
-use Rattle.plan.specs.Words.{variablesOf}
+use Rattle.plan.specs.Words.{wordsOf, variablesOf}
 use Rattle.notifications.specs.Notifications.{way, notifiedAt, notifiedAll}
 use borrow.Author.Needs.{needs}
 use Rattle.notifications.proofs.notify_all.Statement.{statement}
 use Rattle.notifications.proofs.notify_all.Tie as tie
 
 abbrev Inv-loop : tie.InvT-loop
-Inv-loop plan edges entry log used noted₀ table₀ list₀ words₀ proposals₀ left₀ n y₀ p₀ noted table list words proposals left y p = (p ≤ n) × (n ≡ 2 * variablesOf plan) × (way y noted table list words proposals left ≡ iter (notifiedAt plan edges entry log used) p (way y₀ noted₀ table₀ list₀ words₀ proposals₀ left₀)) × (length table ≡ length table₀) × (length list ≡ length list₀) × (length words ≡ length words₀) × (length proposals ≡ length proposals₀) × (length left ≡ length left₀)
+Inv-loop plan edges entry log used noted₀ table₀ list₀ words₀ proposals₀ left₀ n y₀ p₀ noted table list words proposals left y p = (p ≤ n) × (n ≡ 2 * variablesOf (wordsOf plan)) × (way y noted table list words proposals left ≡ iter (notifiedAt (wordsOf plan) edges entry log used) p (way y₀ noted₀ table₀ list₀ words₀ proposals₀ left₀)) × (length table ≡ length table₀) × (length list ≡ length list₀) × (length words ≡ length words₀) × (length proposals ≡ length proposals₀) × (length left ≡ length left₀)
 
 abbrev μ-loop : tie.MeasureT-loop
 μ-loop plan edges entry log used noted₀ table₀ list₀ words₀ proposals₀ left₀ n y₀ p₀ noted table list words proposals left y p = n - p

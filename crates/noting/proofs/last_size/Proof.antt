@@ -6,7 +6,7 @@ use native.Mathlib.Omega.{arith}
 use Rattle.base.proofs.Loop.{pick-yes, pick-no}
 use Rattle.base.specs.Iter.{iter, pick}
 use Rattle.noting.specs.Words.{lastSize}
-use Rattle.plan.specs.Words.{domainLenOf, domainOf}
+use Rattle.plan.specs.Words.{wordsOf, domainLenOf, domainOf}
 use borrow.Author.Needs.{needs}
 use Rattle.noting.proofs.last_size.Statement.{statement}
 use Rattle.noting.proofs.last_size.Tie as tie
@@ -25,11 +25,11 @@ domain-requires c κs = search needs
 
 returns : tie.Need-returns
 unfolding lastSize
-returns c = (c .domain) .ensures ∙ ap (λ (n : ℕ). domainOf ((c .before .before .before .args) .plan .now) ((c .before .before .before .args) .v) (n - 1)) ((c .before .before .domain-len) .ensures) ∙ sym (pick-yes _ _ (lt-ltb 0 (domainLenOf ((c .before .before .before .args) .plan .now) ((c .before .before .before .args) .v)) (omega arith)))
+returns c = (c .domain) .ensures ∙ ap (λ (n : ℕ). domainOf (wordsOf ((c .before .before .before .before .args) .plan .now)) ((c .before .before .before .before .args) .v) (n - 1)) ((c .before .before .domain-len) .ensures) ∙ sym (pick-yes _ _ (lt-ltb 0 (domainLenOf (wordsOf ((c .before .before .before .before .args) .plan .now)) ((c .before .before .before .before .args) .v)) (omega arith)))
 
 returns-2 : tie.Need-returns-2
 unfolding lastSize
-returns-2 c = sym (pick-no _ _ (le-ltb 0 (domainLenOf ((c .before .before .args) .plan .now) ((c .before .before .args) .v)) (omega arith)))
+returns-2 c = sym (pick-no _ _ (le-ltb 0 (domainLenOf (wordsOf ((c .before .before .before .args) .plan .now)) ((c .before .before .before .args) .v)) (omega arith)))
 
 pub last-size-spec : {M : Type 1} → statement M
 last-size-spec =

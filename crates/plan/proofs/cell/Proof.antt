@@ -6,24 +6,21 @@ use borrow.Author.Needs.{needs}
 use Rattle.plan.proofs.cell.Statement.{statement}
 use Rattle.plan.proofs.cell.Tie as tie
 
-mul-result : tie.Need-mul-result
-mul-result c = search needs
+mul-word : tie.Need-mul-word
+mul-word c = search needs
 
-add-result : tie.Need-add-result
-add-result c = search needs
+add-word : tie.Need-add-word
+add-word c = search needs
 
-add-result-2 : tie.Need-add-result-2
-add-result-2 c = search needs
+add-word-2 : tie.Need-add-word-2
+add-word-2 c = search needs
 
-mul-result-2 : tie.Need-mul-result-2
-mul-result-2 c = search needs
-
-element-copy-out-result : tie.Need-element-copy-out-result
-element-copy-out-result c = search needs
+word-requires : tie.Need-word-requires
+word-requires c κs = search needs
 
 returns : tie.Need-returns
 unfolding cell
-returns c = sym (pick-yes _ _ (lt-ltb _ _ (c .before .before .if1 .taken)) ∙ pick-yes _ _ (lt-ltb _ _ (c .before .if2 .taken)))
+returns c = c .word .ensures ∙ sym (pick-yes _ _ (lt-ltb _ _ (c .before .before .if1 .taken)) ∙ pick-yes _ _ (lt-ltb _ _ (c .before .if2 .taken)))
 
 returns-2 : tie.Need-returns-2
 unfolding cell
@@ -35,13 +32,4 @@ returns-3 c = sym (pick-no _ _ (le-ltb _ _ (c .if1 .left)))
 
 pub cell-spec : {M : Type 1} → statement M
 cell-spec =
-    tie.close
-    (tie.spec
-    mul-result
-    add-result
-    add-result-2
-    mul-result-2
-    element-copy-out-result
-    returns
-    returns-2
-    returns-3)
+    tie.close (tie.spec mul-word add-word add-word-2 word-requires returns returns-2 returns-3)

@@ -6,22 +6,19 @@ use borrow.Author.Needs.{needs}
 use Rattle.plan.proofs.entry.Statement.{statement}
 use Rattle.plan.proofs.entry.Tie as tie
 
-add-result : tie.Need-add-result
-add-result c = search needs
+add-word : tie.Need-add-word
+add-word c = search needs
 
-mul-result : tie.Need-mul-result
-mul-result c = search needs
-
-element-copy-out-result : tie.Need-element-copy-out-result
-element-copy-out-result c = search needs
+word-requires : tie.Need-word-requires
+word-requires c κs = search needs
 
 returns : tie.Need-returns
 unfolding entry
-returns c = sym (pick-yes _ _ (lt-ltb _ _ (c .before .if1 .taken)))
+returns c = c .word .ensures ∙ sym (pick-yes _ _ (lt-ltb _ _ (c .before .if1 .taken)))
 
 returns-2 : tie.Need-returns-2
 unfolding entry
 returns-2 c = sym (pick-no _ _ (le-ltb _ _ (c .if1 .left)))
 
 pub entry-spec : {M : Type 1} → statement M
-entry-spec = tie.close (tie.spec add-result mul-result element-copy-out-result returns returns-2)
+entry-spec = tie.close (tie.spec add-word word-requires returns returns-2)

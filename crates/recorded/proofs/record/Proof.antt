@@ -12,6 +12,7 @@ use Rattle.recorded.specs.declared.Recorded.{Recorded}
 use Rattle.recorded.specs.declared.Reasons.{Reasons}
 use Rattle.recorded.specs.Recorded.{newest, recorded, holding}
 use Rattle.recorded.proofs.Recording.{capped-low, reasons-eq, recorded-done}
+use Rattle.plan.specs.Words.{wordsOf}
 use Rattle.recorded.proofs.record.Statement.{statement}
 use Rattle.recorded.proofs.record.Tie as tie
 
@@ -61,7 +62,7 @@ loop-again : tie.Need-loop-again Inv-loop μ-loop
 loop-again c = (omega arith, iter-more _ _ _ _ _ (c .before .before .before .loop .inv .1) (ap (set ((c .before .before .before .loop .t) .at) (c .before .before .before .loop .p)) (c .newest .ensures)))
 
 returns : tie.Need-returns Inv-loop μ-loop
-returns c = recorded-done (c .before .before .before .before .before .args .plan .now) _ _ _ _ _ _ (c .before .before .before .num-variables .ensures) (c .before .before .capped .ensures) (c .before .loop .inv .1) (omega arith) (omega arith)
+returns c = recorded-done (wordsOf (c .before .before .before .before .before .before .args .plan .now)) _ _ _ _ _ _ (c .before .before .before .num-variables .ensures) (c .before .before .capped .ensures) (c .before .loop .inv .1) (omega arith) (omega arith)
 
 pub record-spec : {M : Type 1} → statement M
 record-spec =

@@ -6,6 +6,7 @@ use Rattle.noting.specs.Standing.{standing, hasVariable}
 use Rattle.refusals.specs.Refusals.{litNumber, unknownLit, propagateRefusal}
 use Rattle.refusals.proofs.Steps.{stop, go-on}
 use borrow.Author.Needs.{needs}
+use Rattle.plan.specs.Words.{wordsOf}
 use Rattle.refusals.proofs.propagate_refusal.Statement.{statement}
 use Rattle.refusals.proofs.propagate_refusal.Tie as tie
 
@@ -21,7 +22,7 @@ unknown-lit-requires c κs = search needs
 
 returns-2 : tie.Need-returns-2
 unfolding propagateRefusal
-returns-2 c = go-on 7 _ 9 _ ((c .before .before .before .table-state-bad .ensures)) ((c .before .before .if1 .left)) (stop 9 _ _ ((c .before .unknown-lit .ensures) ∙ ap (unknownLit ((c .before .before .before .before .before .before .args .plan .now))) (toZ-ofZ ((c .before .before .before .before .before .before .fits .lit)))) ((c .if2 .taken)))
+returns-2 c = go-on 7 _ 9 _ ((c .before .before .before .table-state-bad .ensures)) ((c .before .before .if1 .left)) (stop 9 _ _ ((c .before .unknown-lit .ensures) ∙ ap (unknownLit ((wordsOf (c .before .before .before .before .before .before .before .args .plan .now)))) (toZ-ofZ ((c .before .before .before .before .before .before .before .fits .lit)))) ((c .if2 .taken)))
 
 lit-number-requires : tie.Need-lit-number-requires
 lit-number-requires c κs = search needs
@@ -34,11 +35,11 @@ variable-stands-requires c κs = search needs
 
 returns-3 : tie.Need-returns-3
 unfolding propagateRefusal
-returns-3 c = go-on 7 _ 10 _ ((c .before .before .before .before .before .before .before .table-state-bad .ensures)) ((c .before .before .before .before .before .before .if1 .left)) (go-on 9 _ 10 _ ((c .before .before .before .before .before .unknown-lit .ensures) ∙ ap (unknownLit ((c .before .before .before .before .before .before .before .before .before .before .args .plan .now))) (toZ-ofZ ((c .before .before .before .before .before .before .before .before .before .before .fits .lit)))) ((c .before .before .before .before .if2 .left)) (stop 10 0 _ ((c .before .variable-stands .ensures) ∙ ap (λ (n : ℕ). hasVariable n (standing (recordsOf ((c .before .before .before .before .before .before .before .before .before .before .args .log .now)) ((c .before .before .before .before .before .before .before .before .before .before .args .cursor .used))))) (c .before .before .var .ensures) ∙ ap (λ (n : ℕ). hasVariable (n / 2) (standing (recordsOf ((c .before .before .before .before .before .before .before .before .before .before .args .log .now)) ((c .before .before .before .before .before .before .before .before .before .before .args .cursor .used))))) ((c .before .before .before .lit-number .ensures) ∙ ap litNumber (toZ-ofZ ((c .before .before .before .before .before .before .before .before .before .before .fits .lit))))) ((c .if3 .taken))))
+returns-3 c = go-on 7 _ 10 _ ((c .before .before .before .before .before .before .before .table-state-bad .ensures)) ((c .before .before .before .before .before .before .if1 .left)) (go-on 9 _ 10 _ ((c .before .before .before .before .before .unknown-lit .ensures) ∙ ap (unknownLit ((wordsOf (c .before .before .before .before .before .before .before .before .before .before .before .args .plan .now)))) (toZ-ofZ ((c .before .before .before .before .before .before .before .before .before .before .before .fits .lit)))) ((c .before .before .before .before .if2 .left)) (stop 10 0 _ ((c .before .variable-stands .ensures) ∙ ap (λ (n : ℕ). hasVariable n (standing (recordsOf ((c .before .before .before .before .before .before .before .before .before .before .before .args .log .now)) ((c .before .before .before .before .before .before .before .before .before .before .before .args .cursor .used))))) (c .before .before .var .ensures) ∙ ap (λ (n : ℕ). hasVariable (n / 2) (standing (recordsOf ((c .before .before .before .before .before .before .before .before .before .before .before .args .log .now)) ((c .before .before .before .before .before .before .before .before .before .before .before .args .cursor .used))))) ((c .before .before .before .lit-number .ensures) ∙ ap litNumber (toZ-ofZ ((c .before .before .before .before .before .before .before .before .before .before .before .fits .lit))))) ((c .if3 .taken))))
 
 returns-4 : tie.Need-returns-4
 unfolding propagateRefusal
-returns-4 c = go-on 7 _ 0 _ ((c .before .before .before .before .before .before .before .table-state-bad .ensures)) ((c .before .before .before .before .before .before .if1 .left)) (go-on 9 _ 0 _ ((c .before .before .before .before .before .unknown-lit .ensures) ∙ ap (unknownLit ((c .before .before .before .before .before .before .before .before .before .before .args .plan .now))) (toZ-ofZ ((c .before .before .before .before .before .before .before .before .before .before .fits .lit)))) ((c .before .before .before .before .if2 .left)) (go-on 10 0 0 _ ((c .before .variable-stands .ensures) ∙ ap (λ (n : ℕ). hasVariable n (standing (recordsOf ((c .before .before .before .before .before .before .before .before .before .before .args .log .now)) ((c .before .before .before .before .before .before .before .before .before .before .args .cursor .used))))) (c .before .before .var .ensures) ∙ ap (λ (n : ℕ). hasVariable (n / 2) (standing (recordsOf ((c .before .before .before .before .before .before .before .before .before .before .args .log .now)) ((c .before .before .before .before .before .before .before .before .before .before .args .cursor .used))))) ((c .before .before .before .lit-number .ensures) ∙ ap litNumber (toZ-ofZ ((c .before .before .before .before .before .before .before .before .before .before .fits .lit))))) ((c .if3 .left)) refl))
+returns-4 c = go-on 7 _ 0 _ ((c .before .before .before .before .before .before .before .table-state-bad .ensures)) ((c .before .before .before .before .before .before .if1 .left)) (go-on 9 _ 0 _ ((c .before .before .before .before .before .unknown-lit .ensures) ∙ ap (unknownLit ((wordsOf (c .before .before .before .before .before .before .before .before .before .before .before .args .plan .now)))) (toZ-ofZ ((c .before .before .before .before .before .before .before .before .before .before .before .fits .lit)))) ((c .before .before .before .before .if2 .left)) (go-on 10 0 0 _ ((c .before .variable-stands .ensures) ∙ ap (λ (n : ℕ). hasVariable n (standing (recordsOf ((c .before .before .before .before .before .before .before .before .before .before .before .args .log .now)) ((c .before .before .before .before .before .before .before .before .before .before .before .args .cursor .used))))) (c .before .before .var .ensures) ∙ ap (λ (n : ℕ). hasVariable (n / 2) (standing (recordsOf ((c .before .before .before .before .before .before .before .before .before .before .before .args .log .now)) ((c .before .before .before .before .before .before .before .before .before .before .before .args .cursor .used))))) ((c .before .before .before .lit-number .ensures) ∙ ap litNumber (toZ-ofZ ((c .before .before .before .before .before .before .before .before .before .before .before .fits .lit))))) ((c .if3 .left)) refl))
 
 pub propagate-refusal-spec : {M : Type 1} → statement M
 propagate-refusal-spec =

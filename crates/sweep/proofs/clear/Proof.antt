@@ -29,7 +29,7 @@ same-length c = search needs
 
 returns : tie.Need-returns
 unfolding cleared
-returns c = c .before .before .clear-words .ensures ∙ ap (λ (k : ℕ). filled 0 (4 * k) (λ i. 0) (c .before .before .before .before .before .before .before .args .proposals .now)) (c .before .before .before .before .before .num-variables .ensures)
+returns c = c .before .before .clear-words .ensures ∙ ap (λ (k : ℕ). filled 0 (4 * k) (λ i. 0) (c .before .before .before .before .before .before .before .before .args .proposals .now)) (c .before .before .before .before .before .num-variables .ensures)
 
 same-length-2 : tie.Need-same-length-2
 same-length-2 c = search needs
@@ -37,7 +37,7 @@ same-length-2 c = search needs
 returns-2 : tie.Need-returns-2
 unfolding cleared
 returns-2 c =
-    let words = c .before .before .before .before .before .before .before .args .proposals .now in
+    let words = c .before .before .before .before .before .before .before .before .args .proposals .now in
     let k = c .before .before .before .before .before .num-variables .result in
     c .before .before .clear-words2 .ensures
     ∙ sym (filled-all (λ i. 0) words (length words) (4 * k) (omega arith) (omega arith))

@@ -3,17 +3,16 @@ use Prim.Native.Nat.{ℕ, suc, _+_, _-_, _*_, _/_, _%_, _≤_, _<_}
 use native.Mathlib.Omega.{arith}
 use borrow.Author.Needs.{needs}
 use mathlib.Core.Bool.{false}
-use native.Mathlib.Nat.{not-suc-le-zero}
-use borrow.Author.Count.{below-more}
-use Rattle.division.specs.Regions.{lowest}
-use Rattle.plan.specs.Words.{variablesOf}
+use Rattle.plan.specs.Words.{wordsOf, variablesOf}
 use Rattle.sweep.specs.Sweep.{falseAt, firstFalseAt}
 use Rattle.sweep.proofs.Loops.{lowest-is, lowest-none}
+use Rattle.sweep.proofs.Next.{next-told, false-start, false-more}
 use Rattle.sweep.proofs.first_false.Statement.{statement}
 use Rattle.sweep.proofs.first_false.Tie as tie
 
 abbrev Inv-loop : tie.InvT-loop
-Inv-loop plan proposals table n p₀ p = (p ≤ n) × ((n ≡ 2 * variablesOf plan) × ((k : ℕ) → k < p → falseAt plan proposals table k ≡ false))
+Inv-loop plan proposals table n p₀ p =
+    (p ≤ n) × ((n ≡ 2 * variablesOf (wordsOf plan)) × ((k : ℕ) → k < p → falseAt (wordsOf plan) proposals table k ≡ false))
 
 abbrev μ-loop : tie.MeasureT-loop
 μ-loop plan proposals table n p₀ p = n - p
@@ -27,8 +26,11 @@ cast-n c = omega arith
 mul-n : tie.Need-mul-n Inv-loop μ-loop
 mul-n c = omega arith
 
+next-proposed-requires : tie.Need-next-proposed-requires Inv-loop μ-loop
+next-proposed-requires c κs = search needs
+
 loop-holds : tie.Need-loop-holds Inv-loop μ-loop
-loop-holds c = (omega arith, (omega arith, λ k h. absurd (not-suc-le-zero h)))
+loop-holds c = let t = next-told (c .next-proposed .ensures) in (t .most, (omega arith, false-start _ _ _ t))
 
 false-at-requires : tie.Need-false-at-requires Inv-loop μ-loop
 false-at-requires c κs = search needs
@@ -37,14 +39,21 @@ returns : tie.Need-returns Inv-loop μ-loop
 unfolding firstFalseAt
 returns c = lowest-is _ _ _ (omega arith) (c .before .before .before .loop .inv .1 .1) (sym (c .before .false-at .ensures) ∙ (c .if1 .taken))
 
-add-p : tie.Need-add-p Inv-loop μ-loop
-add-p c = omega arith
+add-next-proposed : tie.Need-add-next-proposed Inv-loop μ-loop
+add-next-proposed c = omega arith
+
+next-proposed-requires-2 : tie.Need-next-proposed-requires-2 Inv-loop μ-loop
+next-proposed-requires-2 c κs = search needs
 
 loop-less : tie.Need-loop-less Inv-loop μ-loop
-loop-less c = omega arith
+loop-less c = let t = next-told (c .next-proposed2 .ensures) in let l = t .least (omega arith) in omega arith
 
 loop-again : tie.Need-loop-again Inv-loop μ-loop
-loop-again c = (omega arith, ((c .before .before .before .loop .inv .1 .0), below-more _ _ (c .before .before .before .loop .inv .1 .1) (sym (c .before .false-at .ensures) ∙ (c .if1 .left))))
+loop-again c =
+    let t = next-told (c .next-proposed2 .ensures) in
+    let l = c .before .before .before .before in
+    let e = sym (c .before .before .false-at .ensures) ∙ c .before .if1 .left in
+    (t .most, (l .loop .inv .1 .0, false-more _ _ _ (l .loop .inv .1 .1) e t))
 
 returns-2 : tie.Need-returns-2 Inv-loop μ-loop
 unfolding firstFalseAt
@@ -59,10 +68,12 @@ first-false-spec =
     num-variables-requires
     cast-n
     mul-n
+    next-proposed-requires
     loop-holds
     false-at-requires
     returns
-    add-p
+    add-next-proposed
+    next-proposed-requires-2
     loop-less
     loop-again
     returns-2)

@@ -23,7 +23,7 @@ same-length-2 c = search needs
 
 returns : tie.Need-returns
 unfolding handedAt
-returns c = (c .before .before .before .before .hand-on-lit .ensures) ∙ ap (λ (l : ℕ). handed l (handing (c .before .before .before .before .before .before .before .before .before .before .before .before .before .args .table .now) (c .before .before .before .before .before .before .before .before .before .before .before .before .before .args .list .now) (c .before .before .before .before .before .before .before .before .before .before .before .before .before .args .at))) (c .before .before .before .before .before .unique-lit .ensures) ∙ sym (pick-yes _ _ (sym (c .before .before .before .before .before .before .before .before .before .proposed .ensures) ∙ (c .before .before .before .before .before .before .before .before .if1 .taken)))
+returns c = (c .before .before .before .before .hand-on-lit .ensures) ∙ ap (λ (l : ℕ). handed l (handing (c .before .before .before .before .before .before .before .before .before .before .before .before .before .before .args .table .now) (c .before .before .before .before .before .before .before .before .before .before .before .before .before .before .args .list .now) (c .before .before .before .before .before .before .before .before .before .before .before .before .before .before .args .at))) (c .before .before .before .before .before .unique-lit .ensures) ∙ sym (pick-yes _ _ (sym (c .before .before .before .before .before .before .before .before .before .proposed .ensures) ∙ (c .before .before .before .before .before .before .before .before .if1 .taken)))
 
 returns-2 : tie.Need-returns-2
 unfolding handedAt

@@ -15,13 +15,13 @@ returns : tie.Need-returns
 returns c = step1-walls _ _ _ _ [] [] Going (sym (c .before .allow-extra-walls .ensures) ∙ (c .if1 .taken))
 
 connect-inside-requires : tie.Need-connect-inside-requires
-connect-inside-requires c κs = (c .before .before .before .before .before .pre .edges)
+connect-inside-requires c κs = (c .before .before .before .before .before .before .pre .edges)
 
 goes-on-requires : tie.Need-goes-on-requires
 goes-on-requires c κs = search needs
 
 disconnect-matched-requires : tie.Need-disconnect-matched-requires
-disconnect-matched-requires c κs = (c .before .before .before .before .before .before .before .before .before .before .before .before .pre .edges)
+disconnect-matched-requires c κs = (c .before .before .before .before .before .before .before .before .before .before .before .before .before .pre .edges)
 
 same-length : tie.Need-same-length
 same-length c = ran-length _ _ _ _ (step1-done _ _ _ _ _ _ _ (sym (c .before .before .before .before .before .before .before .before .before .before .before .before .before .allow-extra-walls .ensures) ∙ (c .before .before .before .before .before .before .before .before .before .before .before .before .if1 .left)) (sym (c .before .before .before .before .before .before .goes-on .ensures) ∙ (c .before .before .before .before .before .if2 .taken)) (c .before .before .before .before .before .before .before .before .before .connect-inside .ensures) (c .before .before .disconnect-matched .ensures))

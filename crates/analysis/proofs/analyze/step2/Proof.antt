@@ -8,6 +8,7 @@ use Rattle.analysis.specs.Placed.{words, on}
 use Rattle.analysis.proofs.Chain.{step2-crossed, step2-over, step2-done}
 use Rattle.analysis.proofs.Pass.{ran-length}
 use borrow.Author.Needs.{needs}
+use Rattle.plan.specs.Words.{wordsOf}
 use Rattle.analysis.proofs.analyze.step2.Statement.{statement}
 use Rattle.analysis.proofs.analyze.step2.Tie as tie
 
@@ -35,7 +36,7 @@ raise-lower-bounds-requires c κs = search needs
 disconnect-too-large-requires : tie.Need-disconnect-too-large-requires
 disconnect-too-large-requires c κs =
     let o = c .before .before .before .before .before .before in
-    o .before .before .before .before .before .before .before .before .pre .edges
+    o .before .before .before .before .before .before .before .before .before .pre .edges
 
 same-length : tie.Need-same-length
 unfolding uncrossed overfull raises
@@ -43,9 +44,9 @@ same-length c =
     let r = c .before .before .before .before .before .before .before in
     let o = r .before .before .before .before in
     let g = o .before .before .before in
-    let a = g .before .before .before .args in
+    let a = g .before .before .before .before .args in
     let p = a .proposals .now in
-    let w = words (a .plan .now) (a .t2) (a .noted .now) (a .view .now) in
+    let w = words (wordsOf (a .plan .now)) (a .t2) (a .noted .now) (a .view .now) in
     ran-length _ _ _ _
     (step2-done _ _ _ _ _ _ _ _ _
     (sym (g .goes-on .ensures) ∙ o .before .before .if1 .taken)
@@ -62,9 +63,9 @@ returns c =
     let r = c .before .before .before .before .before .before .before in
     let o = r .before .before .before .before in
     let g = o .before .before .before in
-    let a = g .before .before .before .args in
+    let a = g .before .before .before .before .args in
     let p = a .proposals .now in
-    let w = words (a .plan .now) (a .t2) (a .noted .now) (a .view .now) in
+    let w = words (wordsOf (a .plan .now)) (a .t2) (a .noted .now) (a .view .now) in
     step2-done _ _ _ _ _ _ _ _ _
     (sym (g .goes-on .ensures) ∙ o .before .before .if1 .taken)
     (sym (r .before .before .before .goes-on2 .ensures) ∙ r .before .before .if2 .taken)
@@ -79,9 +80,9 @@ unfolding uncrossed overfull raises
 returns-2 c =
     let o = c .before .before in
     let g = o .before .before .before in
-    let a = g .before .before .before .args in
+    let a = g .before .before .before .before .args in
     let p = a .proposals .now in
-    let w = words (a .plan .now) (a .t2) (a .noted .now) (a .view .now) in
+    let w = words (wordsOf (a .plan .now)) (a .t2) (a .noted .now) (a .view .now) in
     step2-over _ _ _ _ [] [] _ _ _
     (sym (g .goes-on .ensures) ∙ o .before .before .if1 .taken)
     (sym (c .before .goes-on2 .ensures) ∙ c .if2 .left)
@@ -94,7 +95,7 @@ unfolding uncrossed overfull raises
 returns-3 c =
     step2-crossed _ _ _ _ [] [] _ _
     (sym (c .before .goes-on .ensures) ∙ c .if1 .left)
-    ((c .before .before .check-crossed .ensures) (c .before .before .before .before .args .proposals .now))
+    ((c .before .before .check-crossed .ensures) (c .before .before .before .before .before .args .proposals .now))
 
 pub step2-spec : {M : Type 1} → statement M
 step2-spec =

@@ -14,13 +14,13 @@ use Rattle.analysis.proofs.analyze.step4.Statement.{statement}
 use Rattle.analysis.proofs.analyze.step4.Tie as tie
 
 check-meets-requires : tie.Need-check-meets-requires
-check-meets-requires c κs = (c .before .pre .walks)
+check-meets-requires c κs = (c .before .before .pre .walks)
 
 goes-on-requires : tie.Need-goes-on-requires
 goes-on-requires c κs = search needs
 
 disconnect-parted-requires : tie.Need-disconnect-parted-requires
-disconnect-parted-requires c κs = (c .before .before .before .before .before .before .pre .edges)
+disconnect-parted-requires c κs = (c .before .before .before .before .before .before .before .pre .edges)
 
 spread-bounds-requires : tie.Need-spread-bounds-requires
 spread-bounds-requires c κs = search needs

@@ -13,7 +13,7 @@ disallow-adjacent-same-size-regions-requires :
 disallow-adjacent-same-size-regions-requires c κs = search needs
 
 disconnect-same-size-requires : tie.Need-disconnect-same-size-requires
-disconnect-same-size-requires c κs = (c .before .before .before .before .before .pre .edges)
+disconnect-same-size-requires c κs = (c .before .before .before .before .before .before .pre .edges)
 
 same-length : tie.Need-same-length
 same-length c = ran-length _ _ _ _ (c .before .before .disconnect-same-size .ensures)

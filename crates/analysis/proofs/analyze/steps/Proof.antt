@@ -8,6 +8,7 @@ use Rattle.division.specs.Analysis.{step3, cuts, crowds}
 use Rattle.analysis.proofs.Pass.{ran-length}
 use Rattle.analysis.proofs.Chain.{ran-next, step2-regular, step3-regular, step4-regular, ends-1, ends-2, ends-3, ends-4, ends-5}
 use borrow.Author.Needs.{needs}
+use Rattle.plan.specs.Words.{wordsOf}
 use Rattle.analysis.proofs.analyze.steps.Statement.{statement}
 use Rattle.analysis.proofs.analyze.steps.Tie as tie
 
@@ -24,7 +25,7 @@ goes-on-requires-2 : tie.Need-goes-on-requires-2
 goes-on-requires-2 c κs = search needs
 
 step3-requires : tie.Need-step3-requires
-step3-requires c κs = (c .before .before .before .before .before .before .before .before .before .before .before .before .before .before .pre .vertices)
+step3-requires c κs = (c .before .before .before .before .before .before .before .before .before .before .before .before .before .before .before .pre .vertices)
 
 goes-on-requires-3 : tie.Need-goes-on-requires-3
 goes-on-requires-3 c κs = search needs
@@ -43,21 +44,21 @@ same-length c = ran-length _ _ _ _ (c .before .before .step5 .ensures) ∙ (ran-
 
 returns : tie.Need-returns
 unfolding step3 cuts crowds cellsOf
-returns c = ends-5 _ _ _ _ _ _ _ _ _ (sym (c .before .before .before .before .before .goes-on4 .ensures) ∙ (c .before .before .before .before .if4 .taken)) (ran-next _ (step4-regular _ _ _) _ _ _ _ _ _ (sym (c .before .before .before .before .before .before .before .before .before .before .before .goes-on3 .ensures) ∙ (c .before .before .before .before .before .before .before .before .before .before .if3 .taken)) (ran-next _ (step3-regular (planIn (words (c .before .before .before .before .before .before .before .before .before .before .before .before .before .before .before .before .before .before .before .before .before .before .before .before .before .before .before .before .before .args .plan .now) (c .before .before .before .before .before .before .before .before .before .before .before .before .before .before .before .before .before .before .before .before .before .before .before .before .before .before .before .before .before .args .edges) (c .before .before .before .before .before .before .before .before .before .before .before .before .before .before .before .before .before .before .before .before .before .before .before .before .before .before .before .before .before .args .noted .now) (c .before .before .before .before .before .before .before .before .before .before .before .before .before .before .before .before .before .before .before .before .before .before .before .before .before .before .before .before .before .args .view .now))) (stateOf (c .before .before .before .before .before .before .before .before .before .before .before .before .before .before .before .before .before .before .before .before .before .before .before .before .before .before .before .before .before .args .noted .now)) (viewIn (words (c .before .before .before .before .before .before .before .before .before .before .before .before .before .before .before .before .before .before .before .before .before .before .before .before .before .before .before .before .before .args .plan .now) (c .before .before .before .before .before .before .before .before .before .before .before .before .before .before .before .before .before .before .before .before .before .before .before .before .before .before .before .before .before .args .edges) (c .before .before .before .before .before .before .before .before .before .before .before .before .before .before .before .before .before .before .before .before .before .before .before .before .before .before .before .before .before .args .noted .now) (c .before .before .before .before .before .before .before .before .before .before .before .before .before .before .before .before .before .before .before .before .before .before .before .before .before .before .before .before .before .args .view .now)))) _ _ _ _ _ _ (sym (c .before .before .before .before .before .before .before .before .before .before .before .before .before .before .before .before .before .goes-on2 .ensures) ∙ (c .before .before .before .before .before .before .before .before .before .before .before .before .before .before .before .before .if2 .taken)) (ran-next _ (step2-regular _ _ _ _) _ _ _ _ _ _ (sym (c .before .before .before .before .before .before .before .before .before .before .before .before .before .before .before .before .before .before .before .before .before .before .before .goes-on .ensures) ∙ (c .before .before .before .before .before .before .before .before .before .before .before .before .before .before .before .before .before .before .before .before .before .before .if1 .taken)) (c .before .before .before .before .before .before .before .before .before .before .before .before .before .before .before .before .before .before .before .before .before .before .before .before .before .before .step1 .ensures) (c .before .before .before .before .before .before .before .before .before .before .before .before .before .before .before .before .before .before .before .before .step2 .ensures)) (c .before .before .before .before .before .before .before .before .before .before .before .before .before .before .step3 .ensures)) (c .before .before .before .before .before .before .before .before .step4 .ensures)) (c .before .before .step5 .ensures)
+returns c = ends-5 _ _ _ _ _ _ _ _ _ (sym (c .before .before .before .before .before .goes-on4 .ensures) ∙ (c .before .before .before .before .if4 .taken)) (ran-next _ (step4-regular _ _ _) _ _ _ _ _ _ (sym (c .before .before .before .before .before .before .before .before .before .before .before .goes-on3 .ensures) ∙ (c .before .before .before .before .before .before .before .before .before .before .if3 .taken)) (ran-next _ (step3-regular (planIn (words (wordsOf (c .before .before .before .before .before .before .before .before .before .before .before .before .before .before .before .before .before .before .before .before .before .before .before .before .before .before .before .before .before .before .args .plan .now)) (c .before .before .before .before .before .before .before .before .before .before .before .before .before .before .before .before .before .before .before .before .before .before .before .before .before .before .before .before .before .before .args .edges) (c .before .before .before .before .before .before .before .before .before .before .before .before .before .before .before .before .before .before .before .before .before .before .before .before .before .before .before .before .before .before .args .noted .now) (c .before .before .before .before .before .before .before .before .before .before .before .before .before .before .before .before .before .before .before .before .before .before .before .before .before .before .before .before .before .before .args .view .now))) (stateOf (c .before .before .before .before .before .before .before .before .before .before .before .before .before .before .before .before .before .before .before .before .before .before .before .before .before .before .before .before .before .before .args .noted .now)) (viewIn (words (wordsOf (c .before .before .before .before .before .before .before .before .before .before .before .before .before .before .before .before .before .before .before .before .before .before .before .before .before .before .before .before .before .before .args .plan .now)) (c .before .before .before .before .before .before .before .before .before .before .before .before .before .before .before .before .before .before .before .before .before .before .before .before .before .before .before .before .before .before .args .edges) (c .before .before .before .before .before .before .before .before .before .before .before .before .before .before .before .before .before .before .before .before .before .before .before .before .before .before .before .before .before .before .args .noted .now) (c .before .before .before .before .before .before .before .before .before .before .before .before .before .before .before .before .before .before .before .before .before .before .before .before .before .before .before .before .before .before .args .view .now)))) _ _ _ _ _ _ (sym (c .before .before .before .before .before .before .before .before .before .before .before .before .before .before .before .before .before .goes-on2 .ensures) ∙ (c .before .before .before .before .before .before .before .before .before .before .before .before .before .before .before .before .if2 .taken)) (ran-next _ (step2-regular _ _ _ _) _ _ _ _ _ _ (sym (c .before .before .before .before .before .before .before .before .before .before .before .before .before .before .before .before .before .before .before .before .before .before .before .goes-on .ensures) ∙ (c .before .before .before .before .before .before .before .before .before .before .before .before .before .before .before .before .before .before .before .before .before .before .if1 .taken)) (c .before .before .before .before .before .before .before .before .before .before .before .before .before .before .before .before .before .before .before .before .before .before .before .before .before .before .step1 .ensures) (c .before .before .before .before .before .before .before .before .before .before .before .before .before .before .before .before .before .before .before .before .step2 .ensures)) (c .before .before .before .before .before .before .before .before .before .before .before .before .before .before .step3 .ensures)) (c .before .before .before .before .before .before .before .before .step4 .ensures)) (c .before .before .step5 .ensures)
 
 same-length-2 : tie.Need-same-length-2
 same-length-2 c = ran-length _ _ _ _ (c .before .before .before .before .step4 .ensures) ∙ (ran-length _ _ _ _ (c .before .before .before .before .before .before .before .before .before .before .step3 .ensures) ∙ (ran-length _ _ _ _ (c .before .before .before .before .before .before .before .before .before .before .before .before .before .before .before .before .step2 .ensures) ∙ (ran-length _ _ _ _ (c .before .before .before .before .before .before .before .before .before .before .before .before .before .before .before .before .before .before .before .before .before .before .step1 .ensures))))
 
 returns-2 : tie.Need-returns-2
 unfolding step3 cuts crowds cellsOf
-returns-2 c = ends-4 _ _ _ _ _ [] _ _ (sym (c .before .goes-on4 .ensures) ∙ (c .if4 .left)) (ran-next _ (step4-regular _ _ _) _ _ _ _ _ _ (sym (c .before .before .before .before .before .before .before .goes-on3 .ensures) ∙ (c .before .before .before .before .before .before .if3 .taken)) (ran-next _ (step3-regular (planIn (words (c .before .before .before .before .before .before .before .before .before .before .before .before .before .before .before .before .before .before .before .before .before .before .before .before .before .args .plan .now) (c .before .before .before .before .before .before .before .before .before .before .before .before .before .before .before .before .before .before .before .before .before .before .before .before .before .args .edges) (c .before .before .before .before .before .before .before .before .before .before .before .before .before .before .before .before .before .before .before .before .before .before .before .before .before .args .noted .now) (c .before .before .before .before .before .before .before .before .before .before .before .before .before .before .before .before .before .before .before .before .before .before .before .before .before .args .view .now))) (stateOf (c .before .before .before .before .before .before .before .before .before .before .before .before .before .before .before .before .before .before .before .before .before .before .before .before .before .args .noted .now)) (viewIn (words (c .before .before .before .before .before .before .before .before .before .before .before .before .before .before .before .before .before .before .before .before .before .before .before .before .before .args .plan .now) (c .before .before .before .before .before .before .before .before .before .before .before .before .before .before .before .before .before .before .before .before .before .before .before .before .before .args .edges) (c .before .before .before .before .before .before .before .before .before .before .before .before .before .before .before .before .before .before .before .before .before .before .before .before .before .args .noted .now) (c .before .before .before .before .before .before .before .before .before .before .before .before .before .before .before .before .before .before .before .before .before .before .before .before .before .args .view .now)))) _ _ _ _ _ _ (sym (c .before .before .before .before .before .before .before .before .before .before .before .before .before .goes-on2 .ensures) ∙ (c .before .before .before .before .before .before .before .before .before .before .before .before .if2 .taken)) (ran-next _ (step2-regular _ _ _ _) _ _ _ _ _ _ (sym (c .before .before .before .before .before .before .before .before .before .before .before .before .before .before .before .before .before .before .before .goes-on .ensures) ∙ (c .before .before .before .before .before .before .before .before .before .before .before .before .before .before .before .before .before .before .if1 .taken)) (c .before .before .before .before .before .before .before .before .before .before .before .before .before .before .before .before .before .before .before .before .before .before .step1 .ensures) (c .before .before .before .before .before .before .before .before .before .before .before .before .before .before .before .before .step2 .ensures)) (c .before .before .before .before .before .before .before .before .before .before .step3 .ensures)) (c .before .before .before .before .step4 .ensures))
+returns-2 c = ends-4 _ _ _ _ _ [] _ _ (sym (c .before .goes-on4 .ensures) ∙ (c .if4 .left)) (ran-next _ (step4-regular _ _ _) _ _ _ _ _ _ (sym (c .before .before .before .before .before .before .before .goes-on3 .ensures) ∙ (c .before .before .before .before .before .before .if3 .taken)) (ran-next _ (step3-regular (planIn (words (wordsOf (c .before .before .before .before .before .before .before .before .before .before .before .before .before .before .before .before .before .before .before .before .before .before .before .before .before .before .args .plan .now)) (c .before .before .before .before .before .before .before .before .before .before .before .before .before .before .before .before .before .before .before .before .before .before .before .before .before .before .args .edges) (c .before .before .before .before .before .before .before .before .before .before .before .before .before .before .before .before .before .before .before .before .before .before .before .before .before .before .args .noted .now) (c .before .before .before .before .before .before .before .before .before .before .before .before .before .before .before .before .before .before .before .before .before .before .before .before .before .before .args .view .now))) (stateOf (c .before .before .before .before .before .before .before .before .before .before .before .before .before .before .before .before .before .before .before .before .before .before .before .before .before .before .args .noted .now)) (viewIn (words (wordsOf (c .before .before .before .before .before .before .before .before .before .before .before .before .before .before .before .before .before .before .before .before .before .before .before .before .before .before .args .plan .now)) (c .before .before .before .before .before .before .before .before .before .before .before .before .before .before .before .before .before .before .before .before .before .before .before .before .before .before .args .edges) (c .before .before .before .before .before .before .before .before .before .before .before .before .before .before .before .before .before .before .before .before .before .before .before .before .before .before .args .noted .now) (c .before .before .before .before .before .before .before .before .before .before .before .before .before .before .before .before .before .before .before .before .before .before .before .before .before .before .args .view .now)))) _ _ _ _ _ _ (sym (c .before .before .before .before .before .before .before .before .before .before .before .before .before .goes-on2 .ensures) ∙ (c .before .before .before .before .before .before .before .before .before .before .before .before .if2 .taken)) (ran-next _ (step2-regular _ _ _ _) _ _ _ _ _ _ (sym (c .before .before .before .before .before .before .before .before .before .before .before .before .before .before .before .before .before .before .before .goes-on .ensures) ∙ (c .before .before .before .before .before .before .before .before .before .before .before .before .before .before .before .before .before .before .if1 .taken)) (c .before .before .before .before .before .before .before .before .before .before .before .before .before .before .before .before .before .before .before .before .before .before .step1 .ensures) (c .before .before .before .before .before .before .before .before .before .before .before .before .before .before .before .before .step2 .ensures)) (c .before .before .before .before .before .before .before .before .before .before .step3 .ensures)) (c .before .before .before .before .step4 .ensures))
 
 same-length-3 : tie.Need-same-length-3
 same-length-3 c = ran-length _ _ _ _ (c .before .before .before .before .step3 .ensures) ∙ (ran-length _ _ _ _ (c .before .before .before .before .before .before .before .before .before .before .step2 .ensures) ∙ (ran-length _ _ _ _ (c .before .before .before .before .before .before .before .before .before .before .before .before .before .before .before .before .step1 .ensures)))
 
 returns-3 : tie.Need-returns-3
 unfolding step3 cuts crowds cellsOf
-returns-3 c = ends-3 _ _ _ _ _ [] _ _ (sym (c .before .goes-on3 .ensures) ∙ (c .if3 .left)) (ran-next _ (step3-regular (planIn (words (c .before .before .before .before .before .before .before .before .before .before .before .before .before .before .before .before .before .before .before .args .plan .now) (c .before .before .before .before .before .before .before .before .before .before .before .before .before .before .before .before .before .before .before .args .edges) (c .before .before .before .before .before .before .before .before .before .before .before .before .before .before .before .before .before .before .before .args .noted .now) (c .before .before .before .before .before .before .before .before .before .before .before .before .before .before .before .before .before .before .before .args .view .now))) (stateOf (c .before .before .before .before .before .before .before .before .before .before .before .before .before .before .before .before .before .before .before .args .noted .now)) (viewIn (words (c .before .before .before .before .before .before .before .before .before .before .before .before .before .before .before .before .before .before .before .args .plan .now) (c .before .before .before .before .before .before .before .before .before .before .before .before .before .before .before .before .before .before .before .args .edges) (c .before .before .before .before .before .before .before .before .before .before .before .before .before .before .before .before .before .before .before .args .noted .now) (c .before .before .before .before .before .before .before .before .before .before .before .before .before .before .before .before .before .before .before .args .view .now)))) _ _ _ _ _ _ (sym (c .before .before .before .before .before .before .before .goes-on2 .ensures) ∙ (c .before .before .before .before .before .before .if2 .taken)) (ran-next _ (step2-regular _ _ _ _) _ _ _ _ _ _ (sym (c .before .before .before .before .before .before .before .before .before .before .before .before .before .goes-on .ensures) ∙ (c .before .before .before .before .before .before .before .before .before .before .before .before .if1 .taken)) (c .before .before .before .before .before .before .before .before .before .before .before .before .before .before .before .before .step1 .ensures) (c .before .before .before .before .before .before .before .before .before .before .step2 .ensures)) (c .before .before .before .before .step3 .ensures))
+returns-3 c = ends-3 _ _ _ _ _ [] _ _ (sym (c .before .goes-on3 .ensures) ∙ (c .if3 .left)) (ran-next _ (step3-regular (planIn (words (wordsOf (c .before .before .before .before .before .before .before .before .before .before .before .before .before .before .before .before .before .before .before .before .args .plan .now)) (c .before .before .before .before .before .before .before .before .before .before .before .before .before .before .before .before .before .before .before .before .args .edges) (c .before .before .before .before .before .before .before .before .before .before .before .before .before .before .before .before .before .before .before .before .args .noted .now) (c .before .before .before .before .before .before .before .before .before .before .before .before .before .before .before .before .before .before .before .before .args .view .now))) (stateOf (c .before .before .before .before .before .before .before .before .before .before .before .before .before .before .before .before .before .before .before .before .args .noted .now)) (viewIn (words (wordsOf (c .before .before .before .before .before .before .before .before .before .before .before .before .before .before .before .before .before .before .before .before .args .plan .now)) (c .before .before .before .before .before .before .before .before .before .before .before .before .before .before .before .before .before .before .before .before .args .edges) (c .before .before .before .before .before .before .before .before .before .before .before .before .before .before .before .before .before .before .before .before .args .noted .now) (c .before .before .before .before .before .before .before .before .before .before .before .before .before .before .before .before .before .before .before .before .args .view .now)))) _ _ _ _ _ _ (sym (c .before .before .before .before .before .before .before .goes-on2 .ensures) ∙ (c .before .before .before .before .before .before .if2 .taken)) (ran-next _ (step2-regular _ _ _ _) _ _ _ _ _ _ (sym (c .before .before .before .before .before .before .before .before .before .before .before .before .before .goes-on .ensures) ∙ (c .before .before .before .before .before .before .before .before .before .before .before .before .if1 .taken)) (c .before .before .before .before .before .before .before .before .before .before .before .before .before .before .before .before .step1 .ensures) (c .before .before .before .before .before .before .before .before .before .before .step2 .ensures)) (c .before .before .before .before .step3 .ensures))
 
 same-length-4 : tie.Need-same-length-4
 same-length-4 c = ran-length _ _ _ _ (c .before .before .before .before .step2 .ensures) ∙ (ran-length _ _ _ _ (c .before .before .before .before .before .before .before .before .before .before .step1 .ensures))

@@ -15,11 +15,12 @@ use Rattle.noting.specs.Words.{stateOf}
 use Rattle.analysis.specs.Placed.{words, on, planIn, viewIn}
 use Rattle.analysis.proofs.Pass.{ran-none, ran-more, ran-done, ran-length}
 use Rattle.analysis.proofs.Matching.{end-low, matched-follows, ran-nothing, ran-decided}
+use Rattle.plan.specs.Words.{wordsOf}
 use Rattle.analysis.proofs.step1.disconnect_matched.Statement.{statement}
 use Rattle.analysis.proofs.step1.disconnect_matched.Tie as tie
 
 abbrev Inv-loop : tie.InvT-loop
-Inv-loop plan edges noted view proposals₀ n end walls g₀ proposals g = (g ≤ n) × (ran Going proposals ≡ ranOf (iter (guarded (on matched (words plan edges noted view))) g begun) proposals₀)
+Inv-loop plan edges noted view proposals₀ n end walls g₀ proposals g = (g ≤ n) × (ran Going proposals ≡ ranOf (iter (guarded (on matched (words (wordsOf plan) edges noted view))) g begun) proposals₀)
 
 abbrev μ-loop : tie.MeasureT-loop
 μ-loop plan edges noted view proposals₀ n end walls g₀ proposals g = n - g
@@ -35,7 +36,7 @@ disconnected-end-requires c κs = search needs
 
 returns : tie.Need-returns Inv-loop μ-loop
 returns c =
-    let x = words (c .before .before .before .before .args .plan .now) (c .before .before .before .before .args .edges .now) (c .before .before .before .before .args .noted .now) (c .before .before .before .before .args .view .now) in
+    let x = words (wordsOf (c .before .before .before .before .before .args .plan .now)) (c .before .before .before .before .before .args .edges .now) (c .before .before .before .before .before .args .noted .now) (c .before .before .before .before .before .args .view .now) in
     ran-nothing (planIn x) (stateOf (x .noted)) (viewIn x) (sym (c .if1 .taken) ∙ ((c .before .disconnected-end .ensures) ∙ ap (disconnectedEnd (x .noted)) (c .before .before .num-edges .ensures))) _ _
 
 first-undecided-requires : tie.Need-first-undecided-requires Inv-loop μ-loop
@@ -43,18 +44,18 @@ first-undecided-requires c κs = omega arith
 
 returns-2 : tie.Need-returns-2 Inv-loop μ-loop
 returns-2 c =
-    let x = words (c .before .before .before .before .before .before .args .plan .now) (c .before .before .before .before .before .before .args .edges .now) (c .before .before .before .before .before .before .args .noted .now) (c .before .before .before .before .before .before .args .view .now) in
+    let x = words (wordsOf (c .before .before .before .before .before .before .before .args .plan .now)) (c .before .before .before .before .before .before .before .args .edges .now) (c .before .before .before .before .before .before .before .args .noted .now) (c .before .before .before .before .before .before .before .args .view .now) in
     let k = c .before .before .before .before .num-edges .ensures in
     ran-decided (planIn x) (stateOf (x .noted)) (viewIn x) (ap (lowest (λ (h : ℕ). eqb (getD (x .noted) h 0) 0)) (sym k) ∙ (sym (c .before .first-undecided .ensures) ∙ ((c .if2 .taken) ∙ k))) _
 
 walls-between-requires : tie.Need-walls-between-requires Inv-loop μ-loop
-walls-between-requires c κs = omega (arith, end-low (c .before .before .before .before .before .before .args .noted .now) (c .before .before .before .before .num-edges .result), c .before .before .before .disconnected-end .ensures)
+walls-between-requires c κs = omega (arith, end-low (c .before .before .before .before .before .before .before .args .noted .now) (c .before .before .before .before .num-edges .result), c .before .before .before .disconnected-end .ensures)
 
 loop-holds : tie.Need-loop-holds Inv-loop μ-loop
 loop-holds c = (omega arith, ran-none _ _)
 
 matched-requires : tie.Need-matched-requires Inv-loop μ-loop
-matched-requires c κs = (omega arith, omega arith, (c .before .before .before .before .before .before .before .before .disconnected-end .ensures) ∙ ap (disconnectedEnd (c .before .before .before .before .before .before .before .before .before .before .before .args .noted .now)) (c .before .before .before .before .before .before .before .before .before .num-edges .ensures), c .before .before .before .before .walls-between .ensures)
+matched-requires c κs = (omega arith, omega arith, (c .before .before .before .before .before .before .before .before .disconnected-end .ensures) ∙ ap (disconnectedEnd (c .before .before .before .before .before .before .before .before .before .before .before .before .args .noted .now)) (c .before .before .before .before .before .before .before .before .before .num-edges .ensures), c .before .before .before .before .walls-between .ensures)
 
 add-g : tie.Need-add-g Inv-loop μ-loop
 add-g c = omega arith

@@ -9,11 +9,12 @@ use Rattle.reasons.specs.Verdicts.{begun, ran, ranOf}
 use Rattle.analysis.specs.Placed.{words, on}
 use Rattle.analysis.proofs.Pass.{ran-none, ran-more, ran-done, ran-length}
 use Rattle.analysis.proofs.Bounds.{merges-follows}
+use Rattle.plan.specs.Words.{wordsOf}
 use Rattle.analysis.proofs.step2.disconnect_too_large.Statement.{statement}
 use Rattle.analysis.proofs.step2.disconnect_too_large.Tie as tie
 
 abbrev Inv-loop : tie.InvT-loop
-Inv-loop plan edges noted view proposals₀ n g₀ proposals g = (g ≤ n) × (ran Going proposals ≡ ranOf (iter (guarded (on merges (words plan edges noted view))) g begun) proposals₀)
+Inv-loop plan edges noted view proposals₀ n g₀ proposals g = (g ≤ n) × (ran Going proposals ≡ ranOf (iter (guarded (on merges (words (wordsOf plan) edges noted view))) g begun) proposals₀)
 
 abbrev μ-loop : tie.MeasureT-loop
 μ-loop plan edges noted view proposals₀ n g₀ proposals g = n - g

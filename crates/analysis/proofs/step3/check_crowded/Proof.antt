@@ -10,11 +10,12 @@ use Rattle.analysis.specs.Placed.{words, on, Finds}
 use Rattle.analysis.proofs.Pass.{ran-none, ran-more, ran-done, ran-halt, goes-going}
 use Rattle.division.specs.Analysis.{crowds, guarded}
 use Rattle.analysis.proofs.Meeting.{crowds-follows}
+use Rattle.plan.specs.Words.{wordsOf}
 use Rattle.analysis.proofs.step3.check_crowded.Statement.{statement}
 use Rattle.analysis.proofs.step3.check_crowded.Tie as tie
 
 abbrev Inv-loop : tie.InvT-loop
-Inv-loop plan noted view n r₀ r = (r ≤ n) × Finds Going (iter (guarded (on crowds (words plan [] noted view))) r begun)
+Inv-loop plan noted view n r₀ r = (r ≤ n) × Finds Going (iter (guarded (on crowds (words (wordsOf plan) [] noted view))) r begun)
 
 abbrev μ-loop : tie.MeasureT-loop
 μ-loop plan noted view n r₀ r = n - r

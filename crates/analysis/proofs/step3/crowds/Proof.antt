@@ -6,6 +6,7 @@ use Rattle.views.proofs.Separated.{separated-after}
 use Rattle.analysis.specs.Placed.{edgePlaceOf, domPlaceOf}
 use Rattle.analysis.proofs.Meeting.{crowds-other, crowds-fit, crowds-over}
 use borrow.Author.Needs.{needs}
+use Rattle.plan.specs.Words.{wordsOf}
 use Rattle.analysis.proofs.step3.crowds.Statement.{statement}
 use Rattle.analysis.proofs.step3.crowds.Tie as tie
 
@@ -29,11 +30,11 @@ required-weight-requires c κs = search needs
 
 returns : tie.Need-returns
 unfolding cellsOf
-returns c = λ a. crowds-over _ _ _ _ a _ (sym (c .before .before .before .before .before .before .before .potential-region .ensures) ∙ (c .before .before .before .before .before .before .if1 .taken)) ((c .before .required-weight .ensures) ∙ separated-after (c .before .before .before .before .before .before .before .before .args .plan .now) [] (c .before .before .before .before .before .before .before .before .pre) (c .before .before .before .before .before .before .before .before .args .noted .now) (c .before .before .before .before .before .before .before .before .args .view .now) _ refl (c .before .before .before .before .before .before .before .before .args .r) (edgePlaceOf (c .before .before .before .before .before .before .before .before .args .plan .now)) (domPlaceOf (c .before .before .before .before .before .before .before .before .args .plan .now)) _ _ (c .before .before .before .before .separate-ranges .ensures) .1) (omega arith)
+returns c = λ a. crowds-over _ _ _ _ a _ (sym (c .before .before .before .before .before .before .before .potential-region .ensures) ∙ (c .before .before .before .before .before .before .if1 .taken)) ((c .before .required-weight .ensures) ∙ separated-after (wordsOf (c .before .before .before .before .before .before .before .before .before .args .plan .now)) [] (c .before .before .before .before .before .before .before .before .before .pre) (c .before .before .before .before .before .before .before .before .before .args .noted .now) (c .before .before .before .before .before .before .before .before .before .args .view .now) _ refl (c .before .before .before .before .before .before .before .before .before .args .r) (edgePlaceOf (wordsOf (c .before .before .before .before .before .before .before .before .before .args .plan .now))) (domPlaceOf (wordsOf (c .before .before .before .before .before .before .before .before .before .args .plan .now))) _ _ (c .before .before .before .before .separate-ranges .ensures) .1) (omega arith)
 
 returns-2 : tie.Need-returns-2
 unfolding cellsOf
-returns-2 c = λ a. crowds-fit _ _ _ _ a _ (sym (c .before .before .before .before .before .before .before .potential-region .ensures) ∙ (c .before .before .before .before .before .before .if1 .taken)) ((c .before .required-weight .ensures) ∙ separated-after (c .before .before .before .before .before .before .before .before .args .plan .now) [] (c .before .before .before .before .before .before .before .before .pre) (c .before .before .before .before .before .before .before .before .args .noted .now) (c .before .before .before .before .before .before .before .before .args .view .now) _ refl (c .before .before .before .before .before .before .before .before .args .r) (edgePlaceOf (c .before .before .before .before .before .before .before .before .args .plan .now)) (domPlaceOf (c .before .before .before .before .before .before .before .before .args .plan .now)) _ _ (c .before .before .before .before .separate-ranges .ensures) .1) (omega arith)
+returns-2 c = λ a. crowds-fit _ _ _ _ a _ (sym (c .before .before .before .before .before .before .before .potential-region .ensures) ∙ (c .before .before .before .before .before .before .if1 .taken)) ((c .before .required-weight .ensures) ∙ separated-after (wordsOf (c .before .before .before .before .before .before .before .before .before .args .plan .now)) [] (c .before .before .before .before .before .before .before .before .before .pre) (c .before .before .before .before .before .before .before .before .before .args .noted .now) (c .before .before .before .before .before .before .before .before .before .args .view .now) _ refl (c .before .before .before .before .before .before .before .before .before .args .r) (edgePlaceOf (wordsOf (c .before .before .before .before .before .before .before .before .before .args .plan .now))) (domPlaceOf (wordsOf (c .before .before .before .before .before .before .before .before .before .args .plan .now))) _ _ (c .before .before .before .before .separate-ranges .ensures) .1) (omega arith)
 
 returns-3 : tie.Need-returns-3
 returns-3 c = λ a. crowds-other _ _ _ _ a (λ e. (c .if1 .left) ((c .before .potential-region .ensures) ∙ e))

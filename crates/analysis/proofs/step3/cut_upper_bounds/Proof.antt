@@ -10,11 +10,12 @@ use Rattle.reasons.specs.Verdicts.{begun, ran, ranOf}
 use Rattle.analysis.specs.Placed.{words, on}
 use Rattle.analysis.proofs.Pass.{ran-none, ran-more, ran-done, ran-length, ran-halt, goes-going}
 use Rattle.analysis.proofs.Bounds.{cuts-follows}
+use Rattle.plan.specs.Words.{wordsOf}
 use Rattle.analysis.proofs.step3.cut_upper_bounds.Statement.{statement}
 use Rattle.analysis.proofs.step3.cut_upper_bounds.Tie as tie
 
 abbrev Inv-loop : tie.InvT-loop
-Inv-loop plan noted view proposals₀ n v₀ proposals v = (v ≤ n) × (ran Going proposals ≡ ranOf (iter (guarded (on cuts (words plan [] noted view))) v begun) proposals₀)
+Inv-loop plan noted view proposals₀ n v₀ proposals v = (v ≤ n) × (ran Going proposals ≡ ranOf (iter (guarded (on cuts (words (wordsOf plan) [] noted view))) v begun) proposals₀)
 
 abbrev μ-loop : tie.MeasureT-loop
 μ-loop plan noted view proposals₀ n v₀ proposals v = n - v

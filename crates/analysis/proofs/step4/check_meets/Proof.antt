@@ -11,11 +11,12 @@ use Rattle.analysis.proofs.Pass.{ran-none, ran-more, ran-done, ran-halt
 use Rattle.division.specs.Analysis.{guarded}
 use Rattle.analysis.specs.First.{meetsFirst}
 use Rattle.analysis.proofs.Meeting.{meetsFirst-follows}
+use Rattle.plan.specs.Words.{wordsOf}
 use Rattle.analysis.proofs.step4.check_meets.Statement.{statement}
 use Rattle.analysis.proofs.step4.check_meets.Tie as tie
 
 abbrev Inv-loop : tie.InvT-loop
-Inv-loop plan edges noted view n r₀ r = (r ≤ n) × Finds Going (iter (guarded (on meetsFirst (words plan edges noted view))) r begun)
+Inv-loop plan edges noted view n r₀ r = (r ≤ n) × Finds Going (iter (guarded (on meetsFirst (words (wordsOf plan) edges noted view))) r begun)
 
 abbrev μ-loop : tie.MeasureT-loop
 μ-loop plan edges noted view n r₀ r = n - r
@@ -30,7 +31,7 @@ loop-holds : tie.Need-loop-holds Inv-loop μ-loop
 loop-holds c = (omega arith, λ a. ran-none _ a)
 
 meets-first-requires : tie.Need-meets-first-requires Inv-loop μ-loop
-meets-first-requires c κs = (omega arith, (c .before .before .before .pre))
+meets-first-requires c κs = (omega arith, (c .before .before .before .before .pre))
 
 goes-on-requires : tie.Need-goes-on-requires Inv-loop μ-loop
 goes-on-requires c κs = search needs

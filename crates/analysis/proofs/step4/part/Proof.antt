@@ -42,11 +42,11 @@ same-length c = search needs
 returns : tie.Need-returns
 returns c =
     (c .before .before .put .ensures)
-    ∙ (ap₂ (λ (p x : ℕ). put p x 0 (c .before .before .before .before .before .before .before .before .before .before .before .before .args .proposals .now)) (c .before .before .before .before .edge-place .ensures) ((c .before .before .before .packed .ensures) ∙ ap₂ (λ (i j : ℕ). packed 6 (c .before .before .before .before .before .before .before .before .before .before .before .before .args .g) i j (c .before .before .before .before .before .before .before .before .before .before .before .before .args .flip)) (c .before .before .before .before .before .before .before .region-upper-bound-idx .ensures) (c .before .before .before .before .before .before .region-lower-bound-idx .ensures))
-    ∙ sym (pick-yes _ _ (lt-ltb (upperBoundOf (c .before .before .before .before .before .before .before .before .before .before .before .before .args .view .now) (c .before .before .before .before .before .before .before .before .before .before .before .before .args .up)) (lowerBoundOf (c .before .before .before .before .before .before .before .before .before .before .before .before .args .view .now) (c .before .before .before .before .before .before .before .before .before .before .before .before .args .low)) (omega arith))))
+    ∙ (ap₂ (λ (p x : ℕ). put p x 0 (c .before .before .before .before .before .before .before .before .before .before .before .before .before .args .proposals .now)) (c .before .before .before .before .edge-place .ensures) ((c .before .before .before .packed .ensures) ∙ ap₂ (λ (i j : ℕ). packed 6 (c .before .before .before .before .before .before .before .before .before .before .before .before .before .args .g) i j (c .before .before .before .before .before .before .before .before .before .before .before .before .before .args .flip)) (c .before .before .before .before .before .before .before .region-upper-bound-idx .ensures) (c .before .before .before .before .before .before .region-lower-bound-idx .ensures))
+    ∙ sym (pick-yes _ _ (lt-ltb (upperBoundOf (c .before .before .before .before .before .before .before .before .before .before .before .before .before .args .view .now) (c .before .before .before .before .before .before .before .before .before .before .before .before .before .args .up)) (lowerBoundOf (c .before .before .before .before .before .before .before .before .before .before .before .before .before .args .view .now) (c .before .before .before .before .before .before .before .before .before .before .before .before .before .args .low)) (omega arith))))
 
 returns-2 : tie.Need-returns-2
-returns-2 c = sym (pick-no _ _ (le-ltb (upperBoundOf (c .before .before .before .before .args .view .now) (c .before .before .before .before .args .up)) (lowerBoundOf (c .before .before .before .before .args .view .now) (c .before .before .before .before .args .low)) (omega arith)))
+returns-2 c = sym (pick-no _ _ (le-ltb (upperBoundOf (c .before .before .before .before .before .args .view .now) (c .before .before .before .before .before .args .up)) (lowerBoundOf (c .before .before .before .before .before .args .view .now) (c .before .before .before .before .before .args .low)) (omega arith)))
 
 pub part-spec : {M : Type 1} → statement M
 part-spec =

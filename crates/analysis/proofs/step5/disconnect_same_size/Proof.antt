@@ -9,11 +9,12 @@ use Rattle.analysis.specs.Placed.{words, on}
 use Rattle.analysis.proofs.Pass.{ran-none, ran-more, ran-done, ran-length, ran-halt, goes-going}
 use Rattle.division.specs.Analysis.{partsAt, guarded}
 use Rattle.analysis.proofs.Forks.{partsAt-follows}
+use Rattle.plan.specs.Words.{wordsOf}
 use Rattle.analysis.proofs.step5.disconnect_same_size.Statement.{statement}
 use Rattle.analysis.proofs.step5.disconnect_same_size.Tie as tie
 
 abbrev Inv-loop : tie.InvT-loop
-Inv-loop plan edges noted view proposals₀ n u₀ proposals u = (u ≤ n) × (ran Going proposals ≡ ranOf (iter (guarded (on partsAt (words plan edges noted view))) u begun) proposals₀)
+Inv-loop plan edges noted view proposals₀ n u₀ proposals u = (u ≤ n) × (ran Going proposals ≡ ranOf (iter (guarded (on partsAt (words (wordsOf plan) edges noted view))) u begun) proposals₀)
 
 abbrev μ-loop : tie.MeasureT-loop
 μ-loop plan edges noted view proposals₀ n u₀ proposals u = n - u

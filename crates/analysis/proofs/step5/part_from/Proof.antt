@@ -11,11 +11,12 @@ use Rattle.division.specs.Plan.{touches, across}
 use Rattle.division.specs.Analysis.{parted, guarded, loose}
 use Rattle.analysis.specs.SameSize.{leadsToFixed}
 use Rattle.analysis.proofs.Forks.{parted-none, parted-follows}
+use Rattle.plan.specs.Words.{wordsOf}
 use Rattle.analysis.proofs.step5.part_from.Statement.{statement}
 use Rattle.analysis.proofs.step5.part_from.Tie as tie
 
 abbrev Inv-loop : tie.InvT-loop
-Inv-loop plan edges noted view u g proposals₀ h₀ proposals h = (h ≤ g) × (ran Going proposals ≡ ranOf (iter (guarded (on parted (words plan edges noted view) u g)) h begun) proposals₀)
+Inv-loop plan edges noted view u g proposals₀ h₀ proposals h = (h ≤ g) × (ran Going proposals ≡ ranOf (iter (guarded (on parted (words (wordsOf plan) edges noted view) u g)) h begun) proposals₀)
 
 abbrev μ-loop : tie.MeasureT-loop
 μ-loop plan edges noted view u g proposals₀ h₀ proposals h = g - h
@@ -55,7 +56,7 @@ returns-2 c = ran-done _ _ _ _ _ (c .before .loop .inv .1) (omega arith) (omega 
 
 returns-3 : tie.Need-returns-3 Inv-loop μ-loop
 unfolding leadsToFixed touches across loose iter ranOf
-returns-3 c = ran-none (on parted (words (c .before .before .before .args .plan .now) (c .before .before .before .args .edges .now) (c .before .before .before .args .noted .now) (c .before .before .before .args .view .now)) (c .before .before .before .args .u) (c .before .before .before .args .g)) _ ∙ ap (λ q. ranOf q (c .before .before .before .args .proposals .now)) (sym (parted-none _ _ _ _ _ (c .before .before .before .args .g) (sym (c .before .leads-to-fixed .ensures) ∙ (c .if1 .left))))
+returns-3 c = ran-none (on parted (words (wordsOf (c .before .before .before .before .args .plan .now)) (c .before .before .before .before .args .edges .now) (c .before .before .before .before .args .noted .now) (c .before .before .before .before .args .view .now)) (c .before .before .before .before .args .u) (c .before .before .before .before .args .g)) _ ∙ ap (λ q. ranOf q (c .before .before .before .before .args .proposals .now)) (sym (parted-none _ _ _ _ _ (c .before .before .before .before .args .g) (sym (c .before .leads-to-fixed .ensures) ∙ (c .if1 .left))))
 
 pub part-from-spec : {M : Type 1} → statement M
 part-from-spec =

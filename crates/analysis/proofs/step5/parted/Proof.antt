@@ -22,7 +22,7 @@ region-lower-bound-requires c κs = search needs
 
 returns : tie.Need-returns
 unfolding across touches loose forks sameSize
-returns c = parted-zero _ _ _ _ _ _ _ (sym (c .before .before .before .before .same-size .ensures) ∙ (c .before .before .before .if1 .taken)) (sym (ap (lowerBoundOf (c .before .before .before .before .before .before .args .view .now)) (c .before .before .region-across .ensures)) ∙ (sym (c .before .region-lower-bound .ensures) ∙ (c .if2 .taken)))
+returns c = parted-zero _ _ _ _ _ _ _ (sym (c .before .before .before .before .same-size .ensures) ∙ (c .before .before .before .if1 .taken)) (sym (ap (lowerBoundOf (c .before .before .before .before .before .before .before .args .view .now)) (c .before .before .region-across .ensures)) ∙ (sym (c .before .region-lower-bound .ensures) ∙ (c .if2 .taken)))
 
 across-requires : tie.Need-across-requires
 across-requires c κs = search needs
@@ -59,7 +59,7 @@ unfolding across touches loose forks sameSize
 returns-2 c =
     ap (ran Going) ((c .before .before .put2 .ensures) ∙ ap (put (c .before .before .before .edge-place2 .result) (c .before .before .before .before .before .before .before .before .before .before .before .before .packed .result) (c .before .before .before .before .before .before .before .before .before .before .region-lits .result)) (c .before .before .before .before .before .before .before .put .ensures))
     ∙ parted-some _ _ _ _ _ _ _ _ _ _ _ (sym (c .before .before .before .before .before .before .before .before .before .before .before .before .before .before .before .before .before .before .before .same-size .ensures) ∙ (c .before .before .before .before .before .before .before .before .before .before .before .before .before .before .before .before .before .before .if1 .taken))
-    (λ e. (c .before .before .before .before .before .before .before .before .before .before .before .before .before .before .before .if2 .left) ((c .before .before .before .before .before .before .before .before .before .before .before .before .before .before .before .before .region-lower-bound .ensures) ∙ (ap (lowerBoundOf (c .before .before .before .before .before .before .before .before .before .before .before .before .before .before .before .before .before .before .before .before .before .args .view .now)) (c .before .before .before .before .before .before .before .before .before .before .before .before .before .before .before .before .before .region-across .ensures) ∙ e))) (c .before .before .before .before .before .before .before .before .edge-place .ensures) (c .before .before .before .edge-place2 .ensures)
+    (λ e. (c .before .before .before .before .before .before .before .before .before .before .before .before .before .before .before .if2 .left) ((c .before .before .before .before .before .before .before .before .before .before .before .before .before .before .before .before .region-lower-bound .ensures) ∙ (ap (lowerBoundOf (c .before .before .before .before .before .before .before .before .before .before .before .before .before .before .before .before .before .before .before .before .before .before .args .view .now)) (c .before .before .before .before .before .before .before .before .before .before .before .before .before .before .before .before .before .region-across .ensures) ∙ e))) (c .before .before .before .before .before .before .before .before .edge-place .ensures) (c .before .before .before .edge-place2 .ensures)
     (same-first _ _ _ _ _ _ _ _ _ (c .before .before .before .before .before .before .before .before .before .before .before .before .before .before .across .ensures) (c .before .before .before .before .before .before .before .before .before .before .before .before .before .across2 .ensures) (c .before .before .before .before .before .before .before .before .before .before .before .before .packed .ensures))
     (same-second _ _ _ _ _ _ _ _ _ _ _ _ _ (c .before .before .before .before .before .before .before .before .before .before .before .before .before .before .before .before .before .region-across .ensures) (c .before .before .before .before .before .before .before .before .before .before .before .region-across2 .ensures) refl refl refl refl (c .before .before .before .before .before .before .before .before .before .before .region-lits .ensures))
 

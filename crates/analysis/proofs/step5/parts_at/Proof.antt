@@ -9,11 +9,12 @@ use Rattle.analysis.specs.Placed.{words, on}
 use Rattle.analysis.proofs.Pass.{ran-none, ran-more, ran-done, ran-length, ran-halt, goes-going}
 use Rattle.division.specs.Analysis.{parted, partsAt, guarded}
 use Rattle.analysis.proofs.Forks.{part-from-follows}
+use Rattle.plan.specs.Words.{wordsOf}
 use Rattle.analysis.proofs.step5.parts_at.Statement.{statement}
 use Rattle.analysis.proofs.step5.parts_at.Tie as tie
 
 abbrev Inv-loop : tie.InvT-loop
-Inv-loop plan edges noted view u proposals₀ n g₀ proposals g = (g ≤ n) × (ran Going proposals ≡ ranOf (iter (guarded (λ g. iter (guarded (on parted (words plan edges noted view) u g)) g)) g begun) proposals₀)
+Inv-loop plan edges noted view u proposals₀ n g₀ proposals g = (g ≤ n) × (ran Going proposals ≡ ranOf (iter (guarded (λ g. iter (guarded (on parted (words (wordsOf plan) edges noted view) u g)) g)) g begun) proposals₀)
 
 abbrev μ-loop : tie.MeasureT-loop
 μ-loop plan edges noted view u proposals₀ n g₀ proposals g = n - g

@@ -3,6 +3,9 @@ use borrow.Author.Needs.{needs}
 use Rattle.by_value.proofs.initialize.initialize.Statement.{statement}
 use Rattle.by_value.proofs.initialize.initialize.Tie as tie
 
+plan-bytes-requires : tie.Need-plan-bytes-requires
+plan-bytes-requires c κs = search needs
+
 table-of-requires : tie.Need-table-of-requires
 table-of-requires c κs = search needs
 
@@ -34,12 +37,13 @@ same-length-3 : tie.Need-same-length-3
 same-length-3 c = search needs
 
 returns : tie.Need-returns
-returns c = initialize-shell (c .before .before .before .before .before .before .before .before .before .before .before .before .before .before .before .before .before .before .before .before .before .before .before .before .before .before .before .before .args .t1) _ _ (c .before .before .before .before .before .before .before .before .before .before .before .before .before .before .before .before .before .before .before .before .before .before .before .table-of .ensures) _ _ (c .before .before .before .before .before .before .before .before .before .before .before .before .before .before .before .before .before .before .before .before .before .no-words .ensures) _ _ _ _ _ _ _ _ _ _ (c .begun-after .ensures) (c .before .before .before .before .before .before .before .before .before .before .before .initialize .ensures)
+returns c = initialize-shell (c .before .before .before .before .before .before .before .before .before .before .before .before .before .before .before .before .before .before .before .before .before .before .before .before .before .before .before .before .before .before .args .s) _ _ (c .before .before .before .before .before .before .before .before .before .before .before .before .before .before .before .before .before .before .before .before .before .before .before .before .table-of .ensures) _ (c .before .before .before .before .before .before .before .before .before .before .before .before .before .before .before .before .before .before .before .before .before .before .before .before .before .before .plan-bytes .ensures) _ _ (c .before .before .before .before .before .before .before .before .before .before .before .before .before .before .before .before .before .before .before .before .before .before .no-words .ensures) _ _ _ _ _ _ _ _ _ _ (c .begun-after .ensures) (c .before .before .before .before .before .before .before .before .before .before .before .initialize .ensures)
 
 pub initialize-spec : {M : Type 1} → statement M
 initialize-spec =
     tie.close
     (tie.spec
+    plan-bytes-requires
     table-of-requires
     no-words-requires
     slice-aggregate-initialize

@@ -4,6 +4,9 @@ use borrow.Author.Needs.{needs}
 use Rattle.by_value.proofs.propagate.propagate.Statement.{statement}
 use Rattle.by_value.proofs.propagate.propagate.Tie as tie
 
+plan-bytes-requires : tie.Need-plan-bytes-requires
+plan-bytes-requires c κs = search needs
+
 table-of-requires : tie.Need-table-of-requires
 table-of-requires c κs = search needs
 
@@ -39,14 +42,15 @@ same-length-3 c = search needs
 
 returns : tie.Need-returns
 returns c =
-    let f = c .before .before .before .before .before .before .before .before .before .before .before .before .before .before .before .before .before .before .before .before .before .before .before .before .before .before .before .before .fits in
-    propagate-shell (c .before .before .before .before .before .before .before .before .before .before .before .before .before .before .before .before .before .before .before .before .before .before .before .before .before .before .before .before .args .t1) _ _ (c .before .before .before .before .before .before .before .before .before .before .before .before .before .before .before .before .before .before .before .before .before .before .before .table-of .ensures) _ _ (c .before .before .before .before .before .before .before .before .before .before .before .before .before .before .before .before .before .before .before .before .before .no-words .ensures) _ _ _ _ _ _ _ _ _ _ _ _ _ _ _ (c .before .before .before .before .before .before .before .before .before .before .before .before .before .before .before .before .before .before .before .before .no-list .ensures) (toZ-ofZ (f .lit)) (toZ-ofZ (f .num-pending-propagations)) (c .state-after .ensures)
+    let f = c .before .before .before .before .before .before .before .before .before .before .before .before .before .before .before .before .before .before .before .before .before .before .before .before .before .before .before .before .before .before .fits in
+    propagate-shell (c .before .before .before .before .before .before .before .before .before .before .before .before .before .before .before .before .before .before .before .before .before .before .before .before .before .before .before .before .before .before .args .s) _ _ (c .before .before .before .before .before .before .before .before .before .before .before .before .before .before .before .before .before .before .before .before .before .before .before .before .table-of .ensures) _ (c .before .before .before .before .before .before .before .before .before .before .before .before .before .before .before .before .before .before .before .before .before .before .before .before .before .before .plan-bytes .ensures) _ _ (c .before .before .before .before .before .before .before .before .before .before .before .before .before .before .before .before .before .before .before .before .before .before .no-words .ensures) _ _ _ _ _ _ _ _ _ _ _ _ _ _ _ (c .before .before .before .before .before .before .before .before .before .before .before .before .before .before .before .before .before .before .before .before .before .no-list .ensures) (toZ-ofZ (f .lit)) (toZ-ofZ (f .num-pending-propagations)) (c .state-after .ensures)
     (c .before .before .before .before .before .before .before .before .before .before .before .propagate .ensures)
 
 pub propagate-spec : {M : Type 1} → statement M
 propagate-spec =
     tie.close
     (tie.spec
+    plan-bytes-requires
     table-of-requires
     no-words-requires
     no-list-requires

@@ -5,6 +5,9 @@ use borrow.Author.Needs.{needs}
 use Rattle.by_value.proofs.undo.undo.Statement.{statement}
 use Rattle.by_value.proofs.undo.undo.Tie as tie
 
+plan-bytes-requires : tie.Need-plan-bytes-requires
+plan-bytes-requires c κs = search needs
+
 table-of-requires : tie.Need-table-of-requires
 table-of-requires c κs = search needs
 
@@ -13,7 +16,7 @@ undo-requires c κs = search needs
 
 returns : tie.Need-returns
 unfolding withNoted
-returns c = undo-shell (c .before .before .before .before .before .before .before .before .before .before .before .before .before .args .t1) _ _ (c .before .before .before .before .before .before .before .before .before .before .table-of .ensures) _ _ _ _ _ _ (toZ-ofZ (c .before .before .before .before .before .before .before .before .before .before .before .before .before .fits .lit)) (c .before .before .before .before .before .undo .ensures .0)
+returns c = undo-shell (c .before .before .before .before .before .before .before .before .before .before .before .before .before .before .before .args .s) _ _ (c .before .before .before .before .before .before .before .before .before .before .before .table-of .ensures) _ (c .before .before .before .before .before .before .before .before .before .before .before .before .before .plan-bytes .ensures) _ _ _ _ _ _ (toZ-ofZ (c .before .before .before .before .before .before .before .before .before .before .before .before .before .before .before .fits .lit)) (c .before .before .before .before .before .undo .ensures .0)
 
 pub undo-spec : {M : Type 1} → statement M
-undo-spec = tie.close (tie.spec table-of-requires undo-requires returns)
+undo-spec = tie.close (tie.spec plan-bytes-requires table-of-requires undo-requires returns)

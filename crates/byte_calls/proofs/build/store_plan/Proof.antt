@@ -3,7 +3,7 @@ use Prim.Native.Nat.{ℕ, _≤_, _<_, _+_, _-_, _*_, _/_, _%_}
 use native.Mathlib.Omega.{arith}
 use lib.ListN.{length, length-set, getD, set, replicate}
 use mathlib.Core.List.{List, _∷_, []}
-use Rattle.byte_calls.specs.Bytes.{wordAt}
+use Rattle.base.specs.Bytes.{wordAt}
 use Rattle.byte_calls.proofs.Building.{plan-reads}
 use borrow.Author.Needs.{needs}
 use Rattle.byte_calls.proofs.build.store_plan.Statement.{statement}

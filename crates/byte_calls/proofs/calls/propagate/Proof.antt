@@ -3,7 +3,8 @@ use Prim.Native.Nat.{ℕ, _≤_, _<_, _+_, _-_, _*_, _/_, _%_}
 use native.Mathlib.Omega.{arith}
 use lib.ListN.{length, length-set, getD, set, replicate}
 use mathlib.Core.List.{List, _∷_, []}
-use Rattle.byte_calls.specs.Layout.{endsAt, endsIn, stateIn, planIn, wordsIn, reasonsIn, reasonIn, reasonWordIn, cursorIn, logIn, bufferIn}
+use Rattle.byte_calls.specs.Layout.{endsAt, endsIn, stateIn, planIn, reasonsIn, reasonIn, reasonWordIn, cursorIn, logIn, bufferIn}
+use Rattle.base.specs.Bytes.{wordsIn}
 use Rattle.byte_calls.proofs.Undoing.{undo-back, given-back, undo-after}
 use Rattle.byte_calls.specs.Host.{tooShort, back, givenIn, backBy, undoneIn, propagatedIn, AfterOf, leftWith, leftOf, short, buildCode}
 use Rattle.byte_calls.proofs.Leaving.{short-is, short-left, long-left, short-state, long-state, short-back, long-back, short-reason, long-reason, short-last, long-last, after-is, left-back}

@@ -1,7 +1,7 @@
 use mathlib.Core.Path.{_≡_, refl, sym, ap, ap₂, _∙_}
 use Prim.Native.Nat.{ℕ, _≤_, _<_, _+_, _-_, _*_, _/_, _%_}
 use native.Mathlib.Omega.{arith}
-use Rattle.byte_calls.specs.Bytes.{wordAt, longAt, putHalf, putWord, putLong, putHalves, putWords, putLongs}
+use Rattle.base.specs.Bytes.{wordAt, longAt, putHalf, putWord, putLong, putHalves, putWords, putLongs}
 use Rattle.byte_calls.specs.Stores.{putReason, putReasons, putLast, putNoted, putCursor, putList, putLog}
 use mathlib.Core.Bool.{true, false, true≢false}
 use Rattle.byte_calls.proofs.Leaving.{is-left, is-kept, leaves, state-left, list-room, log-room}
@@ -23,7 +23,7 @@ code-of-requires c κs = search needs
 returns : tie.Need-returns
 returns c =
     let t : isRefused (c .before .before .before .before .before .before .before .before .before .before .before .before .args .done .answer) ≡ true = sym (c .before .before .is-refused .ensures) ∙ (c .before .if1 .taken) in
-    (is-left (c .before .before .before .before .before .before .before .before .before .before .before .before .args .done .answer) (c .before .before .before .before .before .before .before .before .before .before .before .before .args .before) (c .before .before .before .before .before .before .before .before .before .before .before .before .args .done .cursor) (c .before .before .before .before .before .before .before .before .before .before .before .before .args .lits .now) (c .before .before .before .before .before .before .before .before .before .before .before .before .args .records .now) (c .before .before .before .before .before .before .before .before .before .before .before .before .args .list .now) (c .before .before .before .before .before .before .before .before .before .before .before .before .args .log .now) (c .before .before .before .before .before .before .before .before .before .before .before .before .args .cursor .now) _ (code-back (c .before .before .before .before .before .before .before .before .before .before .before .before .args .done .answer) _ (c .code-of .ensures)) t, ((λ (n : isRefused (c .before .before .before .before .before .before .before .before .before .before .before .before .args .done .answer) ≡ true). refl), ((λ (n : isRefused (c .before .before .before .before .before .before .before .before .before .before .before .before .args .done .answer) ≡ false) e l. absurd (true≢false (sym t ∙ n))), kept-same _)))
+    (is-left (c .before .before .before .before .before .before .before .before .before .before .before .before .args .done .answer) (c .before .before .before .before .before .before .before .before .before .before .before .before .args .before) (c .before .before .before .before .before .before .before .before .before .before .before .before .args .done .cursor) (c .before .before .before .before .before .before .before .before .before .before .before .before .args .lits .now) (c .before .before .before .before .before .before .before .before .before .before .before .before .args .records .now) (c .before .before .before .before .before .before .before .before .before .before .before .before .args .list .now) (c .before .before .before .before .before .before .before .before .before .before .before .before .args .log .now) (c .before .before .before .before .before .before .before .before .before .before .before .before .args .cursor .now) _ (code-back (c .before .before .before .before .before .before .before .before .before .before .before .before .args .done .answer) _ (c .code-of .ensures)) t, ((λ (n : isRefused (c .before .before .before .before .before .before .before .before .before .before .before .before .args .done .answer) ≡ true). refl), ((λ (n : isRefused (c .before .before .before .before .before .before .before .before .before .before .before .before .args .done .answer) ≡ false) l. absurd (true≢false (sym t ∙ n))), kept-same _)))
 
 store-state-requires : tie.Need-store-state-requires
 store-state-requires c κs = search needs
@@ -59,7 +59,7 @@ returns-2 : tie.Need-returns-2
 returns-2 c =
     let t : isRefused (c .before .before .before .before .before .before .before .before .before .before .before .before .before .before .before .before .before .before .before .before .before .before .before .before .before .before .before .before .before .before .args .done .answer) ≡ false = sym (c .before .before .before .before .before .before .before .before .before .before .before .before .before .before .before .before .before .before .before .before .is-refused .ensures) ∙ (c .before .before .before .before .before .before .before .before .before .before .before .before .before .before .before .before .before .before .before .if1 .left) in (
       is-kept (c .before .before .before .before .before .before .before .before .before .before .before .before .before .before .before .before .before .before .before .before .before .before .before .before .before .before .before .before .before .before .args .done .answer) (c .before .before .before .before .before .before .before .before .before .before .before .before .before .before .before .before .before .before .before .before .before .before .before .before .before .before .before .before .before .before .args .before) (c .before .before .before .before .before .before .before .before .before .before .before .before .before .before .before .before .before .before .before .before .before .before .before .before .before .before .before .before .before .before .args .done .cursor) (c .before .before .before .before .before .before .before .before .before .before .before .before .before .before .before .before .before .before .before .before .before .before .before .before .before .before .before .before .before .before .args .lits .now) (c .before .before .before .before .before .before .before .before .before .before .before .before .before .before .before .before .before .before .before .before .before .before .before .before .before .before .before .before .before .before .args .records .now) (c .before .before .before .before .before .before .before .before .before .before .before .before .before .before .before .before .before .before .before .before .before .before .before .before .before .before .before .before .before .before .args .list .now) (c .before .before .before .before .before .before .before .before .before .before .before .before .before .before .before .before .before .before .before .before .before .before .before .before .before .before .before .before .before .before .args .log .now) (c .before .before .before .before .before .before .before .before .before .before .before .before .before .before .before .before .before .before .before .before .before .before .before .before .before .before .before .before .before .before .args .cursor .now) _ _ _ _ (code-back (c .before .before .before .before .before .before .before .before .before .before .before .before .before .before .before .before .before .before .before .before .before .before .before .before .before .before .before .before .before .before .args .done .answer) _ (c .code-of2 .ensures)) t ((c .before .before .before .before .before .before .before .before .before .before .before .before .store-list .ensures) ∙ ap (λ (k : ℕ). putList (c .before .before .before .before .before .before .before .before .before .before .before .before .before .before .before .before .before .before .before .before .before .before .before .before .before .before .before .before .before .before .args .lits .now) k (c .before .before .before .before .before .before .before .before .before .before .before .before .before .before .before .before .before .before .before .before .before .before .before .before .before .before .before .before .before .before .args .list .now)) (c .before .before .before .before .before .before .before .before .before .before .before .before .before .given-by .ensures)) (c .before .before .before .before .before .before .before .store-log .ensures) (c .before .before .before .store-cursor .ensures),
-      ((λ (n : isRefused (c .before .before .before .before .before .before .before .before .before .before .before .before .before .before .before .before .before .before .before .before .before .before .before .before .before .before .before .before .before .before .args .done .answer) ≡ true). absurd (true≢false (sym n ∙ t))), ((λ (n : isRefused (c .before .before .before .before .before .before .before .before .before .before .before .before .before .before .before .before .before .before .before .before .before .before .before .before .before .before .before .before .before .before .args .done .answer) ≡ false) e l. (c .before .before .before .before .before .before .before .before .before .before .before .before .before .before .before .before .before .store-state .ensures .0) e l), (c .before .before .before .before .before .before .before .before .before .before .before .before .before .before .before .before .before .store-state .ensures .1))),
+      ((λ (n : isRefused (c .before .before .before .before .before .before .before .before .before .before .before .before .before .before .before .before .before .before .before .before .before .before .before .before .before .before .before .before .before .before .args .done .answer) ≡ true). absurd (true≢false (sym n ∙ t))), ((λ (n : isRefused (c .before .before .before .before .before .before .before .before .before .before .before .before .before .before .before .before .before .before .before .before .before .before .before .before .before .before .before .before .before .before .args .done .answer) ≡ false) l. (c .before .before .before .before .before .before .before .before .before .before .before .before .before .before .before .before .before .store-state .ensures .0) l), (c .before .before .before .before .before .before .before .before .before .before .before .before .before .before .before .before .before .store-state .ensures .1))),
     )
 
 pub finish-spec : {M : Type 1} → statement M

@@ -7,7 +7,7 @@ use Rattle.lent.specs.Lent.{calledOf, propagatedOver}
 use Rattle.lent.proofs.Parting.{over-zeros}
 use Rattle.byte_calls.specs.Layout.{stateIn, cursorIn, listIn, logIn}
 use Rattle.byte_calls.specs.Host.{propagatedIn, leftOf}
-use Rattle.byte_calls.proofs.Leaving.{parts-in, list-fits, log-fits, leaves, state-left, left-back}
+use Rattle.byte_calls.proofs.Leaving.{plan-here, parts-in, list-fits, log-fits, leaves, state-left, left-back}
 use borrow.Author.Needs.{needs}
 use Rattle.byte_calls.proofs.changes.notify.Statement.{statement}
 use Rattle.byte_calls.proofs.changes.notify.Tie as tie
@@ -34,7 +34,7 @@ slice-aggregate-finish-2 : tie.Need-slice-aggregate-finish-2
 slice-aggregate-finish-2 c = search needs
 
 finish-requires : tie.Need-finish-requires
-finish-requires c κs = ((c .before .before .before .before .before .before .before .before .before .before .before .before .before .before .before .before .before .before .before .before .before .before .before .before .before .before .before .before .before .before .before .before .before .before .pre .0), search needs, search needs, search needs, list-fits _ _ _ (c .before .before .before .before .before .before .before .before .before .before .before .before .before .lits .given) (c .before .before .before .before .before .before .before .before .before .before .before .before .before .before .before .before .before .before .before .before .before .before .before .before .before .before .before .before .before .before .before .before .before .before .pre .4), log-fits (c .before .before .before .before .before .before .before .before .before .before .before .before .before .before .before .before .before .before .before .before .before .before .before .before .before .before .before .before .before .before .before .before .before .before .args .before) _ _ _ (c .before .before .before .before .before .before .before .before .before .before .before .records .given) (c .before .before .before .before .before .before .before .before .before .before .before .before .before .before .before .before .before .before .before .before .before .before .before .before .before .before .before .before .before .before .before .before .before .before .pre .6), (c .before .before .before .before .before .before .before .before .before .before .before .before .before .before .before .before .before .before .before .before .before .before .before .before .before .before .before .before .before .before .before .before .before .before .pre .7))
+finish-requires c κs = ((c .before .before .before .before .before .before .before .before .before .before .before .before .before .before .before .before .before .before .before .before .before .before .before .before .before .before .before .before .before .before .before .before .before .before .before .pre .0), search needs, search needs, search needs, list-fits _ _ _ (c .before .before .before .before .before .before .before .before .before .before .before .before .before .lits .given) (c .before .before .before .before .before .before .before .before .before .before .before .before .before .before .before .before .before .before .before .before .before .before .before .before .before .before .before .before .before .before .before .before .before .before .before .pre .3), log-fits (c .before .before .before .before .before .before .before .before .before .before .before .before .before .before .before .before .before .before .before .before .before .before .before .before .before .before .before .before .before .before .before .before .before .before .before .args .before) _ _ _ (c .before .before .before .before .before .before .before .before .before .before .before .records .given) (c .before .before .before .before .before .before .before .before .before .before .before .before .before .before .before .before .before .before .before .before .before .before .before .before .before .before .before .before .before .before .before .before .before .before .before .pre .5), (c .before .before .before .before .before .before .before .before .before .before .before .before .before .before .before .before .before .before .before .before .before .before .before .before .before .before .before .before .before .before .before .before .before .before .before .pre .6))
 
 same-length : tie.Need-same-length
 same-length c = search needs
@@ -60,16 +60,16 @@ same-length-7 c = search needs
 returns : tie.Need-returns
 unfolding propagatedIn
 returns c =
-    let a = c .before .before .before .before .before .before .before .before .before .before .before .before .before .before .before .before .before .before .before .before .before .before .before .before .before .before .before .before .before .before .before .before .before .before .before .before .before .before .before .before .before .before .before .args in
-    let p = c .before .before .before .before .before .before .before .before .before .before .before .before .before .before .before .before .before .before .before .before .before .before .before .before .before .before .before .before .before .before .before .before .before .before .before .before .before .before .before .before .before .before .before .pre in
+    let a = c .before .before .before .before .before .before .before .before .before .before .before .before .before .before .before .before .before .before .before .before .before .before .before .before .before .before .before .before .before .before .before .before .before .before .before .before .before .before .before .before .before .before .before .before .args in
+    let p = c .before .before .before .before .before .before .before .before .before .before .before .before .before .before .before .before .before .before .before .before .before .before .before .before .before .before .before .before .before .before .before .before .before .before .before .before .before .before .before .before .before .before .before .before .pre in
     let f = c .before .before .before .before .before .before .before .before .finish in
     let s : GraphDivision = stateIn (a .state .now) in
     let y : Called = propagatedIn (a .state .now) (a .table .now) (a .list .now) (a .log .now) (a .cursor .now) (a .lit) (a .num-pending-propagations) in
-    let e : calledOf s _ _ _ _ _ _ _ ≡ y = (c .before .before .before .before .before .before .before .before .before .before .before .before .before .before .before .before .before .before .before .before .before .before .before .before .before .before .before .propagate .ensures) s (parts-in (a .state .now) (p .1) (p .2) (p .3))
-    ∙ ((λ i. propagatedOver s ((p .5) i) ((c .before .before .before .before .before .before .before .before .before .before .before .before .before .before .before .before .before .before .before .before .before .before .before .before .before .before .before .before .before .before .before .before .before .before .before .no-words .ensures) i) ((c .before .before .before .before .before .before .before .before .before .before .before .before .before .before .before .before .before .before .before .before .before .before .before .before .before .before .before .before .before .before .before .before .before .before .no-list .ensures) i) (toZ-ofZ (c .before .before .before .before .before .before .before .before .before .before .before .before .before .before .before .before .before .before .before .before .before .before .before .before .before .before .before .before .before .before .before .before .before .before .before .before .before .before .before .before .before .before .before .fits .lit) i) (toZ-ofZ (c .before .before .before .before .before .before .before .before .before .before .before .before .before .before .before .before .before .before .before .before .before .before .before .before .before .before .before .before .before .before .before .before .before .before .before .before .before .before .before .before .before .before .before .fits .num-pending-propagations) i) (a .table .now) ((p .4) i) (((p .6) ∙ ap (λ (q : Cursor). logIn q (a .log .now)) (p .5)) i))
+    let e : calledOf s _ _ _ _ _ _ _ ≡ y = (c .before .before .before .before .before .before .before .before .before .before .before .before .before .before .before .before .before .before .before .before .before .before .before .before .before .before .before .propagate .ensures) s (parts-in (a .state .now) (plan-here (a .state .now) (p .0)) (p .1) (p .2))
+    ∙ ((λ i. propagatedOver s ((p .4) i) ((c .before .before .before .before .before .before .before .before .before .before .before .before .before .before .before .before .before .before .before .before .before .before .before .before .before .before .before .before .before .before .before .before .before .before .before .before .no-words .ensures) i) ((c .before .before .before .before .before .before .before .before .before .before .before .before .before .before .before .before .before .before .before .before .before .before .before .before .before .before .before .before .before .before .before .before .before .before .before .no-list .ensures) i) (toZ-ofZ (c .before .before .before .before .before .before .before .before .before .before .before .before .before .before .before .before .before .before .before .before .before .before .before .before .before .before .before .before .before .before .before .before .before .before .before .before .before .before .before .before .before .before .before .before .fits .lit) i) (toZ-ofZ (c .before .before .before .before .before .before .before .before .before .before .before .before .before .before .before .before .before .before .before .before .before .before .before .before .before .before .before .before .before .before .before .before .before .before .before .before .before .before .before .before .before .before .before .before .fits .num-pending-propagations) i) (a .table .now) ((p .3) i) (((p .5) ∙ ap (λ (q : Cursor). logIn q (a .log .now)) (p .4)) i))
     ∙ over-zeros s (cursorIn (a .cursor .now)) (a .lit) (a .num-pending-propagations) (a .table .now) (listIn (a .list .now)) (logIn (cursorIn (a .cursor .now)) (a .log .now))) in (
-      left-back (cursorIn (a .cursor .now)) y _ _ _ _ _ _ _ _ (leaves _ (a .before) _ _ _ _ _ _ _ y e _ _ _ _ _ _ _ (f .ensures .0) ∙ ap (λ (q : Cursor). leftOf q y (a .list .now) (a .log .now) (a .cursor .now)) (p .5)),
-      state-left _ (a .before) _ _ _ _ _ _ _ y e (a .state .now) _ refl (f .ensures .1 .0) (λ n. (f .ensures .1 .1 .0) n (p .1)) (f .ensures .1 .1 .1),
+      left-back (cursorIn (a .cursor .now)) y _ _ _ _ _ _ _ _ (leaves _ (a .before) _ _ _ _ _ _ _ y e _ _ _ _ _ _ _ (f .ensures .0) ∙ ap (λ (q : Cursor). leftOf q y (a .list .now) (a .log .now) (a .cursor .now)) (p .4)),
+      state-left _ (a .before) _ _ _ _ _ _ _ y e (a .state .now) _ refl (f .ensures .1 .0) (f .ensures .1 .1 .0) (f .ensures .1 .1 .1),
     )
 
 pub notify-spec : {M : Type 1} → statement M

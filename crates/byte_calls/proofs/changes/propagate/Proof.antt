@@ -3,13 +3,10 @@ use mir.Facts.{toZ-ofZ}
 use Rattle.graph_division.specs.Calls.{Called}
 use Rattle.byte_calls.specs.Layout.{cursorIn}
 use Rattle.byte_calls.specs.Host.{leftOf, propagatedIn}
-use Rattle.byte_calls.proofs.Leaving.{after-is, left-back, part-fits, lits-long, lits-part, plan-decoded, noted-decoded, cursor-decoded, records-length, records-decoded, propagated-read}
+use Rattle.byte_calls.proofs.Leaving.{after-is, left-back, part-fits, lits-long, lits-part, noted-decoded, cursor-decoded, records-length, records-decoded, propagated-read}
 use borrow.Author.Needs.{needs}
 use Rattle.byte_calls.proofs.changes.propagate.Statement.{statement}
 use Rattle.byte_calls.proofs.changes.propagate.Tie as tie
-
-no-plan-requires : tie.Need-no-plan-requires
-no-plan-requires c κs = search needs
 
 no-notes-requires : tie.Need-no-notes-requires
 no-notes-requires c κs = search needs
@@ -22,9 +19,6 @@ slice-aggregate-decode c = search needs
 
 slice-aggregate-decode-2 : tie.Need-slice-aggregate-decode-2
 slice-aggregate-decode-2 c = search needs
-
-slice-aggregate-decode-3 : tie.Need-slice-aggregate-decode-3
-slice-aggregate-decode-3 c = search needs
 
 decode-requires : tie.Need-decode-requires
 decode-requires c κs = search needs
@@ -48,7 +42,7 @@ part-lits-start : tie.Need-part-lits-start
 part-lits-start c = search needs
 
 part-lits-end : tie.Need-part-lits-end
-part-lits-end c = part-fits _ _ _ (c .before .before .before .room-of2 .ensures) (lits-long _ (c .before .before .before .before .no-lits .ensures))
+part-lits-end c = part-fits _ _ _ (c .before .before .room-of2 .ensures) (lits-long _ (c .before .before .before .no-lits .ensures))
 
 sub-notify-2 : tie.Need-sub-notify-2
 sub-notify-2 c = search needs
@@ -57,14 +51,14 @@ part-records-start : tie.Need-part-records-start
 part-records-start c = search needs
 
 part-records-end : tie.Need-part-records-end
-part-records-end c = part-fits _ _ _ (c .before .before .before .before .before .before .room-of .ensures) (records-length _ _ _ (c .before .before .before .before .before .before .before .before .before .before .before .before .decode .ensures))
+part-records-end c = part-fits _ _ _ (c .before .before .before .before .before .room-of .ensures) (records-length _ _ _ (c .before .before .before .before .before .before .before .before .before .before .decode .ensures))
 
 notify-requires : tie.Need-notify-requires
 notify-requires c κs =
-    let p = c .before .before .before .before .before .before .before .before .before .before .before .before .before .before .before .before .before .before .before .before .before .before .before .before .before .before .before .before .before .before .before .before .pre in
-    let d = c .before .before .before .before .before .before .before .before .before .before .before .before .before .before .before .before .before .decode .ensures in
-    let lits = lits-part _ _ _ (c .before .before .before .before .before .before .before .before .before .before .before .before .before .before .before .before .before .before .before .before .before .before .before .before .before .before .before .before .before .before .before .before .args .list .now) refl (c .before .before .before .before .before .before .before .before .before .room-of2 .ensures) (c .before .before .before .before .before .before .before .before .before .before .no-lits .ensures) in
-    (p .0, plan-decoded _ _ _ d, c .before .before .before .before .before .before .before .before .before .before .before .before .read-edges .ensures, noted-decoded _ _ _ d, lits, cursor-decoded _ _ _ d, records-decoded _ _ _ d (c .before .before .before .before .before .before .before .before .before .before .before .room-of .ensures), p .1)
+    let p = c .before .before .before .before .before .before .before .before .before .before .before .before .before .before .before .before .before .before .before .before .before .before .before .before .before .before .before .before .pre in
+    let d = c .before .before .before .before .before .before .before .before .before .before .before .before .before .before .before .decode .ensures in
+    let lits = lits-part _ _ _ (c .before .before .before .before .before .before .before .before .before .before .before .before .before .before .before .before .before .before .before .before .before .before .before .before .before .before .before .before .args .list .now) refl (c .before .before .before .before .before .before .before .before .room-of2 .ensures) (c .before .before .before .before .before .before .before .before .before .no-lits .ensures) in
+    (p .0, c .before .before .before .before .before .before .before .before .before .before .before .read-edges .ensures, noted-decoded _ _ _ d, lits, cursor-decoded _ _ _ d, records-decoded _ _ _ d (c .before .before .before .before .before .before .before .before .before .before .room-of .ensures), p .1)
 
 same-length : tie.Need-same-length
 same-length c = search needs
@@ -83,8 +77,8 @@ same-length-5 c = search needs
 
 returns : tie.Need-returns
 returns c =
-    let a = c .before .before .before .before .before .before .before .before .before .before .before .before .before .before .before .before .before .before .before .before .before .before .before .before .before .before .before .before .before .before .before .before .before .before .before .before .before .before .before .before .before .before .before .before .before .args in
-    let f = c .before .before .before .before .before .before .before .before .before .before .before .before .before .before .before .before .before .before .before .before .before .before .before .before .before .before .before .before .before .before .before .before .before .before .before .before .before .before .before .before .before .before .before .before .before .fits in
+    let a = c .before .before .before .before .before .before .before .before .before .before .before .before .before .before .before .before .before .before .before .before .before .before .before .before .before .before .before .before .before .before .before .before .before .before .before .before .before .before .before .before .before .args in
+    let f = c .before .before .before .before .before .before .before .before .before .before .before .before .before .before .before .before .before .before .before .before .before .before .before .before .before .before .before .before .before .before .before .before .before .before .before .before .before .before .before .before .before .fits in
     let n = c .before .before .before .before .before .before .before .before .before .before .before .before .notify .ensures in
     let y = propagated-read (a .state .now) (a .table .now) (a .list .now) (a .log .now) (a .cursor .now)
     (toZ-ofZ (f .lit)) (toZ-ofZ (f .num-pending-propagations)) in
@@ -99,12 +93,10 @@ pub propagate-spec : {M : Type 1} → statement M
 propagate-spec =
     tie.close
     (tie.spec
-    no-plan-requires
     no-notes-requires
     no-records-requires
     slice-aggregate-decode
     slice-aggregate-decode-2
-    slice-aggregate-decode-3
     decode-requires
     read-edges-requires
     room-of-requires

@@ -3,14 +3,15 @@ use mathlib.Core.Bool.{true}
 use mathlib.Core.Path.{_≡_, refl, sym, ap, ap₂, _∙_}
 use Prim.Native.Nat.{ℕ, _≤_, _<_, _+_, _-_, _*_, _/_, _%_}
 use native.Mathlib.Omega.{arith}
-use Rattle.byte_calls.specs.Bytes.{wordAt, longAt, putHalf, putWord, putLong, putHalves, putWords, putLongs}
+use Rattle.base.specs.Bytes.{wordAt, longAt, putHalf, putWord, putLong, putHalves, putWords, putLongs}
 use Rattle.byte_calls.specs.Stores.{putReason, putReasons, putLast, putNoted, putCursor, putList, putLog}
 use Rattle.base.proofs.Loop.{pick-yes, pick-no}
 use lib.ListN.{length, length-set, getD, set}
 use mathlib.Core.List.{List}
+use Rattle.plan.specs.Words.{wordsOf}
 use Rattle.lent.specs.Lent.{stateOf, stateAfter, calledOf}
 use Rattle.graph_division.specs.Calls.{withNoted, withJudged}
-use Rattle.byte_calls.proofs.Storing.{noted-stored, judged-stored}
+use Rattle.byte_calls.proofs.Storing.{noted-stored, judged-stored, plan-after-last}
 use Rattle.byte_calls.specs.Layout.{planIn, stateIn}
 use Rattle.base.specs.Iter.{pick}
 use Rattle.graph_division.specs.declared.GraphDivision.{GraphDivision}
@@ -36,13 +37,13 @@ same-length c = search needs
 returns : tie.Need-returns
 unfolding stateAfter withJudged
 returns c = (
-  λ e f.
+  λ f.
       let t : (c .before .before .before .before .before .before .before .before .before .before .before .before .before .before .before .before .before .args .done .judged) ≡ true = (c .before .before .before .before .before .before .before .before .before .before .before .before .if1 .taken) in
       let l : (c .before .before .before .before .before .before .before .before .before .before .before .before .before .before .before .before .before .args .done .len) < 4294967296 = subst (λ (s : GraphDivision). s .«last_len» < 4294967296) (pick-yes _ _ t) f in
-      (ap stateIn ((c .before .before .store-noted .ensures .0) ∙ (ap (putNoted (c .before .before .before .before .before .before .before .before .before .before .before .before .before .before .before .before .before .args .noted .now)) ((c .before .before .before .before .before .before .store-reasons .ensures) ∙ ap (putReasons (c .before .before .before .before .before .before .before .before .before .before .before .before .before .before .before .before .before .args .plan .now) (c .before .before .before .before .before .before .before .before .before .before .before .before .before .before .before .before .before .args .proposals .now)) (c .before .before .before .before .before .before .before .before .before .before .store-last .ensures))))
-      ∙ judged-stored (c .before .before .before .before .before .before .before .before .before .before .before .before .before .before .before .before .before .args .plan .now) (c .before .before .before .before .before .before .before .before .before .before .before .before .before .before .before .before .before .args .proposals .now) (c .before .before .before .before .before .before .before .before .before .before .before .before .before .before .before .before .before .args .words .now) (c .before .before .before .before .before .before .before .before .before .before .before .before .before .before .before .before .before .args .noted .now) (c .before .before .before .before .before .before .before .before .before .before .before .before .before .before .before .before .before .args .done .len) (c .before .before .before .before .before .before .before .before .before .before .before .before .before .before .before .before .before .args .state .now) e (λ i. omega (arith, c .before .before .before .before .before .before .before .before .before .before .before .before .before .before .shared-slice-known2 .given i)) (λ i. omega (arith, c .before .before .before .before .before .before .before .before .before .before .before .before .before .shared-slice-known3 .given i)) (λ i. omega (arith, c .before .before .before .before .before .before .before .before .before .before .before .before .before .before .before .shared-slice-known .given i)) (c .before .before .before .before .before .before .before .before .before .before .before .before .before .before .before .before .before .pre .3) (c .before .before .before .before .before .before .before .before .before .before .before .before .before .before .before .before .before .pre .1) l (c .before .before .before .before .before .before .before .before .before .before .before .before .before .before .before .before .before .pre .0))
+      (ap stateIn ((c .before .before .store-noted .ensures .0) ∙ (ap (putNoted (c .before .before .before .before .before .before .before .before .before .before .before .before .before .before .before .before .before .args .noted .now)) ((c .before .before .before .before .before .before .store-reasons .ensures) ∙ ap (λ (x : List ℕ). putReasons (wordsOf x) (c .before .before .before .before .before .before .before .before .before .before .before .before .before .before .before .before .before .args .proposals .now) x) (c .before .before .before .before .before .before .before .before .before .before .store-last .ensures))))
+      ∙ judged-stored (wordsOf (putLast (c .before .before .before .before .before .before .before .before .before .before .before .before .before .before .before .before .before .args .words .now) (c .before .before .before .before .before .before .before .before .before .before .before .before .before .before .before .before .before .args .done .len) (c .before .before .before .before .before .before .before .before .before .before .before .before .before .before .before .before .before .args .state .now))) (c .before .before .before .before .before .before .before .before .before .before .before .before .before .before .before .before .before .args .proposals .now) (c .before .before .before .before .before .before .before .before .before .before .before .before .before .before .before .before .before .args .words .now) (c .before .before .before .before .before .before .before .before .before .before .before .before .before .before .before .before .before .args .noted .now) (c .before .before .before .before .before .before .before .before .before .before .before .before .before .before .before .before .before .args .done .len) (c .before .before .before .before .before .before .before .before .before .before .before .before .before .before .before .before .before .args .state .now) (plan-after-last (c .before .before .before .before .before .before .before .before .before .before .before .before .before .before .before .before .before .args .words .now) (c .before .before .before .before .before .before .before .before .before .before .before .before .before .before .before .before .before .args .done .len) (c .before .before .before .before .before .before .before .before .before .before .before .before .before .before .before .before .before .args .state .now) (c .before .before .before .before .before .before .before .before .before .before .before .before .before .before .before .before .before .pre .0)) (λ i. omega (arith, c .before .before .before .before .before .before .before .before .before .before .before .before .before .before .shared-slice-known2 .given i)) (λ i. omega (arith, c .before .before .before .before .before .before .before .before .before .before .before .before .before .shared-slice-known3 .given i)) (λ i. omega (arith, c .before .before .before .before .before .before .before .before .before .before .before .before .before .before .before .shared-slice-known .given i)) (c .before .before .before .before .before .before .before .before .before .before .before .before .before .before .before .before .before .pre .3) (c .before .before .before .before .before .before .before .before .before .before .before .before .before .before .before .before .before .pre .1) l (c .before .before .before .before .before .before .before .before .before .before .before .before .before .before .before .before .before .pre .0))
       ∙ sym (pick-yes _ _ t),
-  judged-kept (c .before .before .before .before .before .before .before .before .before .before .before .before .before .before .before .before .before .args .plan .now) (c .before .before .before .before .before .before .before .before .before .before .before .before .before .before .before .before .before .args .proposals .now) (c .before .before .before .before .before .before .before .before .before .before .before .before .before .before .before .before .before .args .words .now) (c .before .before .before .before .before .before .before .before .before .before .before .before .before .before .before .before .before .args .noted .now) (c .before .before .before .before .before .before .before .before .before .before .before .before .before .before .before .before .before .args .done .len) (c .before .before .before .before .before .before .before .before .before .before .before .before .before .before .before .before .before .args .state .now) _ _ _ (c .before .before .before .before .before .before .before .before .before .before .store-last .ensures) (c .before .before .before .before .before .before .store-reasons .ensures) (c .before .before .store-noted .ensures .0),
+  judged-kept _ (c .before .before .before .before .before .before .before .before .before .before .before .before .before .before .before .before .before .args .proposals .now) (c .before .before .before .before .before .before .before .before .before .before .before .before .before .before .before .before .before .args .words .now) (c .before .before .before .before .before .before .before .before .before .before .before .before .before .before .before .before .before .args .noted .now) (c .before .before .before .before .before .before .before .before .before .before .before .before .before .before .before .before .before .args .done .len) (c .before .before .before .before .before .before .before .before .before .before .before .before .before .before .before .before .before .args .state .now) _ _ _ (c .before .before .before .before .before .before .before .before .before .before .store-last .ensures) (c .before .before .before .before .before .before .store-reasons .ensures) (c .before .before .store-noted .ensures .0),
 )
 
 store-noted-requires-2 : tie.Need-store-noted-requires-2
@@ -54,7 +55,7 @@ same-length-2 c = search needs
 returns-2 : tie.Need-returns-2
 unfolding stateAfter
 returns-2 c = (
-  λ e f. (ap stateIn (c .before .before .store-noted2 .ensures .0) ∙ noted-stored (c .before .before .before .before .before .before .before .before .before .args .noted .now) (c .before .before .before .before .before .before .before .before .before .args .state .now) (λ i. omega (arith, c .before .before .before .before .before .before .before .shared-slice-known .given i)) (c .before .before .before .before .before .before .before .before .before .pre .1) (c .before .before .before .before .before .before .before .before .before .pre .0)) ∙ sym (pick-no _ _ (c .before .before .before .before .if1 .left)),
+  λ f. (ap stateIn (c .before .before .store-noted2 .ensures .0) ∙ noted-stored (c .before .before .before .before .before .before .before .before .before .args .noted .now) (c .before .before .before .before .before .before .before .before .before .args .state .now) (λ i. omega (arith, c .before .before .before .before .before .before .before .shared-slice-known .given i)) (c .before .before .before .before .before .before .before .before .before .pre .1) (c .before .before .before .before .before .before .before .before .before .pre .0)) ∙ sym (pick-no _ _ (c .before .before .before .before .if1 .left)),
   noted-kept (c .before .before .before .before .before .before .before .before .before .args .noted .now) (c .before .before .before .before .before .before .before .before .before .args .state .now) _ (c .before .before .store-noted2 .ensures .0),
 )
 

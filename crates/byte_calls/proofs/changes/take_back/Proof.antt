@@ -4,7 +4,7 @@ use mir.Facts.{toZ-ofZ}
 use Rattle.graph_division.specs.Calls.{undone}
 use Rattle.byte_calls.specs.Layout.{stateIn}
 use Rattle.byte_calls.proofs.Keeping.{noted-kept}
-use Rattle.byte_calls.proofs.Leaving.{parts-in}
+use Rattle.byte_calls.proofs.Leaving.{plan-here, parts-in}
 use Rattle.byte_calls.proofs.Undoing.{undo-left, undo-kept, state-same, state-stored}
 use borrow.Author.Needs.{needs}
 use Rattle.byte_calls.proofs.changes.take_back.Statement.{statement}
@@ -21,9 +21,9 @@ code-of-requires c κs = search needs
 
 returns : tie.Need-returns
 returns c =
-    let a = c .before .before .before .before .before .before .before .before .args in
-    let p = c .before .before .before .before .before .before .before .before .pre in
-    let e = (c .before .before .before .undo .ensures .0) (stateIn (a .state .now)) (parts-in (a .state .now) (p .2) (p .3) (p .4)) ∙ ap (λ (z : ℤ). undone (stateIn (a .state .now)) (a .before) z (a .records .now)) (toZ-ofZ (c .before .before .before .before .before .before .before .before .fits .lit)) in
+    let a = c .before .before .before .before .before .before .before .before .before .args in
+    let p = c .before .before .before .before .before .before .before .before .before .pre in
+    let e = (c .before .before .before .undo .ensures .0) (stateIn (a .state .now)) (parts-in (a .state .now) (plan-here (a .state .now) (p .0)) (p .2) (p .3)) ∙ ap (λ (z : ℤ). undone (stateIn (a .state .now)) (a .before) z (a .records .now)) (toZ-ofZ (c .before .before .before .before .before .before .before .before .before .fits .lit)) in
     let r = sym (c .before .before .is-refused .ensures) ∙ c .before .if1 .taken in
     (undo-left _ _ _ _ _ e (a .state .now) refl _ _ (c .code-of .ensures) r, state-same _ _ _ _ _ e (a .state .now) refl r)
 
@@ -42,11 +42,14 @@ same-length c = search needs
 same-length-2 : tie.Need-same-length-2
 same-length-2 c = search needs
 
+same-length-3 : tie.Need-same-length-3
+same-length-3 c = search needs
+
 returns-2 : tie.Need-returns-2
 returns-2 c =
-    let a = c .before .before .before .before .before .before .before .before .before .before .before .before .before .before .before .before .before .before .before .args in
-    let p = c .before .before .before .before .before .before .before .before .before .before .before .before .before .before .before .before .before .before .before .pre in
-    let e = (c .before .before .before .before .before .before .before .before .before .before .before .before .before .before .undo .ensures .0) (stateIn (a .state .now)) (parts-in (a .state .now) (p .2) (p .3) (p .4)) ∙ ap (λ (z : ℤ). undone (stateIn (a .state .now)) (a .before) z (a .records .now)) (toZ-ofZ (c .before .before .before .before .before .before .before .before .before .before .before .before .before .before .before .before .before .before .before .fits .lit)) in
+    let a = c .before .before .before .before .before .before .before .before .before .before .before .before .before .before .before .before .before .before .before .before .args in
+    let p = c .before .before .before .before .before .before .before .before .before .before .before .before .before .before .before .before .before .before .before .before .pre in
+    let e = (c .before .before .before .before .before .before .before .before .before .before .before .before .before .before .undo .ensures .0) (stateIn (a .state .now)) (parts-in (a .state .now) (plan-here (a .state .now) (p .0)) (p .2) (p .3)) ∙ ap (λ (z : ℤ). undone (stateIn (a .state .now)) (a .before) z (a .records .now)) (toZ-ofZ (c .before .before .before .before .before .before .before .before .before .before .before .before .before .before .before .before .before .before .before .before .fits .lit)) in
     let r = sym (c .before .before .before .before .before .before .before .before .before .before .before .before .before .is-refused .ensures) ∙ c .before .before .before .before .before .before .before .before .before .before .before .before .if1 .left in (
       undo-kept _ _ _ _ _ e (a .state .now) refl _ _ _ (c .code-of2 .ensures) r (c .before .before .before .store-cursor .ensures),
       state-stored _ _ _ _ _ e (a .state .now) refl _ r (c .before .before .before .before .before .before .before .before .store-noted .ensures .1) (noted-kept _ _ _ (c .before .before .before .before .before .before .before .before .store-noted .ensures .0)),
@@ -59,10 +62,11 @@ take-back-spec =
     undo-requires
     is-refused-requires
     code-of-requires
+    same-length
     returns
     store-noted-requires
     store-cursor-requires
     code-of-requires-2
-    same-length
     same-length-2
+    same-length-3
     returns-2)

@@ -1,6 +1,6 @@
 use mathlib.Core.Path.{_≡_, refl, sym, ap, ap₂, _∙_}
-use Rattle.byte_calls.specs.Bytes.{wordAt, longAt, putHalf, putWord, putLong, putHalves, putWords, putLongs}
-use Rattle.byte_calls.specs.Layout.{window, sizesOf, litsOf, placesOf, indexOf, inUseOver, endsAt, endsIn, cursorIn, usedEntries, recordsIn}
+use Rattle.base.specs.Bytes.{wordAt, longAt, putHalf, putWord, putLong, putHalves, putWords, putLongs}
+use Rattle.byte_calls.specs.Layout.{endsAt, endsIn, cursorIn, usedEntries, recordsIn}
 use borrow.Author.Needs.{needs}
 use Rattle.byte_calls.proofs.decode.read_cursor.Statement.{statement}
 use Rattle.byte_calls.proofs.decode.read_cursor.Tie as tie

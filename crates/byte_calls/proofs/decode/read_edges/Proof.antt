@@ -3,7 +3,8 @@ use Prim.Native.Nat.{ℕ, _≤_, _<_, _+_, _-_, _*_, _/_, _%_}
 use native.Mathlib.Omega.{arith}
 use lib.ListN.{length, length-set, getD, set, replicate}
 use mathlib.Core.List.{List, _∷_, []}
-use Rattle.byte_calls.specs.Layout.{endsAt, endsIn, stateIn, planIn, wordsIn, reasonsIn, reasonIn, reasonWordIn, cursorIn, logIn, bufferIn}
+use Rattle.byte_calls.specs.Layout.{endsAt, endsIn, stateIn, planIn, reasonsIn, reasonIn, reasonWordIn, cursorIn, logIn, bufferIn}
+use Rattle.base.specs.Bytes.{wordsIn}
 use Rattle.byte_calls.proofs.Filling.{ends-more, filled-more, read-words-in, cap-most, cap-less}
 use Rattle.base.specs.Iter.{iter}
 use Rattle.base.proofs.Loop.{iter-zero, iter-more, iter-done}

@@ -2,9 +2,10 @@ use Rattle.base.specs.Lists.{filled}
 use mathlib.Core.Path.{_≡_, refl, sym, ap, ap₂, _∙_}
 use Prim.Native.Nat.{ℕ, _≤_, _<_, _+_, _-_, _*_, _/_, _%_}
 use native.Mathlib.Omega.{arith}
-use Rattle.byte_calls.specs.Bytes.{wordAt, longAt, putHalf, putWord, putLong, putHalves, putWords, putLongs}
-use Rattle.byte_calls.specs.Layout.{window, sizesOf, litsOf, placesOf, indexOf, inUseOver, endsAt, endsIn, cursorIn, usedEntries, recordsIn}
-use Rattle.byte_calls.proofs.Filling.{room-is, read-window, cap-most, cap-less, ends-more, putReason-length, putLong-length}
+use Rattle.base.specs.Bytes.{wordAt, longAt, putHalf, putWord, putLong, putHalves, putWords, putLongs}
+use Rattle.byte_calls.specs.Layout.{endsAt, endsIn, cursorIn, usedEntries, recordsIn}
+use Rattle.byte_calls.proofs.Filling.{room-is, cap-most, cap-less, ends-more, putReason-length}
+use Rattle.base.proofs.Bytes.{putLong-length}
 use Rattle.noting.specs.Words.{capped}
 use lib.ListN.{length, length-set, getD, set}
 use borrow.Author.Needs.{needs}

@@ -3,13 +3,10 @@ use mir.Facts.{toZ-ofZ}
 use Rattle.graph_division.specs.Calls.{Fetched}
 use Rattle.byte_calls.specs.Host.{givenIn}
 use Rattle.byte_calls.proofs.Undoing.{given-back, last-read}
-use Rattle.byte_calls.proofs.Leaving.{part-fits, buffer-part, buffer-fits, buffer-long, buffer-less, plan-decoded, noted-decoded, cursor-decoded, records-length, records-in}
+use Rattle.byte_calls.proofs.Leaving.{part-fits, buffer-part, buffer-fits, buffer-long, buffer-less, noted-decoded, cursor-decoded, records-length, records-in}
 use borrow.Author.Needs.{needs}
 use Rattle.byte_calls.proofs.fetch.calc_last.Statement.{statement}
 use Rattle.byte_calls.proofs.fetch.calc_last.Tie as tie
-
-no-plan-requires : tie.Need-no-plan-requires
-no-plan-requires c κs = search needs
 
 no-notes-requires : tie.Need-no-notes-requires
 no-notes-requires c κs = search needs
@@ -22,9 +19,6 @@ slice-aggregate-decode c = search needs
 
 slice-aggregate-decode-2 : tie.Need-slice-aggregate-decode-2
 slice-aggregate-decode-2 c = search needs
-
-slice-aggregate-decode-3 : tie.Need-slice-aggregate-decode-3
-slice-aggregate-decode-3 c = search needs
 
 decode-requires : tie.Need-decode-requires
 decode-requires c κs = search needs
@@ -48,7 +42,7 @@ part-give-last-start : tie.Need-part-give-last-start
 part-give-last-start c = search needs
 
 part-give-last-end : tie.Need-part-give-last-end
-part-give-last-end c = part-fits _ _ _ (c .before .before .before .before .before .room-of .ensures) (records-length _ _ _ (c .before .before .before .before .before .before .before .before .before .before .decode .ensures))
+part-give-last-end c = part-fits _ _ _ (c .before .before .before .before .room-of .ensures) (records-length _ _ _ (c .before .before .before .before .before .before .before .before .decode .ensures))
 
 sub-give-last-2 : tie.Need-sub-give-last-2
 sub-give-last-2 c = search needs
@@ -57,35 +51,33 @@ part-out-start : tie.Need-part-out-start
 part-out-start c = search needs
 
 part-out-end : tie.Need-part-out-end
-part-out-end c = buffer-fits _ _ _ (c .before .before .before .before .capped .ensures) (buffer-long _ (c .before .before .before .before .before .no-list .ensures))
+part-out-end c = buffer-fits _ _ _ (c .before .before .before .capped .ensures) (buffer-long _ (c .before .before .before .before .no-list .ensures))
 
 give-last-requires : tie.Need-give-last-requires
 give-last-requires c κs =
-    let d = c .before .before .before .before .before .before .before .before .before .before .before .before .before .decode .ensures in
-    let b = c .before .before .before .before .before .before .before .before .before .before .before .before .before .before .before .before .before .before .before .before .before .before .before .before .args .buffer .now in
-    (c .before .before .before .before .before .before .before .before .before .before .before .before .before .before .before .before .before .before .before .before .before .before .before .before .pre .0, plan-decoded _ _ _ d, c .before .before .before .before .before .before .before .before .before .read-edges .ensures, noted-decoded _ _ _ d, buffer-less _ b (buffer-part _ _ _ b refl (c .before .before .before .before .before .before .capped .ensures) (c .before .before .before .before .before .before .before .no-list .ensures)))
+    let d = c .before .before .before .before .before .before .before .before .before .before .before .decode .ensures in
+    let b = c .before .before .before .before .before .before .before .before .before .before .before .before .before .before .before .before .before .before .before .before .args .buffer .now in
+    (c .before .before .before .before .before .before .before .before .before .before .before .before .before .before .before .before .before .before .before .before .pre .0, c .before .before .before .before .before .before .before .before .read-edges .ensures, noted-decoded _ _ _ d, buffer-less _ b (buffer-part _ _ _ b refl (c .before .before .before .before .before .capped .ensures) (c .before .before .before .before .before .before .no-list .ensures)))
 
 same-length : tie.Need-same-length
 same-length c = search needs
 
 returns : tie.Need-returns
 returns c =
-    let d = c .before .before .before .before .before .before .before .before .before .before .before .before .before .before .before .before .before .decode .ensures in
-    let b = c .before .before .before .before .before .before .before .before .before .before .before .before .before .before .before .before .before .before .before .before .before .before .before .before .before .before .before .before .args .buffer .now in
-    let records = records-in _ _ _ d (c .before .before .before .before .before .before .before .before .before .before .before .before .room-of .ensures) in
-    let y = last-read _ (cursor-decoded _ _ _ d) records (buffer-part _ _ _ b refl (c .before .before .before .before .before .before .before .before .before .before .capped .ensures) (c .before .before .before .before .before .before .before .before .before .before .before .no-list .ensures)) in
+    let d = c .before .before .before .before .before .before .before .before .before .before .before .before .before .before .before .decode .ensures in
+    let b = c .before .before .before .before .before .before .before .before .before .before .before .before .before .before .before .before .before .before .before .before .before .before .before .before .args .buffer .now in
+    let records = records-in _ _ _ d (c .before .before .before .before .before .before .before .before .before .before .before .room-of .ensures) in
+    let y = last-read _ (cursor-decoded _ _ _ d) records (buffer-part _ _ _ b refl (c .before .before .before .before .before .before .before .before .before .capped .ensures) (c .before .before .before .before .before .before .before .before .before .before .no-list .ensures)) in
     given-back _ _ _ _ (c .before .before .before .give-last .ensures ∙ ap (λ (y : Fetched). givenIn y b) y)
 
 pub calc-last-spec : {M : Type 1} → statement M
 calc-last-spec =
     tie.close
     (tie.spec
-    no-plan-requires
     no-notes-requires
     no-records-requires
     slice-aggregate-decode
     slice-aggregate-decode-2
-    slice-aggregate-decode-3
     decode-requires
     read-edges-requires
     room-of-requires

@@ -1,7 +1,7 @@
 use mathlib.Core.Path.{_∙_}
 use Rattle.byte_calls.specs.Layout.{stateIn}
 use Rattle.byte_calls.proofs.Filling.{read-words-in}
-use Rattle.byte_calls.proofs.Leaving.{parts-in}
+use Rattle.byte_calls.proofs.Leaving.{plan-here, parts-in}
 use borrow.Author.Needs.{needs}
 use Rattle.byte_calls.proofs.fetch.find_last.Statement.{statement}
 use Rattle.byte_calls.proofs.fetch.find_last.Tie as tie
@@ -35,7 +35,7 @@ unfolding stateIn
 returns c =
     let a = c .before .before .before .before .before .before .before .before .before .before .before .before .before .args in
     let p = c .before .before .before .before .before .before .before .before .before .before .before .before .before .pre in
-    (c .before .before .calc-last .ensures) (stateIn (a .state .now)) (parts-in (a .state .now) (p .1) (p .2) (p .3)) (read-words-in (a .state .now) 62764 260 _ _ (c .before .before .before .before .before .before .before .before .no-list .ensures) (c .before .before .before .before .before .before .read-words .ensures)) (c .before .before .before .before .before .before .before .before .before .word-at .ensures)
+    (c .before .before .calc-last .ensures) (stateIn (a .state .now)) (parts-in (a .state .now) (plan-here (a .state .now) (p .0)) (p .1) (p .2)) (read-words-in (a .state .now) 62764 260 _ _ (c .before .before .before .before .before .before .before .before .no-list .ensures) (c .before .before .before .before .before .before .read-words .ensures)) (c .before .before .before .before .before .before .before .before .before .word-at .ensures)
 
 pub find-last-spec : {M : Type 1} → statement M
 find-last-spec =

@@ -4,7 +4,7 @@ use Rattle.refusals.specs.Refusals.{litNumber}
 use Rattle.lent.specs.Lent.{reasonFetchedBy}
 use Rattle.lent.proofs.Parting.{of-recorded}
 use Rattle.byte_calls.specs.Layout.{stateIn}
-use Rattle.byte_calls.proofs.Leaving.{parts-in}
+use Rattle.byte_calls.proofs.Leaving.{plan-here, parts-in}
 use Rattle.byte_calls.proofs.Fetching.{reason-is}
 use borrow.Author.Needs.{needs}
 use Rattle.byte_calls.proofs.fetch.find_reason.Statement.{statement}
@@ -36,8 +36,8 @@ returns c =
     let a = c .before .before .before .before .before .before .before .before .before .before .before .before .args in
     let p = c .before .before .before .before .before .before .before .before .before .before .before .before .pre in
     let z = toZ-ofZ (c .before .before .before .before .before .before .before .before .before .before .before .before .fits .lit) in
-    let r = reason-is (a .state .now) _ _ _ _ _ (a .lit) _ (p .1) ((c .before .before .before .before .before .before .before .before .lit-number .ensures) ∙ ap litNumber z) (c .before .before .before .before .before .before .before .place-of .ensures) (c .before .before .before .before .before .before .reason-word .ensures) (c .before .before .before .before .before .reason-word2 .ensures) (c .before .before .before .before .reason-of .ensures) in
-    (c .before .before .calc-reason .ensures) (stateIn (a .state .now)) (parts-in (a .state .now) (p .1) (p .2) (p .3))
+    let r = reason-is (a .state .now) _ _ _ _ _ (a .lit) _ (plan-here (a .state .now) (p .0)) ((c .before .before .before .before .before .before .before .before .lit-number .ensures) ∙ ap litNumber z) (c .before .before .before .before .before .before .before .place-of .ensures) (c .before .before .before .before .before .before .reason-word .ensures) (c .before .before .before .before .before .reason-word2 .ensures) (c .before .before .before .before .reason-of .ensures) in
+    (c .before .before .calc-reason .ensures) (stateIn (a .state .now)) (parts-in (a .state .now) (plan-here (a .state .now) (p .0)) (p .1) (p .2))
     ∙ ((λ i. reasonFetchedBy (stateIn (a .state .now)) (a .before) (a .records .now) (z i) (r i) (a .out .now))
     ∙ of-recorded (stateIn (a .state .now)) (a .before) (a .records .now) (a .lit) (a .out .now))
 

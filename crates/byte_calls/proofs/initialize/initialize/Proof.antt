@@ -1,13 +1,10 @@
 use mathlib.Core.Path.{refl}
 use Rattle.byte_calls.specs.Layout.{cursorIn}
 use Rattle.byte_calls.proofs.Filling.{read-words-in}
-use Rattle.byte_calls.proofs.Leaving.{left-back, part-fits, lits-long, lits-part, plan-decoded, noted-decoded, cursor-decoded, records-length, records-decoded}
+use Rattle.byte_calls.proofs.Leaving.{left-back, part-fits, lits-long, lits-part, noted-decoded, cursor-decoded, records-length, records-decoded}
 use borrow.Author.Needs.{needs}
 use Rattle.byte_calls.proofs.initialize.initialize.Statement.{statement}
 use Rattle.byte_calls.proofs.initialize.initialize.Tie as tie
-
-no-plan-requires : tie.Need-no-plan-requires
-no-plan-requires c κs = search needs
 
 no-notes-requires : tie.Need-no-notes-requires
 no-notes-requires c κs = search needs
@@ -20,9 +17,6 @@ slice-aggregate-decode c = search needs
 
 slice-aggregate-decode-2 : tie.Need-slice-aggregate-decode-2
 slice-aggregate-decode-2 c = search needs
-
-slice-aggregate-decode-3 : tie.Need-slice-aggregate-decode-3
-slice-aggregate-decode-3 c = search needs
 
 decode-requires : tie.Need-decode-requires
 decode-requires c κs = search needs
@@ -58,7 +52,7 @@ part-lits-start : tie.Need-part-lits-start
 part-lits-start c = search needs
 
 part-lits-end : tie.Need-part-lits-end
-part-lits-end c = part-fits _ _ _ (c .before .before .before .before .room-of2 .ensures) (lits-long _ (c .before .before .before .before .before .no-lits .ensures))
+part-lits-end c = part-fits _ _ _ (c .before .before .before .room-of2 .ensures) (lits-long _ (c .before .before .before .before .no-lits .ensures))
 
 sub-begin-2 : tie.Need-sub-begin-2
 sub-begin-2 c = search needs
@@ -67,16 +61,16 @@ part-records-start : tie.Need-part-records-start
 part-records-start c = search needs
 
 part-records-end : tie.Need-part-records-end
-part-records-end c = part-fits _ _ _ (c .before .before .before .before .before .before .before .room-of .ensures) (records-length _ _ _ (c .before .before .before .before .before .before .before .before .before .before .before .before .before .before .before .before .before .before .decode .ensures))
+part-records-end c = part-fits _ _ _ (c .before .before .before .before .before .before .room-of .ensures) (records-length _ _ _ (c .before .before .before .before .before .before .before .before .before .before .before .before .before .before .before .before .decode .ensures))
 
 begin-requires : tie.Need-begin-requires
 begin-requires c κs =
-    let p = c .before .before .before .before .before .before .before .before .before .before .before .before .before .before .before .before .before .before .before .before .before .before .before .before .before .before .before .before .before .before .before .before .before .before .before .before .before .before .pre in
-    let a = c .before .before .before .before .before .before .before .before .before .before .before .before .before .before .before .before .before .before .before .before .before .before .before .before .before .before .before .before .before .before .before .before .before .before .before .before .before .before .args in
-    let d = c .before .before .before .before .before .before .before .before .before .before .before .before .before .before .before .before .before .before .before .before .before .before .before .decode .ensures in
-    let last = read-words-in (a .state .now) 62764 260 _ _ (c .before .before .before .before .before .before .before .before .before .before .before .before .before .before .before .before .before .no-list .ensures) (c .before .before .before .before .before .before .before .before .before .before .before .before .before .before .read-words .ensures) in
-    let lits = lits-part _ _ _ (a .list .now) refl (c .before .before .before .before .before .before .before .before .before .before .room-of2 .ensures) (c .before .before .before .before .before .before .before .before .before .before .before .no-lits .ensures) in
-    (p .0, plan-decoded _ _ _ d, c .before .before .before .before .before .before .before .before .before .before .before .before .before .before .before .before .before .before .read-edges .ensures, noted-decoded _ _ _ d, last, lits, cursor-decoded _ _ _ d, records-decoded _ _ _ d (c .before .before .before .before .before .before .before .before .before .before .before .before .room-of .ensures), p .1)
+    let p = c .before .before .before .before .before .before .before .before .before .before .before .before .before .before .before .before .before .before .before .before .before .before .before .before .before .before .before .before .before .before .before .before .before .before .pre in
+    let a = c .before .before .before .before .before .before .before .before .before .before .before .before .before .before .before .before .before .before .before .before .before .before .before .before .before .before .before .before .before .before .before .before .before .before .args in
+    let d = c .before .before .before .before .before .before .before .before .before .before .before .before .before .before .before .before .before .before .before .before .before .decode .ensures in
+    let last = read-words-in (a .state .now) 62764 260 _ _ (c .before .before .before .before .before .before .before .before .before .before .before .before .before .before .before .before .no-list .ensures) (c .before .before .before .before .before .before .before .before .before .before .before .before .before .read-words .ensures) in
+    let lits = lits-part _ _ _ (a .list .now) refl (c .before .before .before .before .before .before .before .before .before .room-of2 .ensures) (c .before .before .before .before .before .before .before .before .before .before .no-lits .ensures) in
+    (p .0, c .before .before .before .before .before .before .before .before .before .before .before .before .before .before .before .before .before .read-edges .ensures, noted-decoded _ _ _ d, last, lits, cursor-decoded _ _ _ d, records-decoded _ _ _ d (c .before .before .before .before .before .before .before .before .before .before .before .room-of .ensures), p .1)
 
 same-length : tie.Need-same-length
 same-length c = search needs
@@ -95,7 +89,7 @@ same-length-5 c = search needs
 
 returns : tie.Need-returns
 returns c =
-    let a = c .before .before .before .before .before .before .before .before .before .before .before .before .before .before .before .before .before .before .before .before .before .before .before .before .before .before .before .before .before .before .before .before .before .before .before .before .before .before .before .before .before .before .before .before .before .before .before .before .before .before .before .before .args in
+    let a = c .before .before .before .before .before .before .before .before .before .before .before .before .before .before .before .before .before .before .before .before .before .before .before .before .before .before .before .before .before .before .before .before .before .before .before .before .before .before .before .before .before .before .before .before .before .before .before .before .args in
     let b = c .before .before .before .before .before .before .before .before .before .before .before .before .before .begin .ensures in
     (left-back (cursorIn (a .cursor .now)) _ (a .list .now) (a .log .now) (a .cursor .now) _ _ _ _ _ (b .0), b .1)
 
@@ -103,12 +97,10 @@ pub initialize-spec : {M : Type 1} → statement M
 initialize-spec =
     tie.close
     (tie.spec
-    no-plan-requires
     no-notes-requires
     no-records-requires
     slice-aggregate-decode
     slice-aggregate-decode-2
-    slice-aggregate-decode-3
     decode-requires
     read-edges-requires
     no-list-requires

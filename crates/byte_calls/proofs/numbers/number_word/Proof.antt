@@ -1,7 +1,7 @@
 use mathlib.Core.Path.{_≡_, refl, sym, ap, ap₂, subst, _∙_}
 use Prim.Native.Nat.{ℕ, _≤_, _<_, _+_, _-_, _*_, _/_, _%_}
 use native.Mathlib.Omega.{arith}
-use Rattle.byte_calls.specs.Bytes.{wordAt}
+use Rattle.base.specs.Bytes.{wordAt}
 use borrow.Author.Needs.{needs}
 use Rattle.byte_calls.proofs.numbers.number_word.Statement.{statement}
 use Rattle.byte_calls.proofs.numbers.number_word.Tie as tie

@@ -2,14 +2,11 @@ use mathlib.Core.Path.{_∙_}
 use Rattle.byte_calls.specs.Host.{pageIn}
 use Rattle.byte_calls.specs.Layout.{stateIn}
 use Rattle.byte_calls.proofs.Undoing.{page-back, page-read}
-use Rattle.byte_calls.proofs.Leaving.{parts-in, part-fits, plan-decoded, noted-decoded, cursor-decoded}
+use Rattle.byte_calls.proofs.Leaving.{parts-in, part-fits, plan-here, noted-decoded, cursor-decoded}
 use Rattle.byte_calls.proofs.Leaving.{records-length, records-in}
 use borrow.Author.Needs.{needs}
 use Rattle.byte_calls.proofs.page.page.Statement.{statement}
 use Rattle.byte_calls.proofs.page.page.Tie as tie
-
-no-plan-requires : tie.Need-no-plan-requires
-no-plan-requires c κs = search needs
 
 no-notes-requires : tie.Need-no-notes-requires
 no-notes-requires c κs = search needs
@@ -22,9 +19,6 @@ slice-aggregate-decode c = search needs
 
 slice-aggregate-decode-2 : tie.Need-slice-aggregate-decode-2
 slice-aggregate-decode-2 c = search needs
-
-slice-aggregate-decode-3 : tie.Need-slice-aggregate-decode-3
-slice-aggregate-decode-3 c = search needs
 
 decode-requires : tie.Need-decode-requires
 decode-requires c κs = search needs
@@ -43,7 +37,7 @@ part-page-start c = search needs
 
 part-page-end : tie.Need-part-page-end
 part-page-end c =
-    part-fits _ _ _ (c .before .before .before .room-of .ensures) (records-length _ _ _ (c .before .before .before .before .before .before .before .before .decode .ensures))
+    part-fits _ _ _ (c .before .before .room-of .ensures) (records-length _ _ _ (c .before .before .before .before .before .before .decode .ensures))
 
 page-requires : tie.Need-page-requires
 page-requires c κs = search needs
@@ -57,10 +51,10 @@ same-length c = search needs
 returns : tie.Need-returns
 unfolding pageIn
 returns c =
-    let r = c .before .before .before .before .before .before .before .before .before in
-    let d = r .before .before .before .before .before .decode .ensures in
-    let a = r .before .before .before .before .before .before .before .before .before .before .before .before .before .before .before .before in
-    let p = parts-in (a .args .state .now) (plan-decoded _ _ _ d) (r .before .read-edges .ensures) (noted-decoded _ _ _ d) in
+    let r = c .before .before .before .before .before .before .before .before in
+    let d = r .before .before .before .before .decode .ensures in
+    let a = r .before .before .before .before .before .before .before .before .before .before .before .before .before in
+    let p = parts-in (a .args .state .now) (plan-here (a .args .state .now) (a .pre .0)) (r .before .read-edges .ensures) (noted-decoded _ _ _ d) in
     page-back _ _ _ _ (c .code-of .ensures) ((c .before .before .before .page .ensures) (stateIn (a .args .state .now)) p
     ∙ page-read _ _ (cursor-decoded _ _ _ d) (records-in _ _ _ d (r .room-of .ensures)))
 
@@ -68,12 +62,10 @@ pub page-spec : {M : Type 1} → statement M
 page-spec =
     tie.close
     (tie.spec
-    no-plan-requires
     no-notes-requires
     no-records-requires
     slice-aggregate-decode
     slice-aggregate-decode-2
-    slice-aggregate-decode-3
     decode-requires
     read-edges-requires
     room-of-requires

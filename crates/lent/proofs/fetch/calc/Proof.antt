@@ -5,6 +5,7 @@ use Rattle.lists.specs.Lists.{reasonLits}
 use Rattle.base.proofs.Loop.{pick-yes, pick-no}
 use Rattle.graph_division.specs.Calls.{giving, listFor, reasonGiven}
 use borrow.Author.Needs.{needs}
+use Rattle.plan.specs.Words.{wordsOf}
 use Rattle.lent.proofs.fetch.calc.Statement.{statement}
 use Rattle.lent.proofs.fetch.calc.Tie as tie
 
@@ -36,10 +37,10 @@ same-length c = search needs
 returns-2 : tie.Need-returns-2
 unfolding giving listFor
 returns-2 c =
-    let a = c .before .before .before .before .before .before .before .before .before .before .before .before .args in
+    let a = c .before .before .before .before .before .before .before .before .before .before .before .before .before .args in
     λ rs last len b.
     (c .before .before .give .ensures)
-    ∙ (ap (λ (x : walks.Answer). reasonGiven (a .plan .now) (x .text) (x .listed) (a .buffer .now)) ((c .before .before .before .before .before .before .reason-lits .ensures) ∙ (λ i. reasonLits (a .plan .now) (a .edges) (a .noted .now) (a .reason) (outOf ((c .before .before .before .before .before .before .before .before .no-list .ensures) i) 0)))
+    ∙ (ap (λ (x : walks.Answer). reasonGiven (wordsOf (a .plan .now)) (x .text) (x .listed) (a .buffer .now)) ((c .before .before .before .before .before .before .reason-lits .ensures) ∙ (λ i. reasonLits (wordsOf (a .plan .now)) (a .edges) (a .noted .now) (a .reason) (outOf ((c .before .before .before .before .before .before .before .before .no-list .ensures) i) 0)))
     ∙ sym (pick-no _ _ (sym (c .before .before .before .before .before .before .before .before .before .before .is-none .ensures) ∙ c .before .before .before .before .before .before .before .before .before .if1 .left)))
 
 pub calc-spec : {M : Type 1} → statement M

@@ -29,7 +29,7 @@ add-result-2 c = search needs
 
 returns : tie.Need-returns
 unfolding reasonOver
-returns c = ap₂ (λ (a b : ℕ). ltb (a + 2 * b + 4) ((c .before .before .args) .n)) ((c .before .num-edges) .ensures) ((c .num-vertices) .ensures)
+returns c = ap₂ (λ (a b : ℕ). ltb (a + 2 * b + 4) ((c .before .before .before .args) .n)) ((c .before .num-edges) .ensures) ((c .num-vertices) .ensures)
 
 pub reason-over-spec : {M : Type 1} → statement M
 reason-over-spec =

@@ -2,6 +2,7 @@ use mathlib.Core.Path.{refl}
 use Rattle.lent.proofs.Begun.{begin-by}
 use Rattle.lent.specs.Lent.{stateOf}
 use borrow.Author.Needs.{needs}
+use Rattle.plan.specs.Words.{wordsOf}
 use Rattle.lent.proofs.initialize.begin.Statement.{statement}
 use Rattle.lent.proofs.initialize.begin.Tie as tie
 
@@ -52,9 +53,9 @@ same-length-5 c = search needs
 
 returns : tie.Need-returns
 returns c =
-    let a = (c .before .before .before .before .before .before .before .before .before .before .before .before .before .before .before .before .before .before .before .before .before .before .before .before .before .before .before .before .before .before .before .before .before .before .before .before .before .before .before .before .args) in
+    let a = (c .before .before .before .before .before .before .before .before .before .before .before .before .before .before .before .before .before .before .before .before .before .before .before .before .before .before .before .before .before .before .before .before .before .before .before .before .before .before .before .before .before .args) in
     λ rs b r.
-    begin-by (stateOf (a .plan .now) (a .edges) (a .noted .now) rs (a .left .now) (a .last-len) b) (a .cursor) (a .table .now) (a .log .now) (a .list .now) _ _ _ _ _ _ _ r refl (c .before .before .before .before .before .before .before .before .before .before .before .before .before .before .before .before .before .before .before .before .before .before .before .before .before .before .before .before .before .before .before .before .before .save .ensures) (c .before .before .before .before .before .before .before .before .before .before .before .before .before .before .before .before .before .before .before .before .before .before .before .before .before .before .before .before .before .before .before .no-handed .ensures) (c .before .before .before .before .before .before .before .before .before .before .before .before .before .before .before .before .before .before .before .before .before .before .before .before .before .before .before .before .before .before .no-words .ensures) (c .before .before .before .before .before .before .before .before .before .before .before .before .before .before .before .before .before .before .before .before .before .go-through .ensures)
+    begin-by (stateOf (wordsOf (a .plan .now)) (a .edges) (a .noted .now) rs (a .left .now) (a .last-len) b) (a .cursor) (a .table .now) (a .log .now) (a .list .now) _ _ _ _ _ _ _ r refl (c .before .before .before .before .before .before .before .before .before .before .before .before .before .before .before .before .before .before .before .before .before .before .before .before .before .before .before .before .before .before .before .before .before .save .ensures) (c .before .before .before .before .before .before .before .before .before .before .before .before .before .before .before .before .before .before .before .before .before .before .before .before .before .before .before .before .before .before .before .no-handed .ensures) (c .before .before .before .before .before .before .before .before .before .before .before .before .before .before .before .before .before .before .before .before .before .before .before .before .before .before .before .before .before .before .no-words .ensures) (c .before .before .before .before .before .before .before .before .before .before .before .before .before .before .before .before .before .before .before .before .before .go-through .ensures)
     ((c .before .before .before .before .before .before .finish .ensures) (a .edges) rs (a .left .now) (a .last-len) b _ _)
 
 pub begin-spec : {M : Type 1} → statement M

@@ -6,6 +6,7 @@ use Rattle.lent.proofs.Begun.{end-fine, end-clash, end-stopped}
 use Rattle.lent.specs.Lent.{stateOf, stateAfter, begunAfter, begunOf}
 use Rattle.lent.proofs.Beginning.{taken-done, taken-over}
 use borrow.Author.Needs.{needs}
+use Rattle.plan.specs.Words.{wordsOf}
 use Rattle.lent.proofs.initialize.finish.Statement.{statement}
 use Rattle.lent.proofs.initialize.finish.Tie as tie
 
@@ -42,9 +43,9 @@ same-length-2 c = search needs
 returns : tie.Need-returns
 unfolding begunOf begunAfter stateAfter pick
 returns c =
-    let a = (c .before .before .before .before .before .before .before .before .before .before .before .before .before .before .before .before .args) in
+    let a = (c .before .before .before .before .before .before .before .before .before .before .before .before .before .before .before .before .before .args) in
     λ ends rs last len b words left.
-    let s = (stateOf (a .plan .now) ends (a .noted .now) rs last len b) in
+    let s = (stateOf (wordsOf (a .plan .now)) ends (a .noted .now) rs last len b) in
     end-fine s (a .cursor) (a .entry .now) (a .log .now) words left (a .x) _ _ _ _ _ _ _ (c .before .before .before .before .before .before .before .before .before .enum-told .given .1) (c .before .before .before .before .before .before .before .copy .ensures)
     (taken-done s (a .cursor) (a .entry .now) (a .log .now) words left (a .x) _ _ _ (c .before .before .note-up-to .ensures) (answer.Consistent ((a .x) .handed)))
 
@@ -57,9 +58,9 @@ same-length-4 c = search needs
 returns-2 : tie.Need-returns-2
 unfolding begunOf begunAfter stateAfter pick
 returns-2 c =
-    let a = (c .before .before .before .before .before .before .before .before .before .before .before .before .before .before .before .before .args) in
+    let a = (c .before .before .before .before .before .before .before .before .before .before .before .before .before .before .before .before .before .args) in
     λ ends rs last len b words left.
-    let s = (stateOf (a .plan .now) ends (a .noted .now) rs last len b) in
+    let s = (stateOf (wordsOf (a .plan .now)) ends (a .noted .now) rs last len b) in
     end-clash s (a .cursor) (a .entry .now) (a .log .now) words left (a .x) _ _ _ _ _ _ _ _ (c .before .before .before .before .before .before .before .before .before .enum-told2 .given .1) (c .before .before .before .before .before .before .before .copy2 .ensures)
     (taken-over s (a .cursor) (a .entry .now) (a .log .now) words left (a .x) _ _ _ (c .before .before .note-up-to2 .ensures) answer.Conflict)
 
@@ -69,9 +70,9 @@ same-length-5 c = search needs
 returns-3 : tie.Need-returns-3
 unfolding begunOf begunAfter stateAfter pick withNoted refuse
 returns-3 c =
-    let a = (c .before .before .before .before .before .before .before .before .before .before .before .before .args) in
+    let a = (c .before .before .before .before .before .before .before .before .before .before .before .before .before .args) in
     λ ends rs last len b words left.
-    let s = (stateOf (a .plan .now) ends (a .noted .now) rs last len b) in
+    let s = (stateOf (wordsOf (a .plan .now)) ends (a .noted .now) rs last len b) in
     end-stopped s (a .cursor) (a .entry .now) (a .log .now) words left (a .x) _ _ _ _ _ _ _ (c .before .before .before .before .before .found .given .1) (c .before .before .restore .ensures) refl
 
 pub finish-spec : {M : Type 1} → statement M

@@ -7,11 +7,12 @@ use Rattle.base.proofs.Loop.{iter-zero, iter-more, iter-done}
 use Rattle.noting.specs.Note.{noting}
 use Rattle.graph_division.specs.Initialize.{notedAt, notedUpTo}
 use borrow.Author.Needs.{needs}
+use Rattle.plan.specs.Words.{wordsOf}
 use Rattle.lent.proofs.initialize.note_up_to.Statement.{statement}
 use Rattle.lent.proofs.initialize.note_up_to.Tie as tie
 
 abbrev Inv-loop : tie.InvT-loop
-Inv-loop plan entry noted₀ log₀ past c₀ p₀ noted log c p = (p ≤ past) × (noting noted log c ≡ iter (notedAt plan entry) p (noting noted₀ log₀ c₀)) × (length log ≡ length log₀)
+Inv-loop plan entry noted₀ log₀ past c₀ p₀ noted log c p = (p ≤ past) × (noting noted log c ≡ iter (notedAt (wordsOf plan) entry) p (noting noted₀ log₀ c₀)) × (length log ≡ length log₀)
 
 abbrev μ-loop : tie.MeasureT-loop
 μ-loop plan entry noted₀ log₀ past c₀ p₀ noted log c p = past - p

@@ -2,6 +2,7 @@ use borrow.Author.Needs.{needs}
 use Rattle.lent.specs.Lent.{stateOf}
 use Rattle.lent.proofs.Parting.{of-parts}
 use Rattle.lent.proofs.Paging.{page-refused, page-printed}
+use Rattle.plan.specs.Words.{wordsOf}
 use Rattle.lent.proofs.page.page.Statement.{statement}
 use Rattle.lent.proofs.page.page.Tie as tie
 
@@ -10,8 +11,8 @@ state-bad-requires c κs = search needs
 
 returns : tie.Need-returns
 returns c =
-    let a = c .before .before .before .before .before .args in
-    let state = stateOf (a .plan .now) (a .edges) (a .noted .now) in
+    let a = c .before .before .before .before .before .before .args in
+    let state = stateOf (wordsOf (a .plan .now)) (a .edges) (a .noted .now) in
     of-parts _ (λ rs last len b. page-refused (state rs last len b) _ _ _ _ (c .before .state-bad .ensures) (c .if1 .taken))
 
 num-vertices-requires : tie.Need-num-vertices-requires
@@ -44,8 +45,8 @@ returns-2 c =
     let l = u .before .before .before in
     let r = l .before .before .before .before in
     let t = r .before .before in
-    let a = t .before .before .before .before .before .args in
-    let state = stateOf (a .plan .now) (a .edges) (a .noted .now) in
+    let a = t .before .before .before .before .before .before .args in
+    let state = stateOf (wordsOf (a .plan .now)) (a .edges) (a .noted .now) in
     of-parts _ (λ rs last len b. page-printed (state rs last len b) _ _ _ _ (t .before .state-bad .ensures) _ _ _ _ _ _ _ (t .if1 .left)
     (r .before .num-vertices .ensures) (r .compute .ensures) (l .lower-bounds .ensures) (u .upper-bounds .ensures) (c .before .before .before .print-page .ensures) (c .answer-of .ensures))
 

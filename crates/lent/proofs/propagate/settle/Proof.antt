@@ -7,6 +7,7 @@ use Rattle.judge.proofs.Judged.{judge-told}
 use Rattle.lent.proofs.Lending.{noted-judged}
 use Rattle.lent.proofs.Settling.{settle-fine, settle-clash, settle-stopped}
 use borrow.Author.Needs.{needs}
+use Rattle.plan.specs.Words.{wordsOf}
 use Rattle.lent.proofs.propagate.settle.Statement.{statement}
 use Rattle.lent.proofs.propagate.settle.Tie as tie
 
@@ -52,11 +53,11 @@ same-length-5 c = search needs
 returns : tie.Need-returns
 unfolding calledOf stateAfter pick withNoted withJudged refuse triedOut
 returns c =
-    let a = c .before .before .before .before .before .before .before .before .before .before .before .before .before .before .before .before .before .before .before .before .before .before .before .before .before .before .before .before .before .before .before .before .before .args in
+    let a = c .before .before .before .before .before .before .before .before .before .before .before .before .before .before .before .before .before .before .before .before .before .before .before .before .before .before .before .before .before .before .before .before .before .before .args in
     let j = c .before .before .before .before .before .before .before .before .before .before .before .before .before .before .before .before .before .before .before .before in
     let e = j .before .before .before .before .before .try-out .ensures in
     λ rs last len b.
-    settle-fine (stateOf (a .plan .now) (a .edges) (a .noted .now) rs last len b) (a .cursor) (a .proposals .now) (a .left .now) (a .lit) (a .table .now) (a .list .now) (a .log .now) _ _ _ (judge-told _ _ _ _ _ _ _ (e .1) (j .judge .ensures) ∙ (λ i. judgeWords (a .plan .now) (a .edges) ((e .0) i) (a .table .now) (a .proposals .now) (a .left .now))) _ _ _ _ _ (c .before .before .before .before .before .before .before .before .before .before .before .before .before .before .enum-told .given .1) (c .before .before .before .before .before .before .before .before .before .before .hand-on .ensures) (noted-judged (stateOf (a .plan .now) (a .edges) (a .noted .now) rs last len b) (a .cursor) (a .lit) 0 _ _ _ _ _ _ _ (c .before .before .before .note .ensures .0))
+    settle-fine (stateOf (wordsOf (a .plan .now)) (a .edges) (a .noted .now) rs last len b) (a .cursor) (a .proposals .now) (a .left .now) (a .lit) (a .table .now) (a .list .now) (a .log .now) _ _ _ (judge-told _ _ _ _ _ _ _ (e .1) (j .judge .ensures) ∙ (λ i. judgeWords (wordsOf (a .plan .now)) (a .edges) ((e .0) i) (a .table .now) (a .proposals .now) (a .left .now))) _ _ _ _ _ (c .before .before .before .before .before .before .before .before .before .before .before .before .before .before .enum-told .given .1) (c .before .before .before .before .before .before .before .before .before .before .hand-on .ensures) (noted-judged (stateOf (wordsOf (a .plan .now)) (a .edges) (a .noted .now) rs last len b) (a .cursor) (a .lit) 0 _ _ _ _ _ _ _ (c .before .before .before .note .ensures .0))
 
 same-length-6 : tie.Need-same-length-6
 same-length-6 c = search needs
@@ -73,11 +74,11 @@ same-length-9 c = search needs
 returns-2 : tie.Need-returns-2
 unfolding calledOf stateAfter pick withNoted withJudged refuse triedOut
 returns-2 c =
-    let a = c .before .before .before .before .before .before .before .before .before .before .before .before .before .before .before .before .before .before .before .before .before .before .before .before .before .before .args in
+    let a = c .before .before .before .before .before .before .before .before .before .before .before .before .before .before .before .before .before .before .before .before .before .before .before .before .before .before .before .args in
     let j = c .before .before .before .before .before .before .before .before .before .before .before .before .before in
     let e = j .before .before .before .before .before .try-out .ensures in
     λ rs last len b.
-    settle-clash (stateOf (a .plan .now) (a .edges) (a .noted .now) rs last len b) (a .cursor) (a .proposals .now) (a .left .now) (a .lit) (a .table .now) (a .list .now) (a .log .now) _ _ _ (judge-told _ _ _ _ _ _ _ (e .1) (j .judge .ensures) ∙ (λ i. judgeWords (a .plan .now) (a .edges) ((e .0) i) (a .table .now) (a .proposals .now) (a .left .now))) _ _ _ (c .before .before .before .before .before .before .before .found .given .1) (noted-judged (stateOf (a .plan .now) (a .edges) (a .noted .now) rs last len b) (a .cursor) (a .lit) _ _ _ _ _ _ _ _ (c .before .before .before .note2 .ensures .0))
+    settle-clash (stateOf (wordsOf (a .plan .now)) (a .edges) (a .noted .now) rs last len b) (a .cursor) (a .proposals .now) (a .left .now) (a .lit) (a .table .now) (a .list .now) (a .log .now) _ _ _ (judge-told _ _ _ _ _ _ _ (e .1) (j .judge .ensures) ∙ (λ i. judgeWords (wordsOf (a .plan .now)) (a .edges) ((e .0) i) (a .table .now) (a .proposals .now) (a .left .now))) _ _ _ (c .before .before .before .before .before .before .before .found .given .1) (noted-judged (stateOf (wordsOf (a .plan .now)) (a .edges) (a .noted .now) rs last len b) (a .cursor) (a .lit) _ _ _ _ _ _ _ _ (c .before .before .before .note2 .ensures .0))
 
 same-length-10 : tie.Need-same-length-10
 same-length-10 c = search needs
@@ -91,11 +92,11 @@ same-length-12 c = search needs
 returns-3 : tie.Need-returns-3
 unfolding calledOf stateAfter pick withNoted withJudged refuse triedOut
 returns-3 c =
-    let a = c .before .before .before .before .before .before .before .before .before .before .before .before .before .before .before .before .before .before .before .before .args in
+    let a = c .before .before .before .before .before .before .before .before .before .before .before .before .before .before .before .before .before .before .before .before .before .args in
     let j = c .before .before .before .before .before .before .before in
     let e = j .before .before .before .before .before .try-out .ensures in
     λ rs last len b.
-    settle-stopped (stateOf (a .plan .now) (a .edges) (a .noted .now) rs last len b) (a .cursor) (a .proposals .now) (a .left .now) (a .lit) (a .table .now) (a .list .now) (a .log .now) _ _ _ (judge-told _ _ _ _ _ _ _ (e .1) (j .judge .ensures) ∙ (λ i. judgeWords (a .plan .now) (a .edges) ((e .0) i) (a .table .now) (a .proposals .now) (a .left .now))) _ _ (c .before .found2 .given .1) refl
+    settle-stopped (stateOf (wordsOf (a .plan .now)) (a .edges) (a .noted .now) rs last len b) (a .cursor) (a .proposals .now) (a .left .now) (a .lit) (a .table .now) (a .list .now) (a .log .now) _ _ _ (judge-told _ _ _ _ _ _ _ (e .1) (j .judge .ensures) ∙ (λ i. judgeWords (wordsOf (a .plan .now)) (a .edges) ((e .0) i) (a .table .now) (a .proposals .now) (a .left .now))) _ _ (c .before .found2 .given .1) refl
 
 pub settle-spec : {M : Type 1} → statement M
 settle-spec =

@@ -3,6 +3,7 @@ use borrow.Author.Needs.{needs}
 use Rattle.lent.specs.Lent.{stateOf}
 use Rattle.lent.proofs.Parting.{of-parts}
 use Rattle.lent.proofs.Fetching.{run-refused, run-found}
+use Rattle.plan.specs.Words.{wordsOf}
 use Rattle.lent.proofs.run.run.Statement.{statement}
 use Rattle.lent.proofs.run.run.Tie as tie
 
@@ -40,9 +41,9 @@ returns : tie.Need-returns
 returns c =
     let t = c .before .before .before .before .before .before .before .before .before .before in
     let a = t .before .before .before .before .before in
-    let state = stateOf (a .args .plan .now) (a .args .edges) (a .args .noted .now) in
+    let state = stateOf (wordsOf (a .before .args .plan .now)) (a .before .args .edges) (a .before .args .noted .now) in
     of-parts _ (λ rs last len b. run-found (state rs last len b) _ _ _ _ (t .before .fetch-refusal .ensures) _ _ _ _ _ _ _ _ _ _ _ (t .if1 .taken)
-    (toZ-ofZ (a .fits .from)) (toZ-ofZ (a .fits .to))
+    (toZ-ofZ (a .before .fits .from)) (toZ-ofZ (a .before .fits .to))
     (c .before .before .before .before .before .before .before .before .before .num-edges .ensures)
     (c .before .before .before .before .before .before .before .before .num-vertices .ensures)
     (c .before .before .before .before .before .before .before .vertex-given .ensures)
@@ -50,8 +51,8 @@ returns c =
 
 returns-2 : tie.Need-returns-2
 returns-2 c =
-    let a = c .before .before .before .before .before .args in
-    of-parts _ (λ rs last len b. run-refused (stateOf (a .plan .now) (a .edges) (a .noted .now) rs last len b) _ _ _ _ (c .before .fetch-refusal .ensures) _ _ (c .if1 .left))
+    let a = c .before .before .before .before .before .before .args in
+    of-parts _ (λ rs last len b. run-refused (stateOf (wordsOf (a .plan .now)) (a .edges) (a .noted .now) rs last len b) _ _ _ _ (c .before .fetch-refusal .ensures) _ _ (c .if1 .left))
 
 pub run-spec : {M : Type 1} → statement M
 run-spec =

@@ -4,15 +4,16 @@ use native.Mathlib.Omega.{arith}
 use lib.ListN.{length}
 use Rattle.base.specs.Iter.{iter}
 use Rattle.base.proofs.Loop.{iter-zero, iter-more, iter-done}
-use Rattle.plan.specs.Words.{variablesOf}
+use Rattle.plan.specs.Words.{wordsOf, variablesOf}
 use Rattle.notifications.specs.Notifications.{mergedAt, merged}
-use Rattle.notifications.proofs.Cases.{merged-length}
+use Rattle.sweep.proofs.Next.{next-told, next-turn}
+use Rattle.notifications.proofs.Cases.{merged-length, merged-idle}
 use borrow.Author.Needs.{needs}
 use Rattle.notifications.proofs.merge.merge.Statement.{statement}
 use Rattle.notifications.proofs.merge.merge.Tie as tie
 
 abbrev Inv-loop : tie.InvT-loop
-Inv-loop plan proposals words₀ n p₀ words p = (p ≤ n) × ((n ≡ 2 * variablesOf plan) × (words ≡ iter (mergedAt proposals) p words₀))
+Inv-loop plan proposals words₀ n p₀ words p = (p ≤ n) × ((n ≡ 2 * variablesOf (wordsOf plan)) × (words ≡ iter (mergedAt proposals) p words₀))
 
 abbrev μ-loop : tie.MeasureT-loop
 μ-loop plan proposals words₀ n p₀ words p = n - p
@@ -26,20 +27,38 @@ cast-n c = omega arith
 mul-n : tie.Need-mul-n Inv-loop μ-loop
 mul-n c = omega arith
 
+next-proposed-requires : tie.Need-next-proposed-requires Inv-loop μ-loop
+next-proposed-requires c κs = search needs
+
 loop-holds : tie.Need-loop-holds Inv-loop μ-loop
-loop-holds c = (omega arith, (omega arith, iter-zero _ _))
+loop-holds c =
+    let e = c .next-proposed .ensures in
+    (next-told e .most, (omega arith, next-turn _ _ _ (merged-idle _) _ _ _ _ (omega arith) e (iter-zero _ _)))
 
 merge-at-requires : tie.Need-merge-at-requires Inv-loop μ-loop
 merge-at-requires c κs = omega arith
 
-add-p : tie.Need-add-p Inv-loop μ-loop
-add-p c = omega arith
+add-next-proposed : tie.Need-add-next-proposed Inv-loop μ-loop
+add-next-proposed c = omega arith
+
+next-proposed-requires-2 : tie.Need-next-proposed-requires-2 Inv-loop μ-loop
+next-proposed-requires-2 c κs = search needs
 
 loop-less : tie.Need-loop-less Inv-loop μ-loop
-loop-less c = omega arith
+loop-less c = let t = next-told (c .next-proposed2 .ensures) in let l = t .least (omega arith) in omega arith
 
 loop-again : tie.Need-loop-again Inv-loop μ-loop
-loop-again c = (omega arith, ((c .before .before .before .before .before .loop .inv .1 .0), iter-more _ _ _ _ _ (c .before .before .before .before .before .loop .inv .1 .1) (c .before .before .merge-at .ensures)))
+loop-again c =
+    let e = c .next-proposed2 .ensures in
+    let x = c .before .before .before in
+    let l = x .before .before .before in (
+      next-told e .most,
+      (
+        l .loop .inv .1 .0,
+        next-turn _ _ _ (merged-idle _) _ _ _ _ (omega arith) e
+            (iter-more _ _ _ _ _ (l .loop .inv .1 .1) (x .merge-at .ensures)),
+      ),
+    )
 
 same-length : tie.Need-same-length Inv-loop μ-loop
 same-length c = ap length (c .before .loop .inv .1 .1) ∙ merged-length _ _ (c .before .loop .p)
@@ -57,9 +76,11 @@ merge-spec =
     num-variables-requires
     cast-n
     mul-n
+    next-proposed-requires
     loop-holds
     merge-at-requires
-    add-p
+    add-next-proposed
+    next-proposed-requires-2
     loop-less
     loop-again
     same-length

@@ -20,7 +20,7 @@ mul-result c = search needs
 
 returns : tie.Need-returns
 unfolding listShort
-returns c = ap (λ (k : ℕ). ltb ((c .before .args) .n) (2 * k)) ((c .num-variables) .ensures)
+returns c = ap (λ (k : ℕ). ltb ((c .before .before .args) .n) (2 * k)) ((c .num-variables) .ensures)
 
 pub list-short-spec : {M : Type 1} → statement M
 list-short-spec = tie.close (tie.spec num-variables-requires cast-result mul-result returns)

@@ -20,7 +20,7 @@ mul-result c = search needs
 
 returns : tie.Need-returns
 unfolding logShort
-returns c = ap (λ (k : ℕ). ltb ((c .before .args) .n) (2 * k)) ((c .num-slots) .ensures)
+returns c = ap (λ (k : ℕ). ltb ((c .before .before .args) .n) (2 * k)) ((c .num-slots) .ensures)
 
 pub log-short-spec : {M : Type 1} → statement M
 log-short-spec = tie.close (tie.spec num-slots-requires cast-result mul-result returns)

@@ -32,7 +32,7 @@ add-result-2 c = search needs
 
 returns : tie.Need-returns
 unfolding reasonShort
-returns c = ap₂ (λ (a b : ℕ). ltb ((c .before .before .args) .n) (a + 2 * b + 4)) ((c .before .num-edges) .ensures) ((c .num-vertices) .ensures)
+returns c = ap₂ (λ (a b : ℕ). ltb ((c .before .before .before .args) .n) (a + 2 * b + 4)) ((c .before .num-edges) .ensures) ((c .num-vertices) .ensures)
 
 pub reason-short-spec : {M : Type 1} → statement M
 reason-short-spec =

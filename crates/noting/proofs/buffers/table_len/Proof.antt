@@ -6,7 +6,7 @@ use lib.Dec.{ltb, leb, eqb}
 use borrow.Author.Tests.{lt-ltb, le-ltb, le-leb, lt-leb, eq-eqb, ne-eqb}
 use Rattle.base.proofs.Loop.{pick-yes, pick-no}
 use Rattle.base.specs.Iter.{iter, pick}
-use Rattle.plan.specs.Words.{variablesOf, variableAt}
+use Rattle.plan.specs.Words.{wordsOf, variablesOf, variableAt}
 use Rattle.noting.specs.Buffers.{tableLen}
 use borrow.Author.Needs.{needs}
 use Rattle.noting.proofs.buffers.table_len.Statement.{statement}
@@ -32,11 +32,11 @@ add-result c = search needs
 
 returns : tie.Need-returns
 unfolding tableLen
-returns c = ap (λ (k : ℕ). k + 1) ((c .variable-at) .ensures ∙ ap (λ (k : ℕ). variableAt ((c .before .before .before .args) .plan .now) (k - 1)) ((c .before .before .num-variables) .ensures)) ∙ sym (pick-yes _ _ (lt-ltb 0 (variablesOf ((c .before .before .before .args) .plan .now)) (omega arith)))
+returns c = ap (λ (k : ℕ). k + 1) ((c .variable-at) .ensures ∙ ap (λ (k : ℕ). variableAt (wordsOf ((c .before .before .before .before .args) .plan .now)) (k - 1)) ((c .before .before .num-variables) .ensures)) ∙ sym (pick-yes _ _ (lt-ltb 0 (variablesOf (wordsOf ((c .before .before .before .before .args) .plan .now))) (omega arith)))
 
 returns-2 : tie.Need-returns-2
 unfolding tableLen
-returns-2 c = sym (pick-no _ _ (le-ltb 0 (variablesOf ((c .before .before .args) .plan .now)) (omega arith)))
+returns-2 c = sym (pick-no _ _ (le-ltb 0 (variablesOf (wordsOf ((c .before .before .before .args) .plan .now))) (omega arith)))
 
 pub table-len-spec : {M : Type 1} → statement M
 table-len-spec =

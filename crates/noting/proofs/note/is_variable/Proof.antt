@@ -4,7 +4,7 @@ use native.Mathlib.Omega.{arith}
 use lib.Dec.{eqb}
 use borrow.Author.Tests.{lt-ltb, le-ltb}
 use Rattle.base.proofs.Tests.{and-no, and-next}
-use Rattle.plan.specs.Words.{variablesOf}
+use Rattle.plan.specs.Words.{wordsOf, variablesOf}
 use borrow.Author.Needs.{needs}
 use Rattle.noting.proofs.note.is_variable.Statement.{statement}
 use Rattle.noting.proofs.note.is_variable.Tie as tie
@@ -20,13 +20,13 @@ variable-at-requires c κs = search needs
 
 returns : tie.Need-returns
 returns c =
-    let a = c .before .before .before .args in
-    and-next _ _ (lt-ltb (a .k) (variablesOf (a .plan .now)) (omega arith)) (ap (λ (n : ℕ). eqb n (a .x)) (c .variable-at .ensures))
+    let a = c .before .before .before .before .args in
+    and-next _ _ (lt-ltb (a .k) (variablesOf (wordsOf (a .plan .now))) (omega arith)) (ap (λ (n : ℕ). eqb n (a .x)) (c .variable-at .ensures))
 
 returns-2 : tie.Need-returns-2
 returns-2 c =
-    let a = c .before .before .args in
-    and-no _ (le-ltb (a .k) (variablesOf (a .plan .now)) (omega arith))
+    let a = c .before .before .before .args in
+    and-no _ (le-ltb (a .k) (variablesOf (wordsOf (a .plan .now))) (omega arith))
 
 pub is-variable-spec : {M : Type 1} → statement M
 is-variable-spec =

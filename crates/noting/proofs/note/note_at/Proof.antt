@@ -4,7 +4,7 @@ use native.Mathlib.Omega.{arith}
 use lib.ListN.{length}
 use Rattle.base.specs.Iter.{iter}
 use Rattle.noting.proofs.Pushing.{slots-length}
-use Rattle.plan.specs.Words.{occurrenceAt, startAt}
+use Rattle.plan.specs.Words.{wordsOf, occurrenceAt, startAt}
 use Rattle.noting.specs.Note.{Noting, noting, noteSlot, noteAt}
 use borrow.Author.Needs.{needs}
 use Rattle.noting.proofs.note.note_at.Statement.{statement}
@@ -27,7 +27,7 @@ same-length c = ap (λ (x : Noting). length (x .log)) ((c .before .before .note-
 
 returns : tie.Need-returns
 unfolding noteAt
-returns c = (c .before .before .note-occurrences) .ensures ∙ ap₂ (λ (a n : ℕ). iter (λ i y. noteSlot ((c .before .before .before .before .before .before .before .before .args) .plan .now) ((c .before .before .before .before .before .before .before .before .args) .lit) (occurrenceAt ((c .before .before .before .before .before .before .before .before .args) .plan .now) (a + i)) y) n (noting ((c .before .before .before .before .before .before .before .before .args) .noted .now) ((c .before .before .before .before .before .before .before .before .args) .log .now) ((c .before .before .before .before .before .before .before .before .args) .cursor))) ((c .before .before .before .before .before .start-at) .ensures) ((c .before .before .before .before .before .before .num-occurrences) .ensures .0)
+returns c = (c .before .before .note-occurrences) .ensures ∙ ap₂ (λ (a n : ℕ). iter (λ i y. noteSlot (wordsOf ((c .before .before .before .before .before .before .before .before .before .args) .plan .now)) ((c .before .before .before .before .before .before .before .before .before .args) .lit) (occurrenceAt (wordsOf ((c .before .before .before .before .before .before .before .before .before .args) .plan .now)) (a + i)) y) n (noting ((c .before .before .before .before .before .before .before .before .before .args) .noted .now) ((c .before .before .before .before .before .before .before .before .before .args) .log .now) ((c .before .before .before .before .before .before .before .before .before .args) .cursor))) ((c .before .before .before .before .before .start-at) .ensures) ((c .before .before .before .before .before .before .num-occurrences) .ensures .0)
 
 pub note-at-spec : {M : Type 1} → statement M
 note-at-spec =

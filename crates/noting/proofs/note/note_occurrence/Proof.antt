@@ -4,7 +4,7 @@ use native.Mathlib.Omega.{arith}
 use lib.ListN.{length}
 use Rattle.noting.proofs.Pushing.{slot-length}
 use Rattle.undo_log.specs.declared.Cursor.{Cursor}
-use Rattle.plan.specs.Words.{occurrenceAt}
+use Rattle.plan.specs.Words.{wordsOf, occurrenceAt}
 use Rattle.noting.specs.Note.{Noting, noting, noteSlot}
 use borrow.Author.Needs.{needs}
 use Rattle.noting.proofs.note.note_occurrence.Statement.{statement}
@@ -23,7 +23,7 @@ same-length : tie.Need-same-length
 same-length c = ap (λ (x : Noting). length (x .log)) ((c .before .before .note-slot) .ensures) ∙ slot-length _ _ _ _
 
 returns : tie.Need-returns
-returns c = (c .before .before .note-slot) .ensures ∙ ap (λ (s : ℕ). noteSlot ((c .before .before .before .before .before .before .before .args) .plan .now) ((c .before .before .before .before .before .before .before .args) .lit) s (noting ((c .before .before .before .before .before .before .before .args) .noted .now) ((c .before .before .before .before .before .before .before .args) .log .now) ((c .before .before .before .before .before .before .before .args) .cursor))) ((c .before .before .before .before .before .occurrence-at) .ensures)
+returns c = (c .before .before .note-slot) .ensures ∙ ap (λ (s : ℕ). noteSlot (wordsOf ((c .before .before .before .before .before .before .before .before .args) .plan .now)) ((c .before .before .before .before .before .before .before .before .args) .lit) s (noting ((c .before .before .before .before .before .before .before .before .args) .noted .now) ((c .before .before .before .before .before .before .before .before .args) .log .now) ((c .before .before .before .before .before .before .before .before .args) .cursor))) ((c .before .before .before .before .before .occurrence-at) .ensures)
 
 pub note-occurrence-spec : {M : Type 1} → statement M
 note-occurrence-spec =

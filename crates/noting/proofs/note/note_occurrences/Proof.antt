@@ -7,13 +7,13 @@ use lib.ListN.{length}
 use Rattle.noting.proofs.Pushing.{slot-length}
 use Rattle.base.specs.Iter.{iter}
 use Rattle.noting.proofs.Pushing.{slots-length}
-use Rattle.plan.specs.Words.{occurrenceAt}
+use Rattle.plan.specs.Words.{wordsOf, occurrenceAt}
 use Rattle.noting.specs.Note.{Noting, noting, noteSlot}
 use Rattle.noting.proofs.note.note_occurrences.Statement.{statement}
 use Rattle.noting.proofs.note.note_occurrences.Tie as tie
 
 abbrev Inv-loop : tie.InvT-loop
-Inv-loop plan noted₀ log₀ lit from n cur₀ i₀ noted log cur i = (i ≤ n) × (noting noted log cur ≡ iter (λ i y. noteSlot plan lit (occurrenceAt plan (from + i)) y) i (noting noted₀ log₀ cur₀))
+Inv-loop plan noted₀ log₀ lit from n cur₀ i₀ noted log cur i = (i ≤ n) × (noting noted log cur ≡ iter (λ i y. noteSlot (wordsOf plan) lit (occurrenceAt (wordsOf plan) (from + i)) y) i (noting noted₀ log₀ cur₀))
 
 abbrev μ-loop : tie.MeasureT-loop
 μ-loop plan noted₀ log₀ lit from n cur₀ i₀ noted log cur i = n - i

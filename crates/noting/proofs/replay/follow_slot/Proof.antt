@@ -1,48 +1,32 @@
+use borrow.Author.Needs.{needs}
 use mathlib.Core.Path.{_≡_, refl, sym, ap, ap₂, _∙_}
+use mathlib.Core.Bool.{Bool, true, false, not, _&&_, _||_}
 use Prim.Native.Nat.{ℕ, suc, pred, _+_, _-_, _*_, _/_, _%_, _≤_, _<_}
 use native.Mathlib.Omega.{arith}
-use Rattle.noting.proofs.Follow.{holds-before, follow-off, follow-idle, follow-yes, follow-no}
-use borrow.Author.Needs.{needs}
+use lib.Dec.{ltb, leb, eqb}
+use borrow.Author.Tests.{lt-ltb, le-ltb, le-leb, lt-leb, eq-eqb, ne-eqb}
+use Rattle.noting.proofs.Follow.{slot-idle, slot-past}
+use Rattle.plan.specs.Words.{wordsOf}
 use Rattle.noting.proofs.replay.follow_slot.Statement.{statement}
 use Rattle.noting.proofs.replay.follow_slot.Tie as tie
 
-effect-of-requires : tie.Need-effect-of-requires
-effect-of-requires c κs = search needs
+follow-size-requires : tie.Need-follow-size-requires
+follow-size-requires c κs = search needs
 
 returns : tie.Need-returns
-returns c = follow-idle ((c .before .before .before .before .before .before .args) .plan .now) ((c .before .before .before .before .before .before .args) .log .now) ((c .before .before .before .before .before .before .args) .noted .now) ((c .before .before .before .before .before .before .args) .used) ((c .before .before .before .before .before .before .args) .lit) ((c .before .before .before .before .before .before .args) .s) ((c .before .before .before .before .before .before .args) .p) ((c .before .before .before .before .if1) .taken) ((c .before .before .effect-of) .result) ((c .before .before .effect-of) .ensures) ((c .if2) .taken)
+returns c = search needs
 
-undo-record-requires : tie.Need-undo-record-requires
-undo-record-requires c κs = search needs
-
-holds-at-requires : tie.Need-holds-at-requires
-holds-at-requires c κs = search needs
-
-apply-requires : tie.Need-apply-requires
-apply-requires c κs = search needs
-
-add-t18 : tie.Need-add-t18
-add-t18 c = let h = holds-before ((c .before .before .before .before .before .before .before .before .before .before .before .before .args) .log .now) ((c .before .before .before .before .before .before .before .before .before .before .before .before .args) .used) ((c .before .before .before .before .before .before .before .before .before .before .before .before .args) .p .at) ((c .before .before .before .before .undo-record) .result) (sym ((c .before .before .before .holds-at) .ensures) ∙ (c .before .before .if3) .taken) in omega arith
+follow-edge-requires : tie.Need-follow-edge-requires
+follow-edge-requires c κs = search needs
 
 returns-2 : tie.Need-returns-2
-returns-2 c = follow-yes ((c .before .before .before .before .before .before .before .before .before .before .before .before .args) .plan .now) ((c .before .before .before .before .before .before .before .before .before .before .before .before .args) .log .now) ((c .before .before .before .before .before .before .before .before .before .before .before .before .args) .noted .now) ((c .before .before .before .before .before .before .before .before .before .before .before .before .args) .used) ((c .before .before .before .before .before .before .before .before .before .before .before .before .args) .lit) ((c .before .before .before .before .before .before .before .before .before .before .before .before .args) .s) ((c .before .before .before .before .before .before .before .before .before .before .before .before .args) .p) ((c .before .before .before .before .before .before .before .before .before .before .if1) .taken) ((c .before .before .before .before .before .before .before .before .effect-of) .result) ((c .before .before .before .before .before .before .before .before .effect-of) .ensures) ((c .before .before .before .before .before .before .if2) .left) ((c .before .before .before .before .undo-record) .result) ((c .before .before .before .before .undo-record) .ensures) ((c .before .before .before .holds-at) .result) ((c .before .before .before .holds-at) .ensures) ((c .before .before .if3) .taken) _ ((c .apply) .ensures)
+returns-2 c = search needs
 
 returns-3 : tie.Need-returns-3
-returns-3 c = follow-no ((c .before .before .before .before .before .before .before .before .before .before .args) .plan .now) ((c .before .before .before .before .before .before .before .before .before .before .args) .log .now) ((c .before .before .before .before .before .before .before .before .before .before .args) .noted .now) ((c .before .before .before .before .before .before .before .before .before .before .args) .used) ((c .before .before .before .before .before .before .before .before .before .before .args) .lit) ((c .before .before .before .before .before .before .before .before .before .before .args) .s) ((c .before .before .before .before .before .before .before .before .before .before .args) .p) ((c .before .before .before .before .before .before .before .before .if1) .taken) ((c .before .before .before .before .before .before .effect-of) .result) ((c .before .before .before .before .before .before .effect-of) .ensures) ((c .before .before .before .before .if2) .left) ((c .before .before .undo-record) .result) ((c .before .before .undo-record) .ensures) ((c .before .holds-at) .result) ((c .before .holds-at) .ensures) ((c .if3) .left)
-
-returns-4 : tie.Need-returns-4
-returns-4 c = follow-off ((c .before .before .args) .plan .now) ((c .before .before .args) .log .now) ((c .before .before .args) .noted .now) ((c .before .before .args) .used) ((c .before .before .args) .lit) ((c .before .before .args) .s) ((c .before .before .args) .p) ((c .if1) .left)
+returns-3 c =
+    let a = c .before .before .before .before .args in
+    slot-idle (wordsOf (a .plan .now)) (a .log .now) (a .noted .now) (a .used) (a .lit) (a .s) (a .at) (slot-past (wordsOf (a .plan .now)) (a .log .now) (a .noted .now) (a .used) (a .lit) (a .s) (a .at) (omega arith) (omega arith))
 
 pub follow-slot-spec : {M : Type 1} → statement M
 follow-slot-spec =
-    tie.close
-    (tie.spec
-    effect-of-requires
-    returns
-    undo-record-requires
-    holds-at-requires
-    apply-requires
-    add-t18
-    returns-2
-    returns-3
-    returns-4)
+    tie.close (tie.spec follow-size-requires returns follow-edge-requires returns-2 returns-3)

@@ -1,15 +1,27 @@
+use borrow.Author.Needs.{needs}
 use mathlib.Core.Path.{_≡_, refl, sym, ap, ap₂, _∙_}
+use mathlib.Core.Bool.{Bool, true, false, not, _&&_, _||_}
 use Prim.Native.Nat.{ℕ, suc, pred, _+_, _-_, _*_, _/_, _%_, _≤_, _<_}
 use native.Mathlib.Omega.{arith}
-use Rattle.undo_log.specs.declared.Record.{Record}
-use Rattle.noting.specs.Note.{placeIn}
-use Rattle.noting.proofs.Follow.{level-off, level-past, level-no, level-yes}
-use borrow.Author.Needs.{needs}
+use Rattle.noting.proofs.Follow.{found-at, level-other, level-marked, level-free}
+use Rattle.plan.specs.Words.{wordsOf}
 use Rattle.noting.proofs.replay.replay_level.Statement.{statement}
 use Rattle.noting.proofs.replay.replay_level.Tie as tie
 
-record-at-requires : tie.Need-record-at-requires
-record-at-requires c κs = search needs
+mul-w : tie.Need-mul-w
+mul-w c = search needs
+
+shared-slice-read-w : tie.Need-shared-slice-read-w
+shared-slice-read-w c = search needs
+
+cast-lit : tie.Need-cast-lit
+cast-lit c = search needs
+
+cast-if1 : tie.Need-cast-if1
+cast-if1 c = search needs
+
+mul-if1 : tie.Need-mul-if1
+mul-if1 c = search needs
 
 cast-variable : tie.Need-cast-variable
 cast-variable c = search needs
@@ -17,46 +29,56 @@ cast-variable c = search needs
 variable-requires : tie.Need-variable-requires
 variable-requires c κs = search needs
 
-search-requires : tie.Need-search-requires
-search-requires c κs = search needs
+find-requires : tie.Need-find-requires
+find-requires c κs = search needs
 
-opens-requires : tie.Need-opens-requires
-opens-requires c κs = c .before .search .ensures .0 ∙ ap (placeIn (c .before .before .before .before .before .before .before .args .plan .now)) (c .before .before .variable .ensures) ∙ ap (λ (r : Record). placeIn (c .before .before .before .before .before .before .before .args .plan .now) (r .lit / 2)) (c .before .before .before .record-at .ensures)
+marked-requires : tie.Need-marked-requires
+marked-requires c κs = search needs
+
+returns : tie.Need-returns
+returns c =
+    let a = c .before .before .before .before .before .before .before .before .before .args in
+    let f = c .before .before .before .find in
+    let m = c .before .marked in
+    level-marked (wordsOf (a .plan .now)) (a .log .now) (a .marks .now) (a .noted .now) (a .used) (a .at) _ _ refl refl (omega arith) (c .before .before .before .before .before .if1 .taken) (f .result) (found-at (wordsOf (a .plan .now)) (c .before .before .before .before .variable .ensures) (f .ensures .0)) (sym (m .ensures) ∙ c .if2 .taken)
 
 mark-requires : tie.Need-mark-requires
 mark-requires c κs = search needs
 
-add-t20 : tie.Need-add-t20
-add-t20 c = search needs
+add-follow-at : tie.Need-add-follow-at
+add-follow-at c = search needs
 
 follow-at-requires : tie.Need-follow-at-requires
 follow-at-requires c κs = search needs
 
-returns : tie.Need-returns
-returns c = level-yes (c .before .before .before .before .before .before .before .before .before .before .before .before .before .args .plan .now) (c .before .before .before .before .before .before .before .before .before .before .before .before .before .args .log .now) (c .before .before .before .before .before .before .before .before .before .before .before .before .before .args .marks .now) (c .before .before .before .before .before .before .before .before .before .before .before .before .before .args .noted .now) (c .before .before .before .before .before .before .before .before .before .before .before .before .before .args .used) (c .before .before .before .before .before .before .before .before .before .before .before .before .before .args .p) (c .before .before .before .before .before .before .before .before .before .before .before .if1 .taken) (c .before .before .before .before .before .before .before .before .before .before .if2 .taken) (c .before .before .before .before .before .opens .result) (c .before .before .before .before .before .opens .ensures) (c .before .before .before .before .if3 .taken) (c .before .before .before .before .before .before .before .before .before .record-at .result .lit) (c .before .before .before .before .before .before .before .search .result) (ap (λ (r : Record). r .lit) (c .before .before .before .before .before .before .before .before .before .record-at .ensures)) (c .before .before .before .before .before .before .before .search .ensures .0 ∙ ap (placeIn (c .before .before .before .before .before .before .before .before .before .before .before .before .before .args .plan .now)) (c .before .before .before .before .before .before .before .before .variable .ensures)) _ _ _ (c .before .before .mark .ensures) (c .follow-at .ensures)
-
 returns-2 : tie.Need-returns-2
-returns-2 c = level-no (c .before .before .before .before .before .before .before .before .before .args .plan .now) (c .before .before .before .before .before .before .before .before .before .args .log .now) (c .before .before .before .before .before .before .before .before .before .args .marks .now) (c .before .before .before .before .before .before .before .before .before .args .noted .now) (c .before .before .before .before .before .before .before .before .before .args .used) (c .before .before .before .before .before .before .before .before .before .args .p) (c .before .before .before .before .before .before .before .if1 .taken) (c .before .before .before .before .before .before .if2 .taken) (c .before .opens .result) (c .before .opens .ensures) (c .if3 .left)
+returns-2 c =
+    let a = c .before .before .before .before .before .before .before .before .before .before .before .before .before .args in
+    let f = c .before .before .before .before .before .before .before .find in
+    let m = c .before .before .before .before .before .marked in
+    level-free (wordsOf (a .plan .now)) (a .log .now) (a .marks .now) (a .noted .now) (a .used) (a .at) _ _ refl refl (omega arith) (c .before .before .before .before .before .before .before .before .before .if1 .taken) (f .result) (found-at (wordsOf (a .plan .now)) (c .before .before .before .before .before .before .before .before .variable .ensures) (f .ensures .0)) (sym (m .ensures) ∙ c .before .before .before .before .if2 .left) _ _ _ (c .before .before .mark .ensures) (c .follow-at .ensures)
 
 returns-3 : tie.Need-returns-3
-returns-3 c = level-past ((c .before .before .before .args) .plan .now) ((c .before .before .before .args) .log .now) ((c .before .before .before .args) .marks .now) ((c .before .before .before .args) .noted .now) ((c .before .before .before .args) .used) ((c .before .before .before .args) .p) ((c .before .if1) .taken) ((c .if2) .left)
-
-returns-4 : tie.Need-returns-4
-returns-4 c = level-off ((c .before .before .args) .plan .now) ((c .before .before .args) .log .now) ((c .before .before .args) .marks .now) ((c .before .before .args) .noted .now) ((c .before .before .args) .used) ((c .before .before .args) .p) ((c .if1) .left)
+returns-3 c =
+    let a = c .before .before .before .before .args in
+    level-other (wordsOf (a .plan .now)) (a .log .now) (a .marks .now) (a .noted .now) (a .used) (a .at) _ _ refl refl (omega arith) (c .if1 .left)
 
 pub replay-level-spec : {M : Type 1} → statement M
 replay-level-spec =
     tie.close
     (tie.spec
-    record-at-requires
+    mul-w
+    shared-slice-read-w
+    cast-lit
+    cast-if1
+    mul-if1
     cast-variable
     variable-requires
-    search-requires
-    opens-requires
-    mark-requires
-    add-t20
-    follow-at-requires
+    find-requires
+    marked-requires
     returns
+    mark-requires
+    add-follow-at
+    follow-at-requires
     returns-2
-    returns-3
-    returns-4)
+    returns-3)

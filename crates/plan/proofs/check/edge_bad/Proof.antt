@@ -7,7 +7,7 @@ use borrow.Author.Tests.{lt-ltb, le-ltb, le-leb, lt-leb, eq-eqb, ne-eqb}
 use Rattle.base.proofs.Tests.{or-yes, or-next, and-no, and-next}
 use mathlib.Core.List.{[]}
 use lib.ListN.{getD}
-use Rattle.plan.specs.Words.{verticesOf}
+use Rattle.plan.specs.Words.{wordsOf, verticesOf}
 use Rattle.plan.specs.Check.{edgeBad}
 use borrow.Author.Needs.{needs}
 use Rattle.plan.proofs.check.edge_bad.Statement.{statement}
@@ -30,7 +30,7 @@ wide-requires c κs = search needs
 
 returns : tie.Need-returns
 unfolding edgeBad
-returns c = or-yes _ (le-leb (verticesOf ((c .before .before .before .before .args) .plan .now)) (getD (getD ((c .before .before .before .before .args) .edges .now) ((c .before .before .before .before .args) .g) []) 0 0) (omega arith))
+returns c = or-yes _ (le-leb (verticesOf (wordsOf ((c .before .before .before .before .before .args) .plan .now))) (getD (getD ((c .before .before .before .before .before .args) .edges .now) ((c .before .before .before .before .before .args) .g) []) 0 0) (omega arith))
 
 mul-wide-2 : tie.Need-mul-wide-2
 mul-wide-2 c = search needs
@@ -47,8 +47,8 @@ wide-requires-2 c κs = search needs
 returns-2 : tie.Need-returns-2
 unfolding edgeBad
 returns-2 c =
-    let a = c .before .before .before .before .before .before .args in
-    or-next _ _ (lt-leb (verticesOf (a .plan .now)) (getD (getD (a .edges .now) (a .g) []) 0 0) (omega arith))
+    let a = c .before .before .before .before .before .before .before .args in
+    or-next _ _ (lt-leb (verticesOf (wordsOf (a .plan .now))) (getD (getD (a .edges .now) (a .g) []) 0 0) (omega arith))
     (ap₂ leb (c .before .before .before .before .before .num-vertices .ensures) (c .wide2 .ensures))
 
 pub edge-bad-spec : {M : Type 1} → statement M

@@ -4,7 +4,7 @@ use native.Mathlib.Omega.{arith}
 use borrow.Author.Needs.{needs}
 use Rattle.base.specs.Iter.{iter}
 use Rattle.base.proofs.Loop.{iter-zero, iter-more, iter-done}
-use Rattle.plan.specs.Words.{domainLenOf}
+use Rattle.plan.specs.Words.{wordsOf, domainLenOf}
 use Rattle.plan.specs.Check.{slotCount}
 use Rattle.plan.proofs.check.slot_count.Statement.{statement}
 use Rattle.plan.proofs.check.slot_count.Tie as tie
@@ -14,7 +14,7 @@ pred-le zero = (omega arith, omega arith, omega arith)
 pred-le (suc k) = (omega arith, omega arith, omega arith)
 
 abbrev Inv-loop : tie.InvT-loop
-Inv-loop plan vertices n₀ v₀ n v = (v ≤ vertices) × (n ≡ iter (λ v n. n + pred (domainLenOf plan v)) v n₀) × (n ≤ 128 + 31 * v)
+Inv-loop plan vertices n₀ v₀ n v = (v ≤ vertices) × (n ≡ iter (λ v n. n + pred (domainLenOf (wordsOf plan) v)) v n₀) × (n ≤ 128 + 31 * v)
 
 abbrev μ-loop : tie.MeasureT-loop
 μ-loop plan vertices n₀ v₀ n v = vertices - v
@@ -32,14 +32,14 @@ cast-n : tie.Need-cast-n Inv-loop μ-loop
 cast-n c = search needs
 
 loop-holds : tie.Need-loop-holds Inv-loop μ-loop
-loop-holds c = (omega arith, iter-zero _ _, omega (arith, c .before .before .pre .edges))
+loop-holds c = (omega arith, iter-zero _ _, omega (arith, c .before .before .before .pre .edges))
 
 add-slots-requires : tie.Need-add-slots-requires Inv-loop μ-loop
 add-slots-requires c κs =
     let s = c .before .before .before .before in
     let l = c .before .loop in
-    let few = s .pre .domains (l .v) (omega arith) in
-    omega (arith, pred-le (domainLenOf (s .args .plan .now) (l .v)), s .pre .vertices)
+    let few = s .before .pre .domains (l .v) (omega arith) in
+    omega (arith, pred-le (domainLenOf (wordsOf (s .before .args .plan .now)) (l .v)), s .before .pre .vertices)
 
 add-v : tie.Need-add-v Inv-loop μ-loop
 add-v c = search needs
@@ -51,8 +51,8 @@ loop-again : tie.Need-loop-again Inv-loop μ-loop
 loop-again c =
     let s = c .before .before .before .before .before in
     let l = c .before .before .loop in
-    let few = s .pre .domains (l .v) (omega arith) in
-    (omega arith, iter-more _ _ _ _ _ (l .inv .1) (c .add-slots .ensures), omega (arith, pred-le (domainLenOf (s .args .plan .now) (l .v))))
+    let few = s .before .pre .domains (l .v) (omega arith) in
+    (omega arith, iter-more _ _ _ _ _ (l .inv .1) (c .add-slots .ensures), omega (arith, pred-le (domainLenOf (wordsOf (s .before .args .plan .now)) (l .v))))
 
 returns : tie.Need-returns Inv-loop μ-loop
 unfolding slotCount

@@ -10,11 +10,12 @@ use Rattle.base.specs.Range.{inRange, toNat}
 use Rattle.base.proofs.Some.{some-zero, some-found, some-more, some-done}
 use Prim.Native.Nat.{_*_}
 use Rattle.plan.specs.Check.{entryBad, vertexBad, edgeBad, occurrenceBad, variableBad}
+use Rattle.plan.specs.Words.{wordsOf}
 use Rattle.plan.proofs.check.some_occurrence_bad.Statement.{statement}
 use Rattle.plan.proofs.check.some_occurrence_bad.Tie as tie
 
 abbrev Inv-loop : tie.InvT-loop
-Inv-loop plan k from n i₀ i = (i ≤ n) × (some (λ i. occurrenceBad plan k (from + i)) i ≡ false)
+Inv-loop plan k from n i₀ i = (i ≤ n) × (some (λ i. occurrenceBad (wordsOf plan) k (from + i)) i ≡ false)
 
 abbrev μ-loop : tie.MeasureT-loop
 μ-loop plan k from n i₀ i = n - i

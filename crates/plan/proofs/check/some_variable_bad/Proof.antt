@@ -10,11 +10,12 @@ use Rattle.base.specs.Range.{inRange, toNat}
 use Rattle.base.proofs.Some.{some-zero, some-found, some-more, some-done}
 use Prim.Native.Nat.{_*_}
 use Rattle.plan.specs.Check.{entryBad, vertexBad, edgeBad, occurrenceBad, variableBad}
+use Rattle.plan.specs.Words.{wordsOf}
 use Rattle.plan.proofs.check.some_variable_bad.Statement.{statement}
 use Rattle.plan.proofs.check.some_variable_bad.Tie as tie
 
 abbrev Inv-loop : tie.InvT-loop
-Inv-loop plan n k₀ k = (k ≤ n) × (some (variableBad plan) k ≡ false)
+Inv-loop plan n k₀ k = (k ≤ n) × (some (variableBad (wordsOf plan)) k ≡ false)
 
 abbrev μ-loop : tie.MeasureT-loop
 μ-loop plan n k₀ k = n - k

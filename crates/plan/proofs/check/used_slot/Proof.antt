@@ -3,6 +3,7 @@ use Prim.Native.Nat.{ℕ, pred, _+_, _-_, _/_, _%_, _≤_, _<_}
 use native.Mathlib.Omega.{arith}
 use Rattle.plan.proofs.CheckCases.{slot-size, slot-none, slot-edge}
 use borrow.Author.Needs.{needs}
+use Rattle.plan.specs.Words.{wordsOf}
 use Rattle.plan.proofs.check.used_slot.Statement.{statement}
 use Rattle.plan.proofs.check.used_slot.Tie as tie
 
@@ -22,10 +23,10 @@ cast-result : tie.Need-cast-result
 cast-result c = search needs
 
 returns : tie.Need-returns
-returns c = slot-size ((c .before .before .before .before .args) .plan .now) ((c .before .before .before .before .args) .s) ((c .domain-len) .result) ((c .before .before .before .if1) .taken) (omega arith) ((c .domain-len) .ensures)
+returns c = slot-size (wordsOf ((c .before .before .before .before .before .args) .plan .now)) ((c .before .before .before .before .before .args) .s) ((c .domain-len) .result) ((c .before .before .before .if1) .taken) (omega arith) ((c .domain-len) .ensures)
 
 returns-2 : tie.Need-returns-2
-returns-2 c = slot-none ((c .before .before .before .args) .plan .now) ((c .before .before .before .args) .s) ((c .before .before .if1) .taken) (omega arith)
+returns-2 c = slot-none (wordsOf ((c .before .before .before .before .args) .plan .now)) ((c .before .before .before .before .args) .s) ((c .before .before .if1) .taken) (omega arith)
 
 num-edges-requires : tie.Need-num-edges-requires
 num-edges-requires c κs = search needs
@@ -34,7 +35,7 @@ cast-result-2 : tie.Need-cast-result-2
 cast-result-2 c = search needs
 
 returns-3 : tie.Need-returns-3
-returns-3 c = slot-edge ((c .before .before .args) .plan .now) ((c .before .before .args) .s) ((c .num-edges) .result) ((c .before .if1) .left) ((c .num-edges) .ensures)
+returns-3 c = slot-edge (wordsOf ((c .before .before .before .args) .plan .now)) ((c .before .before .before .args) .s) ((c .num-edges) .result) ((c .before .if1) .left) ((c .num-edges) .ensures)
 
 pub used-slot-spec : {M : Type 1} → statement M
 used-slot-spec =

@@ -6,7 +6,7 @@ use lib.Dec.{ltb, leb, eqb}
 use borrow.Author.Tests.{lt-ltb, le-ltb, le-leb, lt-leb, eq-eqb, ne-eqb}
 use Rattle.base.proofs.Tests.{or-yes, or-next, and-no, and-next}
 use Rattle.base.specs.Lists.{some}
-use Rattle.plan.specs.Words.{startAt, slotsOf}
+use Rattle.plan.specs.Words.{wordsOf, startAt, slotsOf}
 use Rattle.plan.specs.Check.{variableBad, occurrenceBad}
 use borrow.Author.Needs.{needs}
 use Rattle.plan.proofs.check.variable_bad.Statement.{statement}
@@ -36,7 +36,7 @@ cast-end c = search needs
 
 returns-2 : tie.Need-returns-2
 unfolding variableBad
-returns-2 c = or-next _ _ (sym ((c .before .before .before .before .variable-order-bad) .ensures) ∙ (c .before .before .before .if1) .left) (or-yes _ (le-leb (startAt ((c .before .before .before .before .before .args) .plan .now) (((c .before .before .before .before .before .args) .k) + 1)) (startAt ((c .before .before .before .before .before .args) .plan .now) ((c .before .before .before .before .before .args) .k)) (omega arith)))
+returns-2 c = or-next _ _ (sym ((c .before .before .before .before .variable-order-bad) .ensures) ∙ (c .before .before .before .if1) .left) (or-yes _ (le-leb (startAt (wordsOf ((c .before .before .before .before .before .before .args) .plan .now)) (((c .before .before .before .before .before .before .args) .k) + 1)) (startAt (wordsOf ((c .before .before .before .before .before .before .args) .plan .now)) ((c .before .before .before .before .before .before .args) .k)) (omega arith)))
 
 num-slots-requires : tie.Need-num-slots-requires
 num-slots-requires c κs = search needs
@@ -46,7 +46,7 @@ cast-if3 c = search needs
 
 returns-3 : tie.Need-returns-3
 unfolding variableBad
-returns-3 c = or-next _ _ (sym ((c .before .before .before .before .before .before .variable-order-bad) .ensures) ∙ (c .before .before .before .before .before .if1) .left) (or-next _ _ (lt-leb (startAt ((c .before .before .before .before .before .before .before .args) .plan .now) (((c .before .before .before .before .before .before .before .args) .k) + 1)) (startAt ((c .before .before .before .before .before .before .before .args) .plan .now) ((c .before .before .before .before .before .before .before .args) .k)) (omega arith)) (or-yes _ (lt-ltb (slotsOf ((c .before .before .before .before .before .before .before .args) .plan .now)) (startAt ((c .before .before .before .before .before .before .before .args) .plan .now) (((c .before .before .before .before .before .before .before .args) .k) + 1)) (omega arith))))
+returns-3 c = or-next _ _ (sym ((c .before .before .before .before .before .before .variable-order-bad) .ensures) ∙ (c .before .before .before .before .before .if1) .left) (or-next _ _ (lt-leb (startAt (wordsOf ((c .before .before .before .before .before .before .before .before .args) .plan .now)) (((c .before .before .before .before .before .before .before .before .args) .k) + 1)) (startAt (wordsOf ((c .before .before .before .before .before .before .before .before .args) .plan .now)) ((c .before .before .before .before .before .before .before .before .args) .k)) (omega arith)) (or-yes _ (lt-ltb (slotsOf (wordsOf ((c .before .before .before .before .before .before .before .before .args) .plan .now))) (startAt (wordsOf ((c .before .before .before .before .before .before .before .before .args) .plan .now)) (((c .before .before .before .before .before .before .before .before .args) .k) + 1)) (omega arith))))
 
 sub-some-occurrence-bad : tie.Need-sub-some-occurrence-bad
 sub-some-occurrence-bad c = search needs
@@ -57,8 +57,8 @@ some-occurrence-bad-requires c κs = search needs
 returns-4 : tie.Need-returns-4
 unfolding variableBad
 returns-4 c =
-    or-next _ _ (sym ((c .before .before .before .before .before .before .before .variable-order-bad) .ensures) ∙ (c .before .before .before .before .before .before .if1) .left) (or-next _ _ (lt-leb (startAt ((c .before .before .before .before .before .before .before .before .args) .plan .now) (((c .before .before .before .before .before .before .before .before .args) .k) + 1)) (startAt ((c .before .before .before .before .before .before .before .before .args) .plan .now) ((c .before .before .before .before .before .before .before .before .args) .k)) (omega arith)) (or-next _ _ (le-ltb (slotsOf ((c .before .before .before .before .before .before .before .before .args) .plan .now)) (startAt ((c .before .before .before .before .before .before .before .before .args) .plan .now) (((c .before .before .before .before .before .before .before .before .args) .k) + 1)) (omega arith))
-    ((c .some-occurrence-bad) .ensures ∙ ap₂ (λ (from end : ℕ). some (λ i. occurrenceBad ((c .before .before .before .before .before .before .before .before .args) .plan .now) ((c .before .before .before .before .before .before .before .before .args) .k) (from + i)) (end - from)) ((c .before .before .before .before .before .start-at) .ensures) ((c .before .before .before .before .start-at2) .ensures))))
+    or-next _ _ (sym ((c .before .before .before .before .before .before .before .variable-order-bad) .ensures) ∙ (c .before .before .before .before .before .before .if1) .left) (or-next _ _ (lt-leb (startAt (wordsOf ((c .before .before .before .before .before .before .before .before .before .args) .plan .now)) (((c .before .before .before .before .before .before .before .before .before .args) .k) + 1)) (startAt (wordsOf ((c .before .before .before .before .before .before .before .before .before .args) .plan .now)) ((c .before .before .before .before .before .before .before .before .before .args) .k)) (omega arith)) (or-next _ _ (le-ltb (slotsOf (wordsOf ((c .before .before .before .before .before .before .before .before .before .args) .plan .now))) (startAt (wordsOf ((c .before .before .before .before .before .before .before .before .before .args) .plan .now)) (((c .before .before .before .before .before .before .before .before .before .args) .k) + 1)) (omega arith))
+    ((c .some-occurrence-bad) .ensures ∙ ap₂ (λ (from end : ℕ). some (λ i. occurrenceBad (wordsOf ((c .before .before .before .before .before .before .before .before .before .args) .plan .now)) ((c .before .before .before .before .before .before .before .before .before .args) .k) (from + i)) (end - from)) ((c .before .before .before .before .before .start-at) .ensures) ((c .before .before .before .before .start-at2) .ensures))))
 
 pub variable-bad-spec : {M : Type 1} → statement M
 variable-bad-spec =

@@ -7,7 +7,7 @@ use borrow.Author.Tests.{lt-ltb, le-ltb, le-leb, lt-leb, eq-eqb, ne-eqb}
 use Rattle.base.proofs.Tests.{or-yes, or-next, and-no, and-next}
 use Rattle.base.specs.Lists.{some}
 use Prim.Native.Nat.{_*_}
-use Rattle.plan.specs.Words.{weightOf, domainLenOf}
+use Rattle.plan.specs.Words.{wordsOf, weightOf, domainLenOf}
 use Rattle.plan.specs.Check.{vertexBad, entryBad}
 use borrow.Author.Needs.{needs}
 use Rattle.plan.proofs.check.vertex_bad.Statement.{statement}
@@ -18,7 +18,7 @@ weight-requires c κs = search needs
 
 returns : tie.Need-returns
 unfolding vertexBad
-returns c = or-yes _ (lt-ltb 1000000 (weightOf ((c .before .before .args) .plan .now) ((c .before .before .args) .v)) (omega arith))
+returns c = or-yes _ (lt-ltb 1000000 (weightOf (wordsOf ((c .before .before .before .args) .plan .now)) ((c .before .before .before .args) .v)) (omega arith))
 
 domain-len-requires : tie.Need-domain-len-requires
 domain-len-requires c κs = search needs
@@ -28,7 +28,7 @@ cast-len c = search needs
 
 returns-2 : tie.Need-returns-2
 unfolding vertexBad
-returns-2 c = or-next _ _ (le-ltb 1000000 (weightOf ((c .before .before .before .before .args) .plan .now) ((c .before .before .before .before .args) .v)) (omega arith)) (or-yes _ (lt-ltb 32 (domainLenOf ((c .before .before .before .before .args) .plan .now) ((c .before .before .before .before .args) .v)) (omega arith)))
+returns-2 c = or-next _ _ (le-ltb 1000000 (weightOf (wordsOf ((c .before .before .before .before .before .args) .plan .now)) ((c .before .before .before .before .before .args) .v)) (omega arith)) (or-yes _ (lt-ltb 32 (domainLenOf (wordsOf ((c .before .before .before .before .before .args) .plan .now)) ((c .before .before .before .before .before .args) .v)) (omega arith)))
 
 some-entry-bad-requires : tie.Need-some-entry-bad-requires
 some-entry-bad-requires c κs = search needs
@@ -36,9 +36,9 @@ some-entry-bad-requires c κs = search needs
 returns-3 : tie.Need-returns-3
 unfolding vertexBad
 returns-3 c =
-    let a = c .before .before .before .before .before .args in
-    or-next _ _ (le-ltb 1000000 (weightOf (a .plan .now) (a .v)) (omega arith)) (or-next _ _ (le-ltb 32 (domainLenOf (a .plan .now) (a .v)) (omega arith))
-    (c .some-entry-bad .ensures ∙ ap (some (entryBad (a .plan .now) (a .v))) (c .before .before .domain-len .ensures)))
+    let a = c .before .before .before .before .before .before .args in
+    or-next _ _ (le-ltb 1000000 (weightOf (wordsOf (a .plan .now)) (a .v)) (omega arith)) (or-next _ _ (le-ltb 32 (domainLenOf (wordsOf (a .plan .now)) (a .v)) (omega arith))
+    (c .some-entry-bad .ensures ∙ ap (some (entryBad (wordsOf (a .plan .now)) (a .v))) (c .before .before .domain-len .ensures)))
 
 pub vertex-bad-spec : {M : Type 1} → statement M
 vertex-bad-spec =

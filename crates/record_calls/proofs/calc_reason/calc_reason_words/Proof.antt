@@ -17,7 +17,7 @@ same-length c = search needs
 
 returns : tie.Need-returns
 returns c = ((c .before .before .calc-reason .ensures))
-    ∙ (λ i. reasonFetched ((c .before .before .before .before .before .before .before .before .before .before .args .t1)) ((c .before .before .before .before .before .before .before .before .before .before .args .cursor)) ((c .before .before .before .before .before .before .before .before .before .before .args .words .now)) (toZ-ofZ ((c .before .before .before .before .before .before .before .before .before .before .fits .lit)) i) ((c .before .before .before .before .before .before .before .before .before .before .args .buffer .now)))
+    ∙ (λ i. reasonFetched ((c .before .before .before .before .before .before .before .before .args .s)) ((c .before .before .before .before .before .before .before .before .args .cursor)) ((c .before .before .before .before .before .before .before .before .args .words .now)) (toZ-ofZ ((c .before .before .before .before .before .before .before .before .fits .lit)) i) ((c .before .before .before .before .before .before .before .before .args .buffer .now)))
     ∙ sym (pick-yes _ _ (sym ((c .before .before .before .before .before .reaches .ensures)) ∙ ((c .before .before .before .before .if1 .taken))))
 
 returns-2 : tie.Need-returns-2

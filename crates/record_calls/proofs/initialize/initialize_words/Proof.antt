@@ -28,7 +28,7 @@ refuse-requires : tie.Need-refuse-requires
 refuse-requires c κs = search needs
 
 returns-2 : tie.Need-returns-2
-returns-2 c = ap (λ (o : Outcome). called o ((c .before .before .before .before .before .before .before .before .args .table .now)) ((c .before .before .before .before .before .before .before .before .args .list .now)) ((c .before .before .before .before .before .before .before .before .args .words .now))) ((c .refuse .ensures)) ∙ sym (pick-no _ _ (sym ((c .before .before .reaches .ensures)) ∙ ((c .before .if1 .left))))
+returns-2 c = ap (λ (o : Outcome). called o ((c .before .before .before .before .before .before .args .table .now)) ((c .before .before .before .before .before .before .args .list .now)) ((c .before .before .before .before .before .before .args .words .now))) ((c .refuse .ensures)) ∙ sym (pick-no _ _ (sym ((c .before .before .reaches .ensures)) ∙ ((c .before .if1 .left))))
 
 pub initialize-words-spec : {M : Type 1} → statement M
 initialize-words-spec =

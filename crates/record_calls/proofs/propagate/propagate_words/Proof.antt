@@ -25,14 +25,14 @@ same-length-3 c = search needs
 
 returns : tie.Need-returns
 returns c = ((c .before .before .before .before .before .before .propagate .ensures))
-    ∙ (λ i. propagated ((c .before .before .before .before .before .before .before .before .before .before .before .before .before .before .before .before .before .args .t1)) ((c .before .before .before .before .before .before .before .before .before .before .before .before .before .before .before .before .before .args .cursor)) (toZ-ofZ ((c .before .before .before .before .before .before .before .before .before .before .before .before .before .before .before .before .before .fits .lit)) i) (toZ-ofZ ((c .before .before .before .before .before .before .before .before .before .before .before .before .before .before .before .before .before .fits .num-pending-propagations)) i) ((c .before .before .before .before .before .before .before .before .before .before .before .before .before .before .before .before .before .args .table .now)) ((c .before .before .before .before .before .before .before .before .before .before .before .before .before .before .before .before .before .args .list .now)) ((c .before .before .before .before .before .before .before .before .before .before .before .before .before .before .before .before .before .args .words .now)))
+    ∙ (λ i. propagated ((c .before .before .before .before .before .before .before .before .before .before .before .before .before .before .before .args .s)) ((c .before .before .before .before .before .before .before .before .before .before .before .before .before .before .before .args .cursor)) (toZ-ofZ ((c .before .before .before .before .before .before .before .before .before .before .before .before .before .before .before .fits .lit)) i) (toZ-ofZ ((c .before .before .before .before .before .before .before .before .before .before .before .before .before .before .before .fits .num-pending-propagations)) i) ((c .before .before .before .before .before .before .before .before .before .before .before .before .before .before .before .args .table .now)) ((c .before .before .before .before .before .before .before .before .before .before .before .before .before .before .before .args .list .now)) ((c .before .before .before .before .before .before .before .before .before .before .before .before .before .before .before .args .words .now)))
     ∙ sym (pick-yes _ _ (sym ((c .before .before .before .before .before .before .before .before .before .before .before .reaches .ensures)) ∙ ((c .before .before .before .before .before .before .before .before .before .before .if1 .taken))))
 
 refuse-requires : tie.Need-refuse-requires
 refuse-requires c κs = search needs
 
 returns-2 : tie.Need-returns-2
-returns-2 c = ap (λ (o : Outcome). called o ((c .before .before .before .before .before .before .before .before .args .table .now)) ((c .before .before .before .before .before .before .before .before .args .list .now)) ((c .before .before .before .before .before .before .before .before .args .words .now))) ((c .refuse .ensures)) ∙ sym (pick-no _ _ (sym ((c .before .before .reaches .ensures)) ∙ ((c .before .if1 .left))))
+returns-2 c = ap (λ (o : Outcome). called o ((c .before .before .before .before .before .before .args .table .now)) ((c .before .before .before .before .before .before .args .list .now)) ((c .before .before .before .before .before .before .args .words .now))) ((c .refuse .ensures)) ∙ sym (pick-no _ _ (sym ((c .before .before .reaches .ensures)) ∙ ((c .before .if1 .left))))
 
 pub propagate-words-spec : {M : Type 1} → statement M
 propagate-words-spec =

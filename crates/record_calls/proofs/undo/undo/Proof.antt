@@ -75,6 +75,7 @@ use Rattle.lent_log.proofs.pop_to.Symbol as pop-def
 use Rattle.lent_log.proofs.pop_to.Symbol.{name as #pop}
 use Rattle.lent_log.proofs.pop_to.Met as pop-thm
 use Rattle.record_calls.specs.Reach.{reaches}
+use Rattle.record_calls.specs.Checked.{checkedUndone}
 use Rattle.record_calls.proofs.Scratch.{count, blank, blank-length, zeros, AllFit, words-in, words-out, type as wordsTy}
 use Rattle.record_calls.proofs.Joined.{undo-joined, undo-moved}
 use Rattle.record_calls.proofs.undo.undo_words as flat
@@ -165,7 +166,7 @@ module _ {M : Type 1} (𝓤 : URA M) (H : Heap 𝓤) (A : Atoms 𝓤) (W : Given
   OwnCur d = MutRef (named 1) κ₁ Q .own (cref γ₁ d) (vptr b₁ o₁ ∷ [])
 
   abbrev Said : Outcome → Type 0
-  Said r = (r ≡ undone st c z (map wordOf ys)) × (r .cursor ≡ r .cursor)
+  Said r = (r ≡ checkedUndone st c z (map wordOf ys)) × (r .cursor ≡ r .cursor)
 
   exits : (r : Outcome) (u : Val) → Is N r (u ∷ []) → Said r → ent 𝓤 (⋆ 𝓤 H A (‵ (flft κ₀ q₀) ∷ ‵ (flft κ₁ q₁) ∷ ‵ OwnLog ∷ ‵ (OwnCur (r .cursor)) ∷ [])) (Post (LL.val O.the-type O′.the-laws r))
   exits r u is said =
@@ -204,7 +205,7 @@ module _ {M : Type 1} (𝓤 : URA M) (H : Heap 𝓤) (A : Atoms 𝓤) (W : Given
       nothing ! $ move ! (2 ∷ 0 ∷ []) $ join ! $ join ! $ nothing ! $ move ! (1 ∷ 0 ∷ []) $ frame ! $ done !
 
   abbrev Gave : List ℕ → Outcome → Type 0
-  Gave zs r = r ≡ choose (reaches (st .plan) (length ys) c) (undone st c z zs) (refuse 7 st c)
+  Gave zs r = r ≡ choose (reaches (st .plan) (st .edges .ends) (length ys) c) (undone st c z zs) (refuse 7 st c)
 
   flat-said : (l ν : ℕ) (δ : GName) (zs : List ℕ) (r : Outcome) → ent 𝓤 (ensured 𝓤 H A flat.ended (flat.clauses 𝓤 H A mem′ run) (ν ∷ [], tt) (st, (wref l δ zs, (length ys, (c, (z, tt))))) tt r) (fact 𝓤 (Gave zs r))
   flat-said l ν δ zs r = exE 𝓤 _ (λ ks. snd∗ 𝓤 (sem 𝓤 H A (lasts flat.ended (ν ∷ [], tt) (st, (wref l δ zs, (length ys, (c, (z, tt))))) ks)) (fact 𝓤 (Gave zs r)))
@@ -226,8 +227,8 @@ module _ {M : Type 1} (𝓤 : URA M) (H : Heap 𝓤) (A : Atoms 𝓤) (W : Given
   used-fits was = LL.owed S.the-type S′.the-laws c _ was .0 .1
 
   -- what holds at the end
-  final : (r : Outcome) (zs : List ℕ) → zs ≡ loaded ys (c .used) blank → Gave zs r → r ≡ undone st c z (map wordOf ys)
-  final r zs e f = f ∙ ap (λ (l : List ℕ). choose (reaches (st .plan) (length ys) c) (undone st c z l) (refuse 7 st c)) e ∙ undo-joined st c ys blank blank-length z
+  final : (r : Outcome) (zs : List ℕ) → zs ≡ loaded ys (c .used) blank → Gave zs r → r ≡ checkedUndone st c z (map wordOf ys)
+  final r zs e f = f ∙ ap (λ (l : List ℕ). choose (reaches (st .plan) (st .edges .ends) (length ys) c) (undone st c z l) (refuse 7 st c)) e ∙ undo-joined st c ys blank blank-length z
 
   moves : (r : Outcome) (zs : List ℕ) → zs ≡ loaded ys (c .used) blank → Gave zs r → poppedTo ys (r .cursor .used) c ≡ movedTo c (r .cursor .used)
   moves r zs e f = undo-moved st c ys blank blank-length z r (subst (λ (l : List ℕ). Gave l r) e f)

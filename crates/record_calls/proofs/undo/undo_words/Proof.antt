@@ -14,7 +14,7 @@ undo-requires c κs = search needs
 
 returns : tie.Need-returns
 returns c = ((c .undo .ensures))
-    ∙ (λ i. undone ((c .before .before .before .before .before .before .args .t1)) ((c .before .before .before .before .before .before .args .cursor)) (toZ-ofZ ((c .before .before .before .before .before .before .fits .lit)) i) ((c .before .before .before .before .before .before .args .words .now)))
+    ∙ (λ i. undone ((c .before .before .before .before .args .s)) ((c .before .before .before .before .args .cursor)) (toZ-ofZ ((c .before .before .before .before .fits .lit)) i) ((c .before .before .before .before .args .words .now)))
     ∙ sym (pick-yes _ _ (sym ((c .before .before .reaches .ensures)) ∙ ((c .before .if1 .taken))))
 
 refuse-requires : tie.Need-refuse-requires

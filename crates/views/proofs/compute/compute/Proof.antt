@@ -1,5 +1,6 @@
 use borrow.Author.Needs.{needs}
 use Rattle.views.proofs.Computing.{regions-walked, regions-not}
+use Rattle.plan.specs.Words.{wordsOf}
 use Rattle.views.proofs.compute.compute.Statement.{statement}
 use Rattle.views.proofs.compute.compute.Tie as tie
 
@@ -28,10 +29,10 @@ region-weights-requires : tie.Need-region-weights-requires
 region-weights-requires c κs = search needs
 
 returns : tie.Need-returns
-returns c = regions-walked (c .before .before .before .before .before .before .before .before .before .before .before .args .plan .now) (c .before .before .before .before .before .before .before .before .before .before .before .args .edges) (c .before .before .before .before .before .before .before .before .before .before .before .args .noted .now) (c .before .before .before .before .before .before .before .before .before .before .before .args .potential) _ _ _ _ _ _ _ (c .before .before .before .before .before .before .before .before .before .before .num-vertices .ensures) (c .before .before .before .before .before .before .before .before .before .num-edges .ensures) (c .before .before .before .before .before .before .before .before .weight-words .ensures) (c .before .before .before .before .before .compute-regions .ensures) (c .before .region-weights .ensures) (c .if1 .taken)
+returns c = regions-walked (wordsOf (c .before .before .before .before .before .before .before .before .before .before .before .before .args .plan .now)) (c .before .before .before .before .before .before .before .before .before .before .before .before .args .edges) (c .before .before .before .before .before .before .before .before .before .before .before .before .args .noted .now) (c .before .before .before .before .before .before .before .before .before .before .before .before .args .potential) _ _ _ _ _ _ _ (c .before .before .before .before .before .before .before .before .before .before .num-vertices .ensures) (c .before .before .before .before .before .before .before .before .before .num-edges .ensures) (c .before .before .before .before .before .before .before .before .weight-words .ensures) (c .before .before .before .before .before .compute-regions .ensures) (c .before .region-weights .ensures) (c .if1 .taken)
 
 returns-2 : tie.Need-returns-2
-returns-2 c = regions-not (c .before .before .before .before .before .before .before .before .before .before .before .args .plan .now) (c .before .before .before .before .before .before .before .before .before .before .before .args .edges) (c .before .before .before .before .before .before .before .before .before .before .before .args .noted .now) (c .before .before .before .before .before .before .before .before .before .before .before .args .potential) _ _ _ _ _ _ _ (c .before .before .before .before .before .before .before .before .before .before .num-vertices .ensures) (c .before .before .before .before .before .before .before .before .before .num-edges .ensures) (c .before .before .before .before .before .before .before .before .weight-words .ensures) (c .before .before .before .before .before .compute-regions .ensures) (c .before .region-weights .ensures) (c .if1 .left)
+returns-2 c = regions-not (wordsOf (c .before .before .before .before .before .before .before .before .before .before .before .before .args .plan .now)) (c .before .before .before .before .before .before .before .before .before .before .before .before .args .edges) (c .before .before .before .before .before .before .before .before .before .before .before .before .args .noted .now) (c .before .before .before .before .before .before .before .before .before .before .before .before .args .potential) _ _ _ _ _ _ _ (c .before .before .before .before .before .before .before .before .before .before .num-vertices .ensures) (c .before .before .before .before .before .before .before .before .before .num-edges .ensures) (c .before .before .before .before .before .before .before .before .weight-words .ensures) (c .before .before .before .before .before .compute-regions .ensures) (c .before .region-weights .ensures) (c .if1 .left)
 
 pub compute-spec : {M : Type 1} → statement M
 compute-spec =

@@ -3,14 +3,14 @@ use Prim.Native.Nat.{_-_, _≤_}
 use native.Mathlib.Omega.{arith}
 use borrow.Author.Needs.{needs}
 use Rattle.base.specs.Lists.{filled}
-use Rattle.plan.specs.Words.{weightOf}
+use Rattle.plan.specs.Words.{wordsOf, weightOf}
 use Rattle.views.specs.Compute.{weightWords}
 use Rattle.views.proofs.Filling.{filled-zero, filled-more, filled-done}
 use Rattle.views.proofs.compute.weight_words.Statement.{statement}
 use Rattle.views.proofs.compute.weight_words.Tie as tie
 
 abbrev Inv-loop : tie.InvT-loop
-Inv-loop plan words₀ v₀ words v = (v ≤ 64) × (words ≡ filled 0 v (weightOf plan) words₀)
+Inv-loop plan words₀ v₀ words v = (v ≤ 64) × (words ≡ filled 0 v (weightOf (wordsOf plan)) words₀)
 
 abbrev μ-loop : tie.MeasureT-loop
 μ-loop plan words₀ v₀ words v = 64 - v

@@ -3,6 +3,7 @@ use mathlib.Core.Path.{_≡_}
 use native.Mathlib.Omega.{arith}
 use borrow.Author.Needs.{needs}
 use Rattle.views.proofs.Ties.{extremes-found, extremes-none}
+use Rattle.plan.specs.Words.{wordsOf}
 use Rattle.views.proofs.members.extreme_vertices.Statement.{statement}
 use Rattle.views.proofs.members.extreme_vertices.Tie as tie
 
@@ -27,16 +28,16 @@ lowest-upper-requires c κs = search needs
 returns : tie.Need-returns
 returns c =
     let m = c .before .before .before .before .before .before .list-members in
-    let a = c .before .before .before .before .before .before .before .args in
+    let a = c .before .before .before .before .before .before .before .before .args in
     let z : m .result .count - 0 ≡ m .result .count = omega arith in
-    extremes-found (a .plan .now) (a .edges) (a .noted .now) (a .region) (m .result .known) (m .result .count) (m .result .list) (m .ensures .0) (m .ensures .1)
+    extremes-found (wordsOf (a .plan .now)) (a .edges) (a .noted .now) (a .region) (m .result .known) (m .result .count) (m .result .list) (m .ensures .0) (m .ensures .1)
     _ _ (m .result .count - 0) z (c .before .before .before .before .before .if1 .taken) (c .before .highest-lower .ensures) (c .lowest-upper .ensures)
 
 returns-2 : tie.Need-returns-2
 returns-2 c =
     let m = c .before .list-members in
-    let a = c .before .before .args in
-    extremes-none (a .plan .now) (a .edges) (a .noted .now) (a .region) (m .result .known) (m .result .count) (m .result .list) (m .ensures .0) (m .ensures .1) (c .if1 .left)
+    let a = c .before .before .before .args in
+    extremes-none (wordsOf (a .plan .now)) (a .edges) (a .noted .now) (a .region) (m .result .known) (m .result .count) (m .result .list) (m .ensures .0) (m .ensures .1) (c .if1 .left)
 
 pub extreme-vertices-spec : {M : Type 1} → statement M
 extreme-vertices-spec =

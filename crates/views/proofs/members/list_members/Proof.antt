@@ -3,6 +3,7 @@ use mathlib.Core.Path.{_≡_}
 use borrow.Author.Needs.{needs}
 use mathlib.Core.Bool.{true, false}
 use Rattle.views.proofs.Ties.{members-past, members-missing}
+use Rattle.plan.specs.Words.{wordsOf}
 use Rattle.views.proofs.members.list_members.Statement.{statement}
 use Rattle.views.proofs.members.list_members.Tie as tie
 
@@ -31,10 +32,10 @@ enum-told : tie.Need-enum-told
 enum-told c = search needs
 
 returns : tie.Need-returns
-returns c = members-past (c .before .before .before .before .before .before .before .before .before .args .plan .now) (c .before .before .before .before .before .before .before .before .before .args .edges) (c .before .before .before .before .before .before .before .before .before .args .noted .now) (c .before .before .before .before .before .before .before .before .before .args .region) _ (c .before .before .before .before .before .before .before .before .num-vertices .ensures) (c .before .before .before .before .before .before .before .num-edges .ensures) _ _ (c .before .before .before .before .region-vertices .ensures) _ (c .before .listed .given .1)
+returns c = members-past (wordsOf (c .before .before .before .before .before .before .before .before .before .before .args .plan .now)) (c .before .before .before .before .before .before .before .before .before .before .args .edges) (c .before .before .before .before .before .before .before .before .before .before .args .noted .now) (c .before .before .before .before .before .before .before .before .before .before .args .region) _ (c .before .before .before .before .before .before .before .before .num-vertices .ensures) (c .before .before .before .before .before .before .before .num-edges .ensures) _ _ (c .before .before .before .before .region-vertices .ensures) _ (c .before .listed .given .1)
 
 returns-2 : tie.Need-returns-2
-returns-2 c = (members-missing (c .before .before .before .before .before .before .before .before .args .plan .now) (c .before .before .before .before .before .before .before .before .args .edges) (c .before .before .before .before .before .before .before .before .args .noted .now) (c .before .before .before .before .before .before .before .before .args .region) _ (c .before .before .before .before .before .before .before .num-vertices .ensures) (c .before .before .before .before .before .before .num-edges .ensures) _ _ (c .before .before .before .region-vertices .ensures) (c .enum-told .given .1), λ (e : false ≡ true). absurd (false≢true e))
+returns-2 c = (members-missing (wordsOf (c .before .before .before .before .before .before .before .before .before .args .plan .now)) (c .before .before .before .before .before .before .before .before .before .args .edges) (c .before .before .before .before .before .before .before .before .before .args .noted .now) (c .before .before .before .before .before .before .before .before .before .args .region) _ (c .before .before .before .before .before .before .before .num-vertices .ensures) (c .before .before .before .before .before .before .num-edges .ensures) _ _ (c .before .before .before .region-vertices .ensures) (c .enum-told .given .1), λ (e : false ≡ true). absurd (false≢true e))
 
 pub list-members-spec : {M : Type 1} → statement M
 list-members-spec =
