@@ -19,6 +19,7 @@ use Rattle.base.proofs.Tests.{le-or-lt}
 use Rattle.base.proofs.Filled.{filled-length, filled-out}
 use Rattle.base.proofs.Some.{some-none}
 use Rattle.noting.proofs.Block.{iter-same}
+use Rattle.noting.proofs.Marks.{tab-length}
 use Rattle.noting.proofs.Sizes.{capped-le}
 use Rattle.noting.specs.Words.{capped}
 use Rattle.noting.specs.Note.{Noting, note}
@@ -32,11 +33,6 @@ use Rattle.judge.specs.Judge.{Judged}
 use Rattle.notifications.specs.declared.Progress.{Progress}
 use Rattle.notifications.specs.Notifications.{litAt, Way, isFine, stopping, fineBy, joinedBy, isDue, joined, notified, notifiedAt, notifiedAll, Ending, onceMoreBy, onceMore, lastPass, ended, goneThrough}
 use Rattle.graph_division.specs.Initialize.{savedTable, restoredTable, notedAt, notedUpTo}
-
-pub tab-length : (f : ℕ → ℕ) (n : ℕ) → length (tab f n) ≡ n
-unfolding tab
-tab-length f zero = refl
-tab-length f (suc n) = ap suc (tab-length (λ i. f (suc i)) n)
 
 -- ---- the copy
 -- a list whose first entries are stored anew, as far as it goes

@@ -20,7 +20,7 @@ use Rattle.base.proofs.Tests.{le-or-lt, and-next}
 use Rattle.noting.specs.Replay.{marked, setMark}
 use Rattle.noting.specs.Following.{markIn, marksOf}
 
-tab-length : (f : ℕ → ℕ) (n : ℕ) → length (tab f n) ≡ n
+pub tab-length : (f : ℕ → ℕ) (n : ℕ) → length (tab f n) ≡ n
 unfolding tab
 tab-length f zero = refl
 tab-length f (suc n) = ap suc (tab-length (λ i. f (suc i)) n)

@@ -32,9 +32,9 @@ ghost use Rattle.noting.specs.Replay.{place, holdsAt, followed, followSl
 ghost use Rattle.noting.specs.Following.{followEffect, Replays, wordDiffers, marksOf};
 
 // A bit for each distinct variable, 1 where it has stood.
-pub const MARK_WORDS: usize = 34;
+const MARK_WORDS: usize = 34;
 
-pub type Marks = [u64; MARK_WORDS];
+type Marks = [u64; MARK_WORDS];
 
 // Whether the log is as noting gives it, and how far it was read.
 pub struct Place {
