@@ -2,12 +2,13 @@
 use Prim.Native.Nat.{ℕ, zero, suc, _<_, _≤_}
 use native.Mathlib.Omega.{arith}
 use mathlib.Core.Path.{_≡_, refl, sym, ap, _∙_}
-use mathlib.Core.Bool.{Bool, true, false, _&&_}
+use mathlib.Core.Logic.{⊎-elim}
+use mathlib.Core.Bool.{true, _&&_}
 use mathlib.Core.List.{List, []}
 use lib.Dec.{eqb, ltb}
 use borrow.Author.Tests.{eq-eqb, ne-eqb, lt-ltb, le-ltb, ltb-false, eqb-true, ltb-true}
 use Rattle.base.specs.Iter.{iter, pick}
-use Rattle.base.proofs.Loop.{pick-yes, pick-no, tested}
+use Rattle.base.proofs.Loop.{pick-yes, pick-no, tested, eq-or-not}
 use Rattle.base.proofs.Tests.{and-left, and-right}
 use Rattle.division.specs.Plan.{Plan}
 use Rattle.division.specs.State.{State, crossedAt}
@@ -39,6 +40,10 @@ module _ (d : Plan) (s : State) (w : View) (r : ℕ) (a : List ℕ) where
   pub crowds-over : (z : ℕ) → w .pid r ≡ r → z ≡ sumLower s (greedy s 0 (w .cells r)) → w .pw r < z → ran (Crowded r) a ≡ ranOf (crowds d s w r begun) a
   unfolding ranOf stored verdictOf crowds ends pick
   crowds-over z e h k = simp (eq-eqb _ _ e, ← h, lt-ltb _ _ k)
+
+  -- what they need is no more than the region weighs, whether or not r is a label
+  pub crowds-light : sumLower s (greedy s 0 (w .cells r)) ≤ w .pw r → ran Going a ≡ ranOf (crowds d s w r begun) a
+  crowds-light k = ⊎-elim (λ e. crowds-fit _ e refl k) crowds-other (eq-or-not (w .pid r) r)
 
   pub meets-other : (w .did r ≡ r → ⊥) → ran Going a ≡ ranOf (meets d s w r begun) a
   unfolding ranOf stored verdictOf meets pick

@@ -1,38 +1,27 @@
 -- Passes that store their proposals as they go and stop at a verdict: each one, begun afresh on what those before it have
 -- stored, leaves what the definition leaves after them.
-use Prim.Native.Nat.{ℕ, zero, suc, _+_, _-_, _*_, _≤_}
+use Prim.Native.Nat.{ℕ, zero, suc, _+_, _-_, _≤_}
 use native.Mathlib.Omega.{arith}
 use native.Mathlib.Nat.{le-antisymm}
 use native.Mathlib.Numerals.{add-one, unary-clauses}
 use mathlib.Core.Path.{_≡_, refl, sym, ap, _∙_, subst}
 use mathlib.Core.Bool.{Bool, true, false, false≢true}
 use mathlib.Core.List.{List, [], _∷_, _++_, append-assoc}
-use lib.Dec.{ltb}
-use lib.ListN.{length, set, length-set}
+use lib.ListN.{length}
 use Rattle.base.specs.Iter.{iter, pick}
-use Rattle.base.proofs.Loop.{pick-ind}
 use Rattle.division.specs.Conflicts.{disconnectedInside, crossing, over, under, crowded, apart}
 use Rattle.division.specs.Analysis as abstract
 use Rattle.division.specs.Analysis.{Proposal, Out, going, conflict, zeroSize, still, guarded}
 use Rattle.reasons.specs.declared.Verdict.{Verdict}
 use Rattle.reasons.specs.declared.Verdict.the-variants.{Going}
 use Rattle.reasons.specs.Words.{put, firstWord, secondWord, stored}
+use Rattle.reasons.proofs.Stored.{stored-length}
 use Rattle.reasons.specs.Verdicts.{verdictOf, goesOn, begun, Ran, ran, ranOf}
 
 stored-append : (l m : List Proposal) (a : List ℕ) → stored (l ++ m) a ≡ stored l (stored m a)
 unfolding stored
 stored-append [] m a = refl
 stored-append (p ∷ l) m a = ap (put (p .lit) (firstWord (p .why)) (secondWord (p .why))) (stored-append l m a)
-
--- storing keeps an array's length
-put-length : (p x y : ℕ) (a : List ℕ) → length (put p x y a) ≡ length a
-unfolding put
-put-length p x y a = pick-ind (λ l. length l ≡ length a) (ltb (2 * p + 1) (length a)) (set (set a (2 * p) x) (2 * p + 1) y) a (λ _. simp length-set) (λ _. refl)
-
-stored-length : (l : List Proposal) (a : List ℕ) → length (stored l a) ≡ length a
-unfolding stored
-stored-length [] a = refl
-stored-length (p ∷ l) a = put-length (p .lit) (firstWord (p .why)) (secondWord (p .why)) (stored l a) ∙ stored-length l a
 
 pub ran-length : (r : Verdict) (c a : List ℕ) (o : Out) → ran r c ≡ ranOf o a → length c ≡ length a
 unfolding ranOf

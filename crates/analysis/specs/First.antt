@@ -4,7 +4,7 @@
 use mathlib.Core.Path.{_≡_}
 use mathlib.Core.Bool.{true}
 use mathlib.Core.List.{List}
-use Prim.Native.Nat.{ℕ, zero, suc, _+_, _*_, _%_, _<_}
+use Prim.Native.Nat.{ℕ, zero, suc, _+_, _*_, _%_, _<_, _≤_}
 use lib.Dec.{eqb, ltb}
 use lib.ListN.{getD}
 use Rattle.base.specs.Iter.{iter, pick}
@@ -18,13 +18,16 @@ unfoldable pub disconnectedEnd : List ℕ → ℕ → ℕ
 disconnectedEnd noted zero = 0
 disconnectedEnd noted (suc n) = pick (eqb (getD noted n 0) 1) (suc n) (disconnectedEnd noted n)
 
--- where regions a and b in this order are marked: two pairs of labels below 64 never share a place
+-- where regions a and b in this order are kept: two pairs of labels below 64 never share a place
 unfoldable pub pairPlace : ℕ → ℕ → ℕ
 pairPlace a b = 64 * (a % 64) + b % 64
 
--- where one of the first n edges matches an edge, the place of that edge's two regions is marked
-abbrev pub Walled : Words → ℕ → List ℕ → Type 0
-Walled x n walls = (g h : ℕ) → h < n → on matches x g h ≡ true → getD walls (pairPlace (on lid x g) (on rid x g)) 0 ≡ 0 → ⊥
+-- the edges kept, each plus 1, and 0 where none is: each is one of the first n, and where edge h of these matches edge g, the place of
+-- g's two regions keeps an edge, none above h
+pub record Walled (x : Words) (n : ℕ) (walls : List ℕ) : Type 0 where
+  pub below : (i : ℕ) → getD walls i 0 ≤ n
+  pub some : (g h : ℕ) → h < n → on matches x g h ≡ true → 0 < getD walls (pairPlace (on lid x g) (on rid x g)) 0
+  pub least : (g h : ℕ) → h < n → on matches x g h ≡ true → getD walls (pairPlace (on lid x g) (on rid x g)) 0 ≤ h + 1
 
 module _ (d : Plan) (s : State) (w : View) where
   unfoldable pub meetsFirst : ℕ → Out → Out

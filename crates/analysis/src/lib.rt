@@ -14,7 +14,7 @@ use noting::Noted;
 use views::View;
 ghost use mathlib.Core.Path.{_≡_};
 ghost use mathlib.Core.List.{[]};
-ghost use Prim.Native.Nat.{ℕ, pred, suc, _+_, _*_, _/_, _<_, _≤_};
+ghost use Prim.Native.Nat.{pred, _+_, _*_, _/_, _<_};
 ghost use mathlib.Core.Bool.{_&&_};
 ghost use lib.Dec.{eqb, ltb};
 ghost use Rattle.base.specs.Iter.{pick};
@@ -129,18 +129,35 @@ fn size_below(plan: &[u8], v: usize, i: usize, x: u64) -> bool
     (plan::domain(plan, v, i) as u64) < x
 }
 
-// How many of the first n sizes of v, which rise, are below x: the Rust's `partition_point`.
+// How many sizes there are up to the last one below x, with size i among them: k is how many among the first i.
+fn with_size(plan: &[u8], v: usize, x: u64, i: usize, k: usize) -> usize
+    requires { ⌜ i < 32 ⌝ }
+    ensures { λ r. ⌜ r ≡ pick (ltb (domainOf (wordsOf (now (plan .entry))) v i) x) (i + 1) k ⌝ }
+{
+    if size_below(plan, v, i, x) {
+        return i + 1;
+    }
+    k
+}
+
+// How many of the first n sizes of v, which rise, are below x: the Rust's `partition_point`. No call tests that they
+// rise, so each is looked at, and none ends the loop: no branch hangs on a size. Those past the 32 there can be are 0.
 fn sizes_below(plan: &[u8], v: usize, x: u64, n: usize) -> usize
     ensures { λ r. ⌜ r ≡ place (domainOf (wordsOf (now (plan .entry))) v) x n ⌝ }
 {
-    let mut k = n;
-    while 0 < k {
-        if size_below(plan, v, k - 1, x) {
-            return k;
-        }
-        k -= 1;
+    if x == 0 {
+        return 0;
     }
-    0
+    if 32 < n {
+        return n;
+    }
+    let mut k = 0;
+    let mut i = 0;
+    while i < n {
+        k = with_size(plan, v, x, i, k);
+        i += 1;
+    }
+    k
 }
 
 // The place of the literal: the size of v is at least x.

@@ -5,6 +5,7 @@ use crate::edge_state;
 use crate::left_region;
 use crate::right_region;
 use edge_table::Edges;
+use graph::bounds::wide;
 use noting::Noted;
 use reasons::Verdict;
 use reasons::goes_on;
@@ -191,7 +192,7 @@ fn first_undecided(noted: &Noted, n: usize) -> usize
     n
 }
 
-// Where regions a and b, in this order, are marked.
+// Where the lowest wall between regions a and b, in this order, is kept.
 fn pair_place(a: usize, b: usize) -> usize
     ensures { λ r. ⌜ r ≡ pairPlace a b ⌝ }
 {
@@ -204,26 +205,28 @@ fn no_walls() -> [u8; 4096]
     [0u8; 4096]
 }
 
-// The pairs of regions, in both orders, that the disconnected ones of the first n edges join.
-fn walls_between(edges: &Edges, noted: &Noted, view: &View, n: usize) -> [u8; 4096]
-    requires { ⌜ n ≤ 128 ⌝ }
-    ensures { λ r. ⌜ Walled (words [] (now (edges .entry)) (now (noted .entry)) (now (view .entry))) n r ⌝ }
+// For each pair of regions, in both orders, the lowest of the first n edges that is disconnected and joins them, plus 1.
+// From the highest edge down, so that the lowest stays.
+fn lowest_walls(edges: &Edges, noted: &Noted, view: &View, n: usize, walls: &mut [u8; 4096])
+    requires { ⌜ (n ≤ 128) × (now walls ≡ replicate 4096 0) ⌝ }
+    ensures { λ _. ⌜ Walled (words [] (now (edges .entry)) (now (noted .entry)) (now (view .entry))) n (now (walls .exit)) ⌝ }
 {
-    let mut walls = no_walls();
-    for h in 0..n {
+    let mut k = n;
+    while 0 < k {
+        let h = k - 1;
         if is_disconnected(noted, h) {
             let a = left_region(edges, view, h);
             let b = right_region(edges, view, h);
-            walls[pair_place(a, b)] = 1;
-            walls[pair_place(b, a)] = 1;
+            walls[pair_place(a, b)] = k as u8;
+            walls[pair_place(b, a)] = k as u8;
         }
+        k = h;
     }
-    walls
 }
 
-// `lowest_match`, which searches only where the regions of edge g are marked: most loose edges have no match, and for each of them
-// it would look at all n edges.
-fn marked_match(
+// `lowest_match` by one read. It searches only where the edge kept there joins two other regions, which never happens to
+// labels below 64.
+fn walled_match(
     edges: &Edges,
     noted: &Noted,
     view: &View,
@@ -235,8 +238,13 @@ fn marked_match(
     ensures { λ r. ⌜ r ≡ lowest (on matches (words [] (now (edges .entry)) (now (noted .entry)) (now (view .entry))) g) n ⌝ }
 {
     let place = pair_place(left_region(edges, view, g), right_region(edges, view, g));
-    if walls[place] == 0 {
+    let k = wide(walls[place]);
+    if k == 0 {
         return n;
+    }
+    let h = k - 1;
+    if matches(edges, noted, view, g, h) {
+        return h;
     }
     lowest_match(edges, noted, view, g, n)
 }
@@ -256,7 +264,7 @@ fn matched(
     ensures { λ _. ⌜ ran Going (now (proposals .exit)) ≡ ranOf (on matched (words (wordsOf (now (plan .entry))) (now (edges .entry)) (now (noted .entry)) (now (view .entry))) g begun) (now (proposals .entry)) ⌝ }
 {
     if loose(edges, noted, view, g) {
-        let h = marked_match(edges, noted, view, walls, g, end);
+        let h = walled_match(edges, noted, view, walls, g, end);
         if h < end {
             let flip = left_region(edges, view, g) == right_region(edges, view, h);
             put(
@@ -269,7 +277,7 @@ fn matched(
     }
 }
 
-// Every edge in order. Where none is disconnected or none is undecided, none matches, and nothing is marked.
+// Every edge in order. Where none is disconnected or none is undecided, none matches, and nothing is kept.
 pub(crate) fn disconnect_matched(
     plan: &[u8],
     edges: &Edges,
@@ -288,7 +296,8 @@ pub(crate) fn disconnect_matched(
     if first_undecided(noted, n) == n {
         return;
     }
-    let walls = walls_between(edges, noted, view, end);
+    let mut walls = no_walls();
+    lowest_walls(edges, noted, view, end, &mut walls);
     for g in 0..n {
         matched(plan, edges, noted, view, &walls, g, end, proposals);
     }

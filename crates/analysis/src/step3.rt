@@ -12,17 +12,18 @@ use reasons::packed;
 use reasons::put;
 use sat::negation;
 use views::View;
+use views::cells::lower_bound_sums;
 use views::cells::required_weight;
 use views::cells::separate_ranges;
 ghost use mathlib.Core.Path.{_≡_};
-ghost use mathlib.Core.List.{List, []};
-ghost use Prim.Native.Nat.{ℕ, _+_, _<_, _≤_, min};
-ghost use lib.Dec.{eqb, ltb};
-ghost use Rattle.base.specs.Iter.{iter, pick};
+ghost use mathlib.Core.List.{[]};
+ghost use Prim.Native.Nat.{_≤_};
+ghost use Rattle.base.specs.Iter.{iter};
 ghost use Rattle.plan.specs.Words.{wordsOf, verticesOf};
 ghost use Rattle.division.specs.Analysis.{cuts, crowds, guarded};
 ghost use Rattle.reasons.specs.declared.Verdict.the-variants.{Going};
 ghost use Rattle.reasons.specs.Verdicts.{begun, ran, ranOf};
+ghost use Rattle.views.specs.Cells.{lowerBoundSum};
 ghost use Rattle.analysis.specs.Placed.{words, on, Finds};
 
 // Vertex v: no more than what can be joined to it.
@@ -63,15 +64,19 @@ pub(crate) fn cut_upper_bounds(
     Verdict::Going
 }
 
-// The potential region with label r: its separate ranges need more than it weighs.
-fn crowds(plan: &[u8], noted: &Noted, view: &View, r: usize) -> Verdict
-    requires { ⌜ verticesOf (wordsOf (now plan)) ≤ 64 ⌝ }
+// The potential region with label r: its separate ranges need more than it weighs. Its vertices are put in order only
+// where all their lower bounds, added, are more than that.
+fn crowds(plan: &[u8], noted: &Noted, view: &View, r: usize, sum: u64) -> Verdict
+    requires { ⌜ (verticesOf (wordsOf (now plan)) ≤ 64) × (sum ≡ lowerBoundSum (now noted) (now view) (verticesOf (wordsOf (now plan))) r) ⌝ }
     ensures { λ x. ⌜ Finds x (on crowds (words (wordsOf (now (plan .entry))) [] (now (noted .entry)) (now (view .entry))) r begun) ⌝ }
 {
+    let weight = views::potential_region_weight(view, r) as u64;
+    if sum <= weight {
+        return Verdict::Going;
+    }
     if views::potential_region(view, r) as usize == r {
         let mut chosen = [0u8; 64];
         let count = separate_ranges(plan, noted, view, r, &mut chosen);
-        let weight = views::potential_region_weight(view, r) as u64;
         if weight < required_weight(noted, &chosen, count) {
             return Verdict::Crowded { region: r };
         }
@@ -85,8 +90,9 @@ pub(crate) fn check_crowded(plan: &[u8], noted: &Noted, view: &View) -> Verdict
     ensures { λ r. ⌜ Finds r (iter (guarded (on crowds (words (wordsOf (now (plan .entry))) [] (now (noted .entry)) (now (view .entry))))) (verticesOf (wordsOf (now (plan .entry)))) begun) ⌝ }
 {
     let n = plan::num_vertices(plan) as usize;
+    let sums = lower_bound_sums(noted, view, n);
     for r in 0..n {
-        let found = crowds(plan, noted, view, r);
+        let found = crowds(plan, noted, view, r, sums[r]);
         if goes_on(found) {
             continue;
         }

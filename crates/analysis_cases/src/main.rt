@@ -312,8 +312,8 @@ fn put_proposals(plan: &[u8], edges: Edges, noted: &Noted, proposals: &Proposals
             plan,
             edges,
             noted,
-            proposals[2 * p],
-            proposals[2 * p + 1],
+            proposals[68 + 2 * p],
+            proposals[69 + 2 * p],
             p,
         );
         p += 1;
@@ -324,7 +324,7 @@ fn show_analysis(plan: &[u8], edges: Edges, lits: &[i32; 2176], count: usize) {
     let mut noted = [0u32; 384];
     let mut log = [0u64; 4352];
     note_all(plan, lits, count, &mut noted, &mut log);
-    let mut proposals = [0u64; 8704];
+    let mut proposals = [0u64; 8772];
     let crossed = noting::note::crossed(plan, &noted);
     let verdict = analysis::analyze::analyze(plan, edges, &noted, crossed, &mut proposals);
     put_verdict(plan, edges, &noted, verdict);

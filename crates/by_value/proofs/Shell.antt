@@ -23,7 +23,7 @@ module _ (s : GraphDivision) (c : Cursor) (es : List (List ℕ)) (g : es ≡ s .
   parts : Parts s (wordsOf b) es (s .noted)
   parts = record { plan = w; edges = g; noted = refl }
 
-  module _ (z : GraphDivision) (words₀ : List ℕ) (o : words₀ ≡ replicate 8704 0) (noted words left : List ℕ) (d : Done) (t₀ list₀ log₀ t list log : List ℕ) where
+  module _ (z : GraphDivision) (words₀ : List ℕ) (o : words₀ ≡ replicate 8772 0) (noted words left : List ℕ) (d : Done) (t₀ list₀ log₀ t list log : List ℕ) where
     pub propagate-shell : (left₀ : List ℕ) (lit lit′ pending pending′ : ℤ) → left₀ ≡ replicate 260 0 → lit′ ≡ lit → pending′ ≡ pending → z ≡ stateAfter s noted words left d →
         ((x : GraphDivision) → Parts x (wordsOf b) es (s .noted) → calledOf x noted words left d t list log ≡ propagatedOver x c words₀ left₀ lit′ pending′ t₀ list₀ log₀) →
         called (outcome z (d .cursor) (d .answer)) t list log ≡ propagated s c lit pending t₀ list₀ log₀

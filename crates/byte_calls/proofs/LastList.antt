@@ -245,7 +245,7 @@ module _ (s : GraphDivision) (c : Cursor) (h : Fits s) where
 
   settled-fits : (l : ℕ) (t list log : List ℕ) → Fits (settled s c l t list log .outcome .state)
   unfolding settled
-  settled-fits l t list log = settled-by-fits l _ _ t list log (judged-most 260 (s .plan) (s .edges .ends) _ (replicate 260 0) (length-replicate {A = ℕ} 260 0) t (replicate 8704 0))
+  settled-fits l t list log = settled-by-fits l _ _ t list log (judged-most 260 (s .plan) (s .edges .ends) _ (replicate 260 0) (length-replicate {A = ℕ} 260 0) t (replicate 8772 0))
 
   pub propagated-fits : (lit pending : ℤ) (t list log : List ℕ) → Fits (propagated s c lit pending t list log .outcome .state)
   unfolding propagated adding refuse

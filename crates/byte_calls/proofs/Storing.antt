@@ -47,8 +47,8 @@ module _ (words : List ℕ) where
   unfolding putReason
   putReason-agrees q b lo hi h = pick-ind (λ (c : List ℕ). Agree lo hi c b) (proposedAt words q) _ b
       (λ (t : proposedAt words q ≡ true). agree-then
-      (putLong-agrees (63816 + 16 * q) (getD words (2 * q + 1) 0) (putLong (63808 + 16 * q) (getD words (2 * q) 0) b) lo hi (⊎-elim (λ (k : hi ≤ 63808 + 16 * q). inl (omega arith)) (λ (k : 63824 + 16 * q ≤ lo). inr (omega arith)) h))
-      (putLong-agrees (63808 + 16 * q) (getD words (2 * q) 0) b lo hi (⊎-elim (λ (k : hi ≤ 63808 + 16 * q). inl k) (λ (k : 63824 + 16 * q ≤ lo). inr (omega arith)) h)))
+      (putLong-agrees (63816 + 16 * q) (getD words (69 + 2 * q) 0) (putLong (63808 + 16 * q) (getD words (68 + 2 * q) 0) b) lo hi (⊎-elim (λ (k : hi ≤ 63808 + 16 * q). inl (omega arith)) (λ (k : 63824 + 16 * q ≤ lo). inr (omega arith)) h))
+      (putLong-agrees (63808 + 16 * q) (getD words (68 + 2 * q) 0) b lo hi (⊎-elim (λ (k : hi ≤ 63808 + 16 * q). inl k) (λ (k : 63824 + 16 * q ≤ lo). inr (omega arith)) h)))
       (λ (t : proposedAt words q ≡ false). record { at = λ i l u. refl })
 
   pub putReasons-agrees : (n : ℕ) (b : List ℕ) (lo hi : ℕ) → (hi ≤ 63808) ⊎ (63808 + 16 * n ≤ lo) → Agree lo hi (iter (putReason words) n b) b
@@ -61,14 +61,14 @@ module _ (words : List ℕ) where
   -- the words of each place read back, where they are proposed
   module _ (small : (i : ℕ) → getD words i 0 < 18446744073709551616) where
     both-in : (p : ℕ) (b : List ℕ) → 63824 + 16 * p ≤ length b →
-        reasonIn (putLong (63816 + 16 * p) (getD words (2 * p + 1) 0) (putLong (63808 + 16 * p) (getD words (2 * p) 0) b)) p ≡ holding (reasonOf (getD words (2 * p) 0) (getD words (2 * p + 1) 0))
+        reasonIn (putLong (63816 + 16 * p) (getD words (69 + 2 * p) 0) (putLong (63808 + 16 * p) (getD words (68 + 2 * p) 0) b)) p ≡ holding (reasonOf (getD words (68 + 2 * p) 0) (getD words (69 + 2 * p) 0))
     unfolding reasonIn
     both-in p b r =
-        let first : longAt (putLong (63816 + 16 * p) (getD words (2 * p + 1) 0) (putLong (63808 + 16 * p) (getD words (2 * p) 0) b)) (63808 + 16 * p) ≡ getD words (2 * p) 0 =
-        agree-long (63808 + 16 * p) (putLong-agrees (63816 + 16 * p) (getD words (2 * p + 1) 0) (putLong (63808 + 16 * p) (getD words (2 * p) 0) b) (63808 + 16 * p) (63816 + 16 * p) (inl (omega arith))) (omega arith) (omega arith)
-        ∙ putLong-in (63808 + 16 * p) (getD words (2 * p) 0) b (small (2 * p)) (omega arith) in
-        let second : longAt (putLong (63816 + 16 * p) (getD words (2 * p + 1) 0) (putLong (63808 + 16 * p) (getD words (2 * p) 0) b)) (63816 + 16 * p) ≡ getD words (2 * p + 1) 0 =
-        putLong-in (63816 + 16 * p) (getD words (2 * p + 1) 0) (putLong (63808 + 16 * p) (getD words (2 * p) 0) b) (small (2 * p + 1)) (omega (arith, putLong-length (63808 + 16 * p) (getD words (2 * p) 0) b)) in
+        let first : longAt (putLong (63816 + 16 * p) (getD words (69 + 2 * p) 0) (putLong (63808 + 16 * p) (getD words (68 + 2 * p) 0) b)) (63808 + 16 * p) ≡ getD words (68 + 2 * p) 0 =
+        agree-long (63808 + 16 * p) (putLong-agrees (63816 + 16 * p) (getD words (69 + 2 * p) 0) (putLong (63808 + 16 * p) (getD words (68 + 2 * p) 0) b) (63808 + 16 * p) (63816 + 16 * p) (inl (omega arith))) (omega arith) (omega arith)
+        ∙ putLong-in (63808 + 16 * p) (getD words (68 + 2 * p) 0) b (small (68 + 2 * p)) (omega arith) in
+        let second : longAt (putLong (63816 + 16 * p) (getD words (69 + 2 * p) 0) (putLong (63808 + 16 * p) (getD words (68 + 2 * p) 0) b)) (63816 + 16 * p) ≡ getD words (69 + 2 * p) 0 =
+        putLong-in (63816 + 16 * p) (getD words (69 + 2 * p) 0) (putLong (63808 + 16 * p) (getD words (68 + 2 * p) 0) b) (small (69 + 2 * p)) (omega (arith, putLong-length (63808 + 16 * p) (getD words (68 + 2 * p) 0) b)) in
         λ i. holding (reasonOf (first i) (second i))
 
     reason-here : (p : ℕ) (b : List ℕ) → 63824 + 16 * p ≤ length b → reasonIn (putReason words p b) p ≡ newest words p (reasonIn b p)

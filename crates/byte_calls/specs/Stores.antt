@@ -19,7 +19,7 @@ pub record BytesKept (before after : List ℕ) : Type 0 where
 
 -- the two words of place p, where it is proposed
 unfoldable pub putReason : List ℕ → ℕ → List ℕ → List ℕ
-putReason words p b = pick (proposedAt words p) (putLong (63816 + 16 * p) (getD words (2 * p + 1) 0) (putLong (63808 + 16 * p) (getD words (2 * p) 0) b)) b
+putReason words p b = pick (proposedAt words p) (putLong (63816 + 16 * p) (getD words (69 + 2 * p) 0) (putLong (63808 + 16 * p) (getD words (68 + 2 * p) 0) b)) b
 
 unfoldable pub putReasons : List ℕ → List ℕ → List ℕ → List ℕ
 putReasons ws words b = iter (putReason words) (capped (2 * variablesOf ws) 4352) b

@@ -35,7 +35,7 @@ ghost use Rattle.graph_division.specs.Calls.{undone};
 
 // The state's words that a call has changed.
 fn store_state(state: &mut [u8], noted: &[u32], proposals: &[u64], words: &[u32], done: Done)
-    requires { ⌜ (133440 ≤ length (now state)) × (length (now noted) ≡ 384) × (length (now proposals) ≡ 8704) × (length (now words) ≡ 260) ⌝ }
+    requires { ⌜ (133440 ≤ length (now state)) × (length (now noted) ≡ 384) × (length (now proposals) ≡ 8772) × (length (now words) ≡ 260) ⌝ }
     ensures { λ _. ⌜ (stateAfter (stateIn (now (state .entry))) (now (noted .entry)) (now (proposals .entry)) (now (words .entry)) done .«last_len» < 4294967296 →
         stateIn (now (state .exit)) ≡ stateAfter (stateIn (now (state .entry))) (now (noted .entry)) (now (proposals .entry)) (now (words .entry)) done) ⌝ }
     ensures { λ _. ⌜ BytesKept (now (state .entry)) (now (state .exit)) ⌝ }
@@ -65,7 +65,7 @@ pub(crate) fn finish(
     before: Cursor,
     done: Done,
 ) -> i32
-    requires { ⌜ (133440 ≤ length (now state)) × (length (now noted) ≡ 384) × (length (now proposals) ≡ 8704) × (length (now words) ≡ 260)
+    requires { ⌜ (133440 ≤ length (now state)) × (length (now noted) ≡ 384) × (length (now proposals) ≡ 8772) × (length (now words) ≡ 260)
         × (2 * length (now lits) ≤ length (now list)) × (8 * length (now records) ≤ length (now log)) × (8 ≤ length (now cursor)) ⌝ }
     ensures { λ r. ⌜ leftWith r [] (now (list .exit)) (now (log .exit)) (now (cursor .exit)) ≡
         leftBy (done .answer) «before» (done .cursor) [] (now (lits .entry)) (now (records .entry))

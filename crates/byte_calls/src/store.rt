@@ -16,17 +16,17 @@ ghost use Rattle.byte_calls.specs.Stores.{putReason, putReasons, putLast
 
 // The two words of place p, where it is proposed.
 fn store_reason(state: &mut [u8], proposals: &[u64], p: usize)
-    requires { ⌜ (133440 ≤ length (now state)) × (length (now proposals) ≡ 8704) × (p < 4352) ⌝ }
+    requires { ⌜ (133440 ≤ length (now state)) × (length (now proposals) ≡ 8772) × (p < 4352) ⌝ }
     ensures { λ _. ⌜ now (state .exit) ≡ putReason (now (proposals .entry)) p (now (state .entry)) ⌝ }
 {
     if sweep::proposed(proposals, p) {
-        put_long(state, 63808 + 16 * p, proposals[2 * p]);
-        put_long(state, 63816 + 16 * p, proposals[2 * p + 1]);
+        put_long(state, 63808 + 16 * p, proposals[68 + 2 * p]);
+        put_long(state, 63816 + 16 * p, proposals[69 + 2 * p]);
     }
 }
 
 pub(crate) fn store_reasons(state: &mut [u8], proposals: &[u64])
-    requires { ⌜ (133440 ≤ length (now state)) × (length (now proposals) ≡ 8704) ⌝ }
+    requires { ⌜ (133440 ≤ length (now state)) × (length (now proposals) ≡ 8772) ⌝ }
     ensures { λ _. ⌜ now (state .exit) ≡ putReasons (wordsOf (now (state .entry))) (now (proposals .entry)) (now (state .entry)) ⌝ }
 {
     let n = capped(2 * (plan::num_variables(state) as usize), 4352);

@@ -105,7 +105,7 @@ module _ (s : GraphDivision) (c : Cursor) where
 
   unfoldable pub settled : ℕ → List ℕ → List ℕ → List ℕ → Called
   settled l t list log =
-      let j = judgeWords (s .plan) (s .edges .ends) (triedOut l) t (replicate 8704 0) (replicate 260 0) in
+      let j = judgeWords (s .plan) (s .edges .ends) (triedOut l) t (replicate 8772 0) (replicate 260 0) in
       settledBy l j (j .judgement) t list log
 
   -- `propagate`

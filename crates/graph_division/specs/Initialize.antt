@@ -67,7 +67,7 @@ module _ (s : GraphDivision) (c : Cursor) (t log words left : List ℕ) (x : Pro
 module _ (s : GraphDivision) (c : Cursor) (t log : List ℕ) where
   -- nothing is notified yet
   unfoldable pub entering : Way
-  entering = way (progress Fine 0 (s .«last_len») 0) (s .noted) t (replicate 8704 0) (replicate 8704 0) (replicate 8704 0) (s .last)
+  entering = way (progress Fine 0 (s .«last_len») 0) (s .noted) t (replicate 8704 0) (replicate 8772 0) (replicate 8772 0) (s .last)
 
   -- all are, up to a conflict or a refusal, and the last pass is made
   unfoldable pub finished : Way

@@ -99,13 +99,13 @@ module _ (ws : List ℕ) (d : Plan) (ls t proposals l : List ℕ) (x : Judged) (
 
 -- `hand_on` of the words that are left hands on what the definition does
 pub judged-handed : (ws : List ℕ) (ends : List (List ℕ)) (noted ls : List ℕ) → Agrees ws ends noted ls → (t proposals l : List ℕ) (x : Judged) → JudgedBy ws (planOf ws ends) ls t proposals l x →
-    4 * variablesOf ws ≤ length proposals → x .judgement ≡ Fine → (list : List ℕ) (at : ℕ) → at + 2 * variablesOf ws ≤ length list →
+    68 + 4 * variablesOf ws ≤ length proposals → x .judgement ≡ Fine → (list : List ℕ) (at : ℕ) → at + 2 * variablesOf ws ≤ length list →
     handedOn ws (x .proposals) (handing t list at) ≡
     handing (looked (planOf ws ends) ls t .table) (sets list at (looked (planOf ws ends) ls t .handed)) (at + length (looked (planOf ws ends) ls t .handed))
 judged-handed ws ends noted ls k t proposals l x j room e list at h =
     let d = planOf ws ends in
     let ps = analysis d ls .props in
-    let z = cleared ws proposals in
+    let z = cleared proposals in
     let (a, b) = fine-hands d ls t (saw d ls t) (judged-fine ws d ls t proposals l x j .0 e) in
     ap (λ (w : List ℕ). handedOn ws w (handing t list at)) (j .words)
     ∙ handed-all ws ends (k .held .proper) z (judged-blank ws ends noted ls k proposals room) going (atPlaces ws ps) (judged-inside ws ends noted ls k) t list at h

@@ -30,6 +30,7 @@ use Rattle.plan.specs.Plan.{planOf}
 use Rattle.noting.specs.Words.{stateOf}
 use Rattle.reasons.specs.Words.{stored}
 use Rattle.reasons.specs.Reason.{reasonOf}
+use Rattle.reasons.proofs.Stored.{reasonAt, orElse}
 use Rattle.walks.specs.Written.{outOf}
 use Rattle.walks.specs.Answers.{given}
 use Rattle.lists.specs.Parts.{andWord}
@@ -57,7 +58,7 @@ within-names d (inconsistentBoundsIfRegionsAreMerged g a b f) (h, i, j) = (i, j)
 within-names d (boundPropagationWithinRegion p u ls) h = tt
 within-names d (adjacentSameSizeRegions a la ua b lb ub u) h = tt
 
-module _ (ws : List ℕ) (ends : List (List ℕ)) (noted ls : List ℕ) (k : Agrees ws ends noted ls) (proposals : List ℕ) (room : 4 * variablesOf ws ≤ length proposals) where
+module _ (ws : List ℕ) (ends : List (List ℕ)) (noted ls : List ℕ) (k : Agrees ws ends noted ls) (proposals : List ℕ) (room : 68 + 4 * variablesOf ws ≤ length proposals) where
   abbrev d : Plan
   d = planOf ws ends
 
@@ -72,7 +73,7 @@ module _ (ws : List ℕ) (ends : List (List ℕ)) (noted ls : List ℕ) (k : Agr
 
   -- the proposals' words after the analysis
   abbrev words : List ℕ
-  words = stored (atPlaces ws ps) (cleared ws proposals)
+  words = stored (atPlaces ws ps) (cleared proposals)
 
   -- the list of a place's reason is the one that the definition gives
   module _ (q : ℕ) (h : q < 2 * variablesOf ws) (r : Reason) (e : runs.reasonOf (uniqueLitAt ws q) ps ≡ r ∷ []) where
@@ -92,11 +93,11 @@ module _ (ws : List ℕ) (ends : List (List ℕ)) (noted ls : List ℕ) (k : Agr
         ap negate z
 
     lits-are : (l : List ℕ) → falseLits ws ends noted words q l ≡ given (listOf d u r ++ (negate (uniqueLitAt ws q) ∷ [])) (outOf l 0)
-    unfolding falseLits
+    unfolding falseLits orElse
     lits-are l =
         ap₂ andWord negation-is
-        (reason-listed ws ends noted (k .held) (reasonOf (getD words (2 * q) 0) (getD words (2 * q + 1) 0)) r (outOf l 0)
-        (judged-reasons ws ends noted ls k proposals room q h ∙ e) within there
+        (reason-listed ws ends noted (k .held) (reasonOf (getD words (68 + 2 * q) 0) (getD words (69 + 2 * q) 0)) r (outOf l 0)
+        (judged-reasons ws ends noted ls k proposals room q h ∙ ap (λ (m : List Reason). orElse m (reasonAt (cleared proposals) q)) e) within there
         ∙ ap (λ (m : List ℕ). given m (outOf l 0)) (list-same d (proper ws ends noted ls k) s u (k .state) r (within-names d r within)))
         ∙ word-given (negate (uniqueLitAt ws q)) (listOf d u r) (outOf l 0)
 
@@ -119,14 +120,14 @@ module _ (ws : List ℕ) (ends : List (List ℕ)) (noted ls : List ℕ) (k : Agr
     firsts : at < 2 * variablesOf ws → firstFalse t (offers (analysis d ls)) ≡ uniqueLitAt ws at ∷ []
     firsts h =
         ap (firstFalse t) (sym (judged-offers ws ends noted ls k going))
-        ∙ false-some ws ends (k .held .proper) (cleared ws proposals) (judged-blank ws ends noted ls k proposals room) going (atPlaces ws ps) (judged-inside ws ends noted ls k) t h .0
+        ∙ false-some ws ends (k .held .proper) (cleared proposals) (judged-blank ws ends noted ls k proposals room) going (atPlaces ws ps) (judged-inside ws ends noted ls k) t h .0
 
     -- no proposal is false
     pub fine-found : ltb at (2 * variablesOf ws) ≡ false → (firstFalse t (offers (analysis d ls)) ≡ []) × (judgeProposals ws ends noted t words l ≡ listing Fine l)
     unfolding judgeProposals
     fine-found e = (
       ap (firstFalse t) (sym (judged-offers ws ends noted ls k going))
-          ∙ false-none ws ends (k .held .proper) (cleared ws proposals) (judged-blank ws ends noted ls k proposals room) going (atPlaces ws ps) (judged-inside ws ends noted ls k) t (ltb-false at (2 * variablesOf ws) e),
+          ∙ false-none ws ends (k .held .proper) (cleared proposals) (judged-blank ws ends noted ls k proposals room) going (atPlaces ws ps) (judged-inside ws ends noted ls k) t (ltb-false at (2 * variablesOf ws) e),
       pick-no _ _ e,
     )
 

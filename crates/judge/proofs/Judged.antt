@@ -72,7 +72,7 @@ keeps d ls t (sawConflict c e) = refl
 keeps d ls t (sawFalse p ps e h) = refl
 keeps d ls t (sawFine e) = refl
 
-module _ (ws : List ℕ) (ends : List (List ℕ)) (noted ls : List ℕ) (k : Agrees ws ends noted ls) (proposals : List ℕ) (room : 4 * variablesOf ws ≤ length proposals) (t l : List ℕ) (long : edgesOf ws + 2 * verticesOf ws + 4 ≤ length l) where
+module _ (ws : List ℕ) (ends : List (List ℕ)) (noted ls : List ℕ) (k : Agrees ws ends noted ls) (proposals : List ℕ) (room : 68 + 4 * variablesOf ws ≤ length proposals) (t l : List ℕ) (long : edgesOf ws + 2 * verticesOf ws + 4 ≤ length l) where
   abbrev d : Plan
   d = planOf ws ends
 
@@ -80,7 +80,7 @@ module _ (ws : List ℕ) (ends : List (List ℕ)) (noted ls : List ℕ) (k : Agr
   o = analysis d ls
 
   abbrev words : List ℕ
-  words = stored (atPlaces ws (o .props)) (cleared ws proposals)
+  words = stored (atPlaces ws (o .props)) (cleared proposals)
 
   going-answers : Answers (lookedBy d ls t o going) l (judgeFound ws ends noted t (verdictOf going) words l)
   unfolding lookedBy judgeFound verdictOf
@@ -104,11 +104,11 @@ module _ (ws : List ℕ) (ends : List (List ℕ)) (noted ls : List ℕ) (k : Agr
 
   has-room : hasRoom ws proposals l ≡ true
   unfolding hasRoom
-  has-room = pick-no _ _ (le-ltb (length proposals) (4 * variablesOf ws) room) ∙ pick-no _ _ (le-ltb (length l) (edgesOf ws + 2 * verticesOf ws + 4) long)
+  has-room = pick-no _ _ (le-ltb (length proposals) (68 + 4 * variablesOf ws) room) ∙ pick-no _ _ (le-ltb (length l) (edgesOf ws + 2 * verticesOf ws + 4) long)
 
   words-are : judgeWords ws ends noted t proposals l ≡ withWords words (judgeFound ws ends noted t (verdictOf (o .verdict)) words l)
   unfolding judgeWords judgeTold judgeRan ranOf relabelled
-  words-are = pick-yes _ _ has-room ∙ ap (judgeRan ws ends noted t l) (ran-is ws ends noted ls k (cleared ws proposals))
+  words-are = pick-yes _ _ has-room ∙ ap (judgeRan ws ends noted t l) (ran-is ws ends noted ls k (cleared proposals))
 
   pub judged-words : JudgedBy ws d ls t proposals l (judgeWords ws ends noted t proposals l)
   unfolding looked withWords
@@ -125,6 +125,6 @@ judge-told ws ends noted v t proposals l e h = h ∙ ap (λ (u : ℕ). judgeTold
 
 -- `judge` of a proper plan's words, where what it is lent passes refusal 7: the table may hold anything
 pub judged : (ws : List ℕ) (ends : List (List ℕ)) → ProperWords ws ends → 4360 ≤ length ws → (x : Noting) → GoodLog ws x →
-    (t proposals l : List ℕ) → 4 * variablesOf ws ≤ length proposals → edgesOf ws + 2 * verticesOf ws + 4 ≤ length l →
+    (t proposals l : List ℕ) → 68 + 4 * variablesOf ws ≤ length proposals → edgesOf ws + 2 * verticesOf ws + 4 ≤ length l →
     JudgedBy ws (planOf ws ends) (standingOf x) t proposals l (judgeWords ws ends (x .noted) t proposals l)
 judged ws ends p long x v t proposals l room fits = judged-words ws ends (x .noted) (standingOf x) (valid-agrees ws ends p long x v) proposals room t l fits

@@ -6,8 +6,8 @@ use Prim.Native.Nat.{ℕ, _+_, _*_, _/_, _<_, _≤_}
 use native.Mathlib.Omega.{arith}
 use mathlib.Core.Bool.{true}
 use lib.ListN.{length}
-use Rattle.base.specs.Iter.{pick}
 use Rattle.base.specs.Lists.{Every}
+use Rattle.division.specs.Reasons.{Reason}
 use Rattle.division.specs.Analysis.{Verdict, Proposal, Each, nothing, also}
 use Rattle.division.specs.Runs as runs
 use Rattle.division.specs.Runs.{analysis}
@@ -17,13 +17,13 @@ use Rattle.plan.specs.Plan.{planOf}
 use Rattle.plan.specs.Proper.{ProperWords}
 use Rattle.noting.specs.Note.{known}
 use Rattle.reasons.specs.Words.{stored}
-use Rattle.reasons.specs.Reason.{laterReason, reasonOf, meaning, Fits}
-use Rattle.reasons.proofs.Stored.{reasonAt, stored-fresh}
+use Rattle.reasons.specs.Reason.{Fits}
+use Rattle.reasons.proofs.Stored.{reasonAt, orElse, stored-means}
 use Rattle.analysis.specs.Relabel.{relabel}
 use Rattle.analysis.proofs.Places.{place-back}
-use Rattle.sweep.specs.Sweep.{cleared}
-use Rattle.sweep.specs.Relit.{relit, relits, relitOut, Blank, Inside}
-use Rattle.sweep.proofs.Stored.{cleared-blank}
+use Rattle.sweep.specs.Sweep.{proposedAt, cleared}
+use Rattle.sweep.specs.Relit.{relit, relits, relitOut, Blank, Inside, some}
+use Rattle.sweep.proofs.Stored.{cleared-blank, proposed-some}
 use Rattle.sweep.proofs.Swept.{reason-relit}
 use Rattle.judge.specs.Answers.{atPlaces}
 use Rattle.judge.proofs.Agrees.{Agrees}
@@ -45,10 +45,6 @@ unfolding relabel
 fits-placed ws [] nothing = nothing
 fits-placed ws (q ∷ ps) (also h e) = also h (fits-placed ws ps e)
 
-no-reason : meaning (reasonOf 0 0) ≡ []
-unfolding meaning reasonOf laterReason pick
-no-reason = refl
-
 module _ (ws : List ℕ) (ends : List (List ℕ)) (noted ls : List ℕ) (k : Agrees ws ends noted ls) where
   abbrev ps : List Proposal
   ps = analysis (planOf ws ends) ls .props
@@ -64,23 +60,29 @@ module _ (ws : List ℕ) (ends : List (List ℕ)) (noted ls : List ℕ) (k : Agr
   unfolding offers
   judged-offers v = ap (λ (qs : List Proposal). inOrder (map (λ q. q .lit) qs)) judged-relits
 
-  -- the words of a place are those of its literal's newest reason
-  module _ (words : List ℕ) (long : 4 * variablesOf ws ≤ length words) where
+  -- the words of a place that is proposed are those of its literal's newest reason; the others stay
+  module _ (words : List ℕ) (long : 68 + 4 * variablesOf ws ≤ length words) where
     abbrev zeros : List ℕ
-    zeros = cleared ws words
+    zeros = cleared words
 
     pub judged-blank : Blank ws zeros
-    judged-blank = cleared-blank ws words long
+    judged-blank = cleared-blank ws words (k .held .proper .few .0) long
 
-    none-yet : (q : ℕ) → q < 2 * variablesOf ws → reasonAt zeros q ≡ []
-    none-yet q h =
-        let b = judged-blank in
-        ap₂ (λ (x y : ℕ). meaning (reasonOf x y)) (b .zeros (2 * q) (omega arith)) (b .zeros (2 * q + 1) (omega arith)) ∙ no-reason
+    reason-of-place : (q : ℕ) → q < 2 * variablesOf ws → runs.reasonOf (uniqueLitAt ws q) ps ≡ runs.reasonOf q (atPlaces ws ps)
+    reason-of-place q h =
+        ap (runs.reasonOf (uniqueLitAt ws q)) (sym judged-relits) ∙ reason-relit ws ends (k .held .proper) (atPlaces ws ps) q judged-inside h
 
-    pub judged-reasons : (q : ℕ) → q < 2 * variablesOf ws → reasonAt (stored (atPlaces ws ps) zeros) q ≡ runs.reasonOf (uniqueLitAt ws q) ps
+    pub judged-reasons : (q : ℕ) → q < 2 * variablesOf ws →
+        reasonAt (stored (atPlaces ws ps) zeros) q ≡ orElse (runs.reasonOf (uniqueLitAt ws q) ps) (reasonAt zeros q)
     judged-reasons q h =
         let b = judged-blank in
         let l = b .long in
-        stored-fresh (atPlaces ws ps) zeros q (omega arith) (fits-placed ws ps (each-fits ws ends (k .held .proper) ls (k .consistent))) (none-yet q h)
-        ∙ sym (reason-relit ws ends (k .held .proper) (atPlaces ws ps) q judged-inside h)
-        ∙ ap (runs.reasonOf (uniqueLitAt ws q)) judged-relits
+        let f = b .few in
+        stored-means (atPlaces ws ps) zeros q (omega arith) (omega arith) (fits-placed ws ps (each-fits ws ends (k .held .proper) ls (k .consistent)))
+        ∙ ap (λ (m : List Reason). orElse m (reasonAt zeros q)) (sym (reason-of-place q h))
+
+    -- the places that are proposed are those of the literals that have a reason
+    pub judged-proposed : (q : ℕ) → q < 2 * variablesOf ws →
+        proposedAt (stored (atPlaces ws ps) zeros) q ≡ some (runs.reasonOf (uniqueLitAt ws q) ps)
+    judged-proposed q h =
+        proposed-some ws zeros judged-blank (atPlaces ws ps) q judged-inside h ∙ ap some (sym (reason-of-place q h))

@@ -52,15 +52,15 @@ module _ (t l : List ℕ) (r : Listed) where
   unfolding judgeCurrent
   current-missing e = sym (ap (λ (q : Listed). judgeCurrent t q l) e)
 
-pub room-words : (ws p l : List ℕ) → length p < 4 * variablesOf ws → false ≡ hasRoom ws p l
+pub room-words : (ws p l : List ℕ) → length p < 68 + 4 * variablesOf ws → false ≡ hasRoom ws p l
 unfolding hasRoom
 room-words ws p l h = sym (pick-yes _ _ (lt-ltb _ _ h))
 
-pub room-list : (ws p l : List ℕ) → 4 * variablesOf ws ≤ length p → length l < edgesOf ws + 2 * verticesOf ws + 4 → false ≡ hasRoom ws p l
+pub room-list : (ws p l : List ℕ) → 68 + 4 * variablesOf ws ≤ length p → length l < edgesOf ws + 2 * verticesOf ws + 4 → false ≡ hasRoom ws p l
 unfolding hasRoom
 room-list ws p l h k = sym (pick-no _ _ (le-ltb _ _ h) ∙ pick-yes _ _ (lt-ltb _ _ k))
 
-pub room-both : (ws p l : List ℕ) → 4 * variablesOf ws ≤ length p → edgesOf ws + 2 * verticesOf ws + 4 ≤ length l → true ≡ hasRoom ws p l
+pub room-both : (ws p l : List ℕ) → 68 + 4 * variablesOf ws ≤ length p → edgesOf ws + 2 * verticesOf ws + 4 ≤ length l → true ≡ hasRoom ws p l
 unfolding hasRoom
 room-both ws p l h k = sym (pick-no _ _ (le-ltb _ _ h) ∙ pick-no _ _ (le-ltb _ _ k))
 
@@ -75,7 +75,7 @@ module _ (ws : List ℕ) (es : List (List ℕ)) (noted : List ℕ) where
   unfolding judgeCrowded crowdedBy
   crowded-unfit r l y e h = sym (pick-no _ _ h) ∙ ap (crowdedBy ws es noted r l) e
 
-  pub false-by : (words l : List ℕ) (p : ℕ) (why : Reason) (n : ℕ) (a b : Answer) → why ≡ reasonOf (getD words (2 * p) 0) (getD words (2 * p + 1) 0) →
+  pub false-by : (words l : List ℕ) (p : ℕ) (why : Reason) (n : ℕ) (a b : Answer) → why ≡ reasonOf (getD words (68 + 2 * p) 0) (getD words (69 + 2 * p) 0) →
       a ≡ reasonLits ws es noted why (outOf l 0) → n ≡ negationAt ws p → b ≡ andWord n a → b ≡ falseLits ws es noted words p l
   unfolding falseLits
   false-by words l p why n a b e h k z = z ∙ ap₂ andWord k (h ∙ ap (λ (r : Reason). reasonLits ws es noted r (outOf l 0)) e)
@@ -107,7 +107,7 @@ module _ (ws : List ℕ) (es : List (List ℕ)) (noted : List ℕ) where
   found-conflict t words l v w x e h k = h ∙ ap (λ (y : Verdict). judgeConflict ws es noted y l) e ∙ k ∙ sym (ap (λ (y : Verdict). judgeFound ws es noted t y words l) e)
 
   module _ (t p l : List ℕ) (b : Bool) (r : b ≡ hasRoom ws p l) where
-    pub judge-some : (v : ℕ) (q : Ran) (x : Listing) → b ≡ true → q ≡ analyzeWords ws es noted v (cleared ws p) →
+    pub judge-some : (v : ℕ) (q : Ran) (x : Listing) → b ≡ true → q ≡ analyzeWords ws es noted v (cleared p) →
         x ≡ judgeFound ws es noted t (q .verdict) (q .words) l → withWords (q .words) x ≡ judgeTold ws es noted v t p l
     unfolding judgeTold judgeRan
     judge-some v q x h e z = ap (withWords (q .words)) z ∙ ap (judgeRan ws es noted t l) e ∙ sym (pick-yes _ _ (sym r ∙ h))

@@ -43,5 +43,5 @@ pub record JudgedBy (ws : List ℕ) (d : Plan) (ls t proposals l : List ℕ) (x 
   pub answer : x .judgement ≡ answerFor (calls.looked d ls t .judgement) (length (calls.looked d ls t .left))
   pub leaves : Leaves (calls.looked d ls t .judgement) (calls.looked d ls t .left) l (x .left)
   -- the proposals' words are those of the analysis, refused or not
-  pub words : x .proposals ≡ stored (atPlaces ws (analysis d ls .props)) (cleared ws proposals)
+  pub words : x .proposals ≡ stored (atPlaces ws (analysis d ls .props)) (cleared proposals)
   pub records : Keeps (calls.looked d ls t .judgement) (calls.looked d ls t .records) (analysis d ls .props)

@@ -84,7 +84,7 @@ module _ (ws : List ℕ) (es : List (List ℕ)) (noted : List ℕ) where
 
   -- "its reason as this analysis recorded it, whatever a fetch of it would answer, plus its negation"
   unfoldable pub falseLits : List ℕ → ℕ → List ℕ → Answer
-  falseLits words p l = andWord (negationAt ws p) (reasonLits ws es noted (reasonOf (getD words (2 * p) 0) (getD words (2 * p + 1) 0)) (outOf l 0))
+  falseLits words p l = andWord (negationAt ws p) (reasonLits ws es noted (reasonOf (getD words (68 + 2 * p) 0) (getD words (69 + 2 * p) 0)) (outOf l 0))
 
   unfoldable pub judgeFalse : List ℕ → List ℕ → ℕ → List ℕ → Listing
   judgeFalse t words p l = ofFalse t (falseLits words p l)
@@ -104,9 +104,9 @@ module _ (ws : List ℕ) (es : List (List ℕ)) (noted : List ℕ) where
   judgeFound t ZeroSize words l = listing (Stopped 13) l
   judgeFound t Unfit words l = listing (Stopped 7) l
 
--- two words for each distinct literal, and the length that refusal 7 asks of a reason buffer
+-- the marks and two words for each distinct literal, and the length that refusal 7 asks of a reason buffer
 unfoldable pub hasRoom : List ℕ → List ℕ → List ℕ → Bool
-hasRoom ws proposals l = pick (ltb (length proposals) (4 * variablesOf ws)) false (pick (ltb (length l) (edgesOf ws + 2 * verticesOf ws + 4)) false true)
+hasRoom ws proposals l = pick (ltb (length proposals) (68 + 4 * variablesOf ws)) false (pick (ltb (length l) (edgesOf ws + 2 * verticesOf ws + 4)) false true)
 
 unfoldable pub withWords : List ℕ → Listing → Judged
 withWords words x = judgedOf (x .judgement) words (x .left)
@@ -118,7 +118,7 @@ judgeRan ws es noted t l r = withWords (r .words) (judgeFound ws es noted t (r .
 unfoldable pub judgeTold : List ℕ → List (List ℕ) → List ℕ → ℕ → List ℕ → List ℕ → List ℕ → Judged
 judgeTold ws es noted v t proposals l =
     pick (hasRoom ws proposals l)
-    (judgeRan ws es noted t l (analyzeWords ws es noted v (cleared ws proposals)))
+    (judgeRan ws es noted t l (analyzeWords ws es noted v (cleared proposals)))
     (judgedOf (Stopped 7) proposals l)
 
 -- and where it told the lowest vertex whose bounds cross

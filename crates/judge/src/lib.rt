@@ -25,7 +25,7 @@ pub enum Judgement {
 fn has_room(plan: &[u8], proposals: &[u64], left: &[u32]) -> bool
     ensures { λ r. ⌜ r ≡ hasRoom (wordsOf (now (plan .entry))) (now (proposals .entry)) (now (left .entry)) ⌝ }
 {
-    let words = 4 * (plan::num_variables(plan) as usize);
+    let words = 68 + 4 * (plan::num_variables(plan) as usize);
     if proposals.len() < words {
         return false;
     }
@@ -82,7 +82,7 @@ pub fn judge(
         (now (proposals .entry)) (now (left .entry)) ⌝ }
 {
     if has_room(plan, proposals, left) {
-        sweep::clear(plan, proposals);
+        sweep::clear(proposals);
         let found = analysis::analyze::analyze(plan, edges, noted, crossed, proposals);
         return judge_found(plan, edges, noted, table, found, proposals, left);
     }

@@ -23,9 +23,9 @@ ghost use Rattle.plan.specs.Words.{wordsOf};
 // The reason that the words of place p hold.
 fn reason_at(proposals: &[u64], p: usize) -> Reason
     requires { ⌜ p < 8589934592 ⌝ }
-    ensures { λ r. ⌜ r ≡ reasonOf (getD (now (proposals .entry)) (2 * p) 0) (getD (now (proposals .entry)) (2 * p + 1) 0) ⌝ }
+    ensures { λ r. ⌜ r ≡ reasonOf (getD (now (proposals .entry)) (68 + 2 * p) 0) (getD (now (proposals .entry)) (69 + 2 * p) 0) ⌝ }
 {
-    reason_of(word(proposals, 2 * p), word(proposals, 2 * p + 1))
+    reason_of(word(proposals, 68 + 2 * p), word(proposals, 69 + 2 * p))
 }
 
 // The negation of the literal at place p; a word of the list has 32 bits.

@@ -94,7 +94,7 @@ module _ (s : GraphDivision) (c : Cursor) (words t log : List ℕ) (p : variable
 module _ (s : GraphDivision) (c : Cursor) (t log list : List ℕ) (ends : List (List ℕ)) (entry handed words proposals : List ℕ) where
   pub begin-by : (w : Way) (z : Called) →
       initializeRefusal (s .plan) (s .edges .ends) (s .noted) t (length list) log c (s .initialized) ≡ 0 →
-      ends ≡ s .edges .ends → entry ≡ savedTable t → handed ≡ replicate 8704 0 → proposals ≡ replicate 8704 0 →
+      ends ≡ s .edges .ends → entry ≡ savedTable t → handed ≡ replicate 8704 0 → proposals ≡ replicate 8772 0 →
       w ≡ goneThrough (s .plan) ends entry log (c .used) (way (progress Fine 0 (s .«last_len») 0) (s .noted) t handed words proposals (s .last)) →
       z ≡ endedBy s c entry log (w .words) (w .left) (w .progress) (w .progress .judgement) (restoredTable entry (w .table)) (w .table) (w .list) list →
       z ≡ begunOver s c words t log list

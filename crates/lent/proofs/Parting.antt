@@ -35,11 +35,11 @@ module _ {ws : List ℕ} {ends : List (List ℕ)} {noted : List ℕ} (P : GraphD
       (h (s .reasons))
 
 pub over-zeros : (s : GraphDivision) (c : Cursor) (lit pending : ℤ) (t list log : List ℕ) →
-    propagatedOver s c (replicate 8704 0) (replicate 260 0) lit pending t list log ≡ propagated s c lit pending t list log
+    propagatedOver s c (replicate 8772 0) (replicate 260 0) lit pending t list log ≡ propagated s c lit pending t list log
 unfolding propagatedOver propagated settledOver settled
 over-zeros s c lit pending t list log = refl
 
-pub begun-over-zeros : (s : GraphDivision) (c : Cursor) (t log list : List ℕ) → initializedOver s c (replicate 8704 0) t log list ≡ initialized s c t log list
+pub begun-over-zeros : (s : GraphDivision) (c : Cursor) (t log list : List ℕ) → initializedOver s c (replicate 8772 0) t log list ≡ initialized s c t log list
 unfolding initializedOver initialized begunOver begun finishedOver finished enteringOver entering
 begun-over-zeros s c t log list = refl
 

@@ -7,8 +7,8 @@ use mathlib.Core.List.{List}
 use Prim.Native.Nat.{ℕ, zero, suc, _+_, _*_, _/_, _%_, _<_, _≤_}
 use native.Mathlib.Omega.{arith}
 use native.Mathlib.Nat.{not-suc-le-zero, eq-or-lt-of-le}
-use lib.Dec.{eqb}
-use lib.ListN.{length, getD, set, replicate, length-set, length-replicate}
+use lib.Dec.{eqb, ltb}
+use lib.ListN.{length, getD, set, replicate, length-set, length-replicate, getD-replicate, List·getD-eq-default}
 use lib.Seq.{ext-getD, getD-set-same, getD-set-other}
 use borrow.Author.Tests.{ltb-false}
 use Rattle.base.specs.Iter.{iter, pick}
@@ -19,6 +19,9 @@ use Rattle.base.proofs.Tests.{le-or-lt}
 use Rattle.base.proofs.Filled.{filled-length, filled-out}
 use Rattle.base.proofs.Some.{some-none}
 use Rattle.noting.proofs.Block.{iter-same}
+use Rattle.noting.proofs.Marks.{tab-length}
+use Rattle.noting.proofs.Sizes.{capped-le}
+use Rattle.noting.specs.Words.{capped}
 use Rattle.noting.specs.Note.{Noting, note}
 use Rattle.plan.specs.Words.{variablesOf, variableAt, uniqueLitAt}
 use Rattle.plan.specs.Check.{variableHigh, variablesHigh}
@@ -30,11 +33,6 @@ use Rattle.judge.specs.Judge.{Judged}
 use Rattle.notifications.specs.declared.Progress.{Progress}
 use Rattle.notifications.specs.Notifications.{litAt, Way, isFine, stopping, fineBy, joinedBy, isDue, joined, notified, notifiedAt, notifiedAll, Ending, onceMoreBy, onceMore, lastPass, ended, goneThrough}
 use Rattle.graph_division.specs.Initialize.{savedTable, restoredTable, notedAt, notedUpTo}
-
-pub tab-length : (f : ℕ → ℕ) (n : ℕ) → length (tab f n) ≡ n
-unfolding tab
-tab-length f zero = refl
-tab-length f (suc n) = ap suc (tab-length (λ i. f (suc i)) n)
 
 -- ---- the copy
 -- a list whose first entries are stored anew, as far as it goes
@@ -49,15 +47,50 @@ module _ (f : ℕ → ℕ) (l : List ℕ) where
       (λ (k : i < n). getD-set-other (filled 0 n f l) (0 + n) i (f n) 0 (λ (e : i ≡ 0 + n). omega arith) ∙ stored-at n i k r)
       (eq-or-lt-of-le {n = i} {m = n} (omega arith))
 
-pub saved-tab : (t : List ℕ) → filled 0 4096 (λ i. getD t i 0) (replicate 4096 0) ≡ savedTable t
-unfolding savedTable
-saved-tab t =
-    let f : ℕ → ℕ = λ i. getD t i 0 in
-    let r = length-replicate {0} {A = ℕ} 4096 0 in
-    ext-getD 0 (filled 0 4096 f (replicate 4096 0)) (tab f 4096) (filled-length 0 f (replicate 4096 0) 4096 ∙ r ∙ sym (tab-length f 4096))
-    (λ i h.
-    let k : i < 4096 = omega (arith, filled-length 0 f (replicate 4096 0) 4096) in
-    stored-at f (replicate 4096 0) 4096 i k (omega arith) ∙ sym (tab-at f 4096 i k))
+-- how far the copy goes: to the table's end, or as far as it has room
+pub capped-end : (len : ℕ) → capped len 4096 ≤ len
+unfolding capped
+capped-end len = pick-ind (λ (k : ℕ). k ≤ len) (ltb len 4096) len 4096 (λ _. omega arith) (λ e. let h = ltb-false len 4096 e in omega arith)
+
+past-all : (len i : ℕ) → capped len 4096 ≤ i → i < 4096 → len ≤ i
+unfolding capped
+past-all len i = pick-ind (λ (k : ℕ). k ≤ i → i < 4096 → len ≤ i) (ltb len 4096) len 4096 (λ _ k h. k) (λ _ k h. omega arith)
+
+past-room : (len i : ℕ) → capped len 4096 ≤ i → i < len → 4096 ≤ i
+unfolding capped
+past-room len i = pick-ind (λ (k : ℕ). k ≤ i → i < len → 4096 ≤ i) (ltb len 4096) len 4096 (λ _ k h. omega arith) (λ _ k h. k)
+
+module _ (t : List ℕ) (n : ℕ) (hn : n ≡ capped (length t) 4096) where
+  pub saved-tab : filled 0 n (λ i. getD t i 0) (replicate 4096 0) ≡ savedTable t
+  unfolding savedTable
+  saved-tab =
+      let f : ℕ → ℕ = λ i. getD t i 0 in
+      let z : List ℕ = replicate 4096 0 in
+      let r = length-replicate {0} {A = ℕ} 4096 0 in
+      ext-getD 0 (filled 0 n f z) (tab f 4096) (filled-length 0 f z n ∙ r ∙ sym (tab-length f 4096))
+      (λ i h.
+      let k : i < 4096 = omega (arith, filled-length 0 f z n) in
+      ⊎-elim
+      (λ (m : n ≤ i).
+      filled-out 0 f z n i (inr (omega arith)) ∙ getD-replicate {A = ℕ} 4096 i 0 0 k
+      ∙ sym (List·getD-eq-default t 0 {n = i} (past-all (length t) i (omega arith) k)))
+      (λ (m : i < n). stored-at f z n i m (omega arith))
+      (le-or-lt n i)
+      ∙ sym (tab-at f 4096 i k))
+
+  pub restored-tab : (saved : List ℕ) → filled 0 n (λ i. getD saved i 0) t ≡ restoredTable saved t
+  unfolding restoredTable
+  restored-tab saved =
+      let f : ℕ → ℕ = λ i. getD saved i 0 in
+      ext-getD 0 (filled 0 n f t) (filled 0 4096 f t) (filled-length 0 f t n ∙ sym (filled-length 0 f t 4096))
+      (λ i h.
+      let k : i < length t = omega (arith, filled-length 0 f t n) in
+      ⊎-elim
+      (λ (m : n ≤ i).
+      let e = past-room (length t) i (omega arith) k in
+      filled-out 0 f t n i (inr (omega arith)) ∙ sym (filled-out 0 f t 4096 i (inr (omega arith))))
+      (λ (m : i < n). stored-at f t n i m k ∙ sym (stored-at f t 4096 i (omega (arith, capped-le (length t) 4096)) k))
+      (le-or-lt n i))
 
 -- a table of t's length, and with its entries past the copied ones
 abbrev pub Rest : List ℕ → List ℕ → Type 0

@@ -76,7 +76,7 @@ module _ (s : GraphDivision) (c : Cursor) (p left : List ℕ) where
 -- `initialize` with any words for what its analyses record: with zeros it is graph_division's `initialized`
 module _ (s : GraphDivision) (c : Cursor) (words t log : List ℕ) where
   unfoldable pub enteringOver : Way
-  enteringOver = way (progress Fine 0 (s .«last_len») 0) (s .noted) t (replicate 8704 0) words (replicate 8704 0) (s .last)
+  enteringOver = way (progress Fine 0 (s .«last_len») 0) (s .noted) t (replicate 8704 0) words (replicate 8772 0) (s .last)
 
   unfoldable pub finishedOver : Way
   finishedOver = goneThrough (s .plan) (s .edges .ends) t log (c .used) enteringOver

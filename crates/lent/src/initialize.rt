@@ -179,9 +179,7 @@ pub fn initialize(
         begunOf s (now (noted .exit)) (now (words .exit)) (now (left .exit)) r (now (table .exit)) (now (list .exit)) (now (log .exit))
         ≡ initializedOver s cursor (now (words .entry)) (now (table .entry)) (now (log .entry)) (now (list .entry))) ⌝ }
 {
-    let ends = edges;
-    let stood = *noted;
-    let n = refusals::initialize_refusal(plan, &ends, &stood, table, list.len(), log, cursor, done);
+    let n = refusals::initialize_refusal(plan, &edges, noted, table, list.len(), log, cursor, done);
     if n == 0 {
         return begin(
             plan,

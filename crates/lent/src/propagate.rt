@@ -103,9 +103,7 @@ pub fn propagate(
         calledOf s (now (noted .exit)) (now (proposals .exit)) (now (left .exit)) r (now (table .exit)) (now (list .exit)) (now (log .exit))
         ≡ propagatedOver s cursor (now (proposals .entry)) (now (left .entry)) lit «num_pending_propagations» (now (table .entry)) (now (list .entry)) (now (log .entry))) ⌝ }
 {
-    let ends = edges;
-    let stood = *noted;
-    let n = refusals::propagate_refusal(plan, &ends, &stood, table, list.len(), log, cursor, lit);
+    let n = refusals::propagate_refusal(plan, &edges, noted, table, list.len(), log, cursor, lit);
     if n == 0 {
         let l = refusals::lit_number(lit);
         if base::in_range(num_pending_propagations, 0) {

@@ -24,8 +24,7 @@ pub fn undo<'a>(
         outcome (withNoted (now (noted .exit)) s) (r .cursor) (r .answer) ≡ undone s cursor lit (now (log .entry))) ⌝ }
     ensures { λ r. ⌜ (r .judged ≡ false) × (r .len ≡ 0) ⌝ }
 {
-    let stood = *noted;
-    let n = refusals::undo_refusal(plan, &edges, &stood, log, cursor, lit);
+    let n = refusals::undo_refusal(plan, &edges, noted, log, cursor, lit);
     if n == 0 {
         let c = noting::undo::undo(noted, log, cursor);
         return Done {

@@ -3,13 +3,15 @@ use mathlib.Core.Path.{_≡_, refl, sym, ap, _∙_}
 use mathlib.Core.Bool.{Bool, true, false, _&&_}
 use mathlib.Core.List.{List, [], _∷_}
 use Prim.Native.Nat.{ℕ, _+_, _*_, _/_}
-use lib.ListN.{length, getD, set, length-set}
+use lib.ListN.{length, getD}
 use Rattle.base.specs.Iter.{iter}
 use Rattle.base.proofs.Loop.{pick-yes, pick-no, pick-ind, iter-ind}
 use Rattle.plan.specs.Words.{uniqueLitAt}
 use Rattle.noting.specs.Undo.{recordsOf}
 use Rattle.noting.specs.Standing.{standing, hasVariable}
 use Rattle.calls.specs.Table.{trueIn}
+use Rattle.reasons.specs.Words.{put}
+use Rattle.reasons.proofs.Stored.{put-length}
 use Rattle.sweep.specs.Sweep.{handing, proposedAt, handedOn}
 use Rattle.judge.specs.declared.Judgement.{Judgement}
 use Rattle.judge.specs.declared.Judgement.the-variants.{Fine, Clash, Stopped}
@@ -18,11 +20,10 @@ use Rattle.notifications.specs.declared.Progress.{Progress}
 use Rattle.notifications.specs.Notifications.{litAt, triedOut, mergedAt, merged, progress, Way, way, isFine, stopping, fineBy, joinedBy, isDue, joined, notified, notifiedAll, Ending, ending, onceMoreBy, onceMore, lastPass, ended, goneThrough}
 
 -- ---- what is recorded
-module _ (proposals words v w : List ℕ) (p x y : ℕ) where
-  pub merge-at-yes : proposedAt proposals p ≡ true → x ≡ getD proposals (2 * p) 0 → v ≡ set words (2 * p) x → y ≡ getD proposals (2 * p + 1) 0 → w ≡ set v (2 * p + 1) y →
-      w ≡ mergedAt proposals p words
-  unfolding mergedAt
-  merge-at-yes b e f g h = h ∙ (λ i. set ((f ∙ ap (set words (2 * p)) e) i) (2 * p + 1) (g i)) ∙ sym (pick-yes _ _ b)
+pub merge-at-yes : (proposals words w : List ℕ) (p x y : ℕ) → proposedAt proposals p ≡ true →
+    x ≡ getD proposals (68 + 2 * p) 0 → y ≡ getD proposals (69 + 2 * p) 0 → w ≡ put p x y words → w ≡ mergedAt proposals p words
+unfolding mergedAt
+merge-at-yes proposals words w p x y b e f h = h ∙ (λ i. put p (e i) (f i) words) ∙ sym (pick-yes _ _ b)
 
 -- nothing is put at a place that is not proposed
 pub merged-idle : (proposals : List ℕ) (p : ℕ) (l : List ℕ) → proposedAt proposals p ≡ false → l ≡ mergedAt proposals p l
@@ -32,7 +33,7 @@ merged-idle proposals p l e = sym (pick-no _ _ e)
 module _ (proposals words : List ℕ) where
   merged-at-length : (p : ℕ) (l : List ℕ) → length (mergedAt proposals p l) ≡ length l
   unfolding mergedAt
-  merged-at-length p l = pick-ind (λ (m : List ℕ). length m ≡ length l) _ _ _ (λ _. simp length-set) (λ _. refl)
+  merged-at-length p l = pick-ind (λ (m : List ℕ). length m ≡ length l) _ _ _ (λ _. put-length p _ _ l) (λ _. refl)
 
   pub merged-length : (n : ℕ) → length (iter (mergedAt proposals) n words) ≡ length words
   merged-length n = iter-ind (λ _ (m : List ℕ). length m ≡ length words) (mergedAt proposals) words n refl (λ i m _ e. merged-at-length i m ∙ e)

@@ -4,13 +4,14 @@
 use mathlib.Core.Bool.{Bool, true, false, _&&_}
 use mathlib.Core.List.{List, [], _∷_}
 use Prim.Native.Nat.{ℕ, _+_, _*_, _/_, _%_}
-use lib.ListN.{getD, set}
+use lib.ListN.{getD}
 use Rattle.base.specs.Iter.{iter, pick}
 use Rattle.plan.specs.Words.{variablesOf, uniqueLitAt}
 use Rattle.noting.specs.Note.{noting, note}
 use Rattle.noting.specs.Undo.{recordsOf}
 use Rattle.noting.specs.Standing.{standing, hasVariable}
 use Rattle.calls.specs.Table.{trueIn}
+use Rattle.reasons.specs.Words.{put}
 use Rattle.sweep.specs.Sweep.{Handed, handing, proposedAt, handedOn}
 use Rattle.judge.specs.declared.Judgement.{Judgement}
 use Rattle.judge.specs.declared.Judgement.the-variants.{Fine, Clash, Stopped}
@@ -25,9 +26,10 @@ litAt ws p = uniqueLitAt ws p % 65536
 abbrev pub triedOut : List ℕ → ℕ → List ℕ → List ℕ
 triedOut ws l noted = note ws l (noting noted (0 ∷ []) (record { used = 0; standing = 0 })) .noted
 
--- the reasons recorded by several analyses, two words for each place: the newest stays
+-- the reasons recorded by several analyses, marked and two words for each place: the newest stays
 unfoldable pub mergedAt : List ℕ → ℕ → List ℕ → List ℕ
-mergedAt proposals p words = pick (proposedAt proposals p) (set (set words (2 * p) (getD proposals (2 * p) 0)) (2 * p + 1) (getD proposals (2 * p + 1) 0)) words
+mergedAt proposals p words =
+    pick (proposedAt proposals p) (put p (getD proposals (68 + 2 * p) 0) (getD proposals (69 + 2 * p) 0) words) words
 
 unfoldable pub merged : List ℕ → List ℕ → List ℕ → List ℕ
 merged ws proposals words = iter (mergedAt proposals) (2 * variablesOf ws) words

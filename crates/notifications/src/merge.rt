@@ -1,27 +1,21 @@
-// What an analysis proposed is put beside what earlier ones did, two words for each place: the newest stays.
+// What an analysis proposed is put beside what earlier ones did, a mark and two words for each place: the newest stays.
 use base::slices::word;
+use reasons::put;
 ghost use mathlib.Core.Path.{_≡_};
-ghost use Prim.Native.Nat.{_*_, _+_, _<_};
-ghost use lib.ListN.{set};
+ghost use mathlib.Core.Bool.{true};
+ghost use Prim.Native.Nat.{_<_};
 ghost use Rattle.notifications.specs.Notifications.{merged, mergedAt};
 ghost use Rattle.plan.specs.Words.{wordsOf};
+ghost use Rattle.sweep.specs.Sweep.{proposedAt};
 
-fn put(words: &mut [u64], i: usize, x: u64)
-    ensures { λ _. ⌜ now (words .exit) ≡ set (now (words .entry)) i x ⌝ }
-{
-    if i < words.len() {
-        words[i] = x;
-    }
-}
-
+// The mark and the words of a place that is proposed.
 fn merge_at(proposals: &[u64], words: &mut [u64], p: usize)
-    requires { ⌜ p < 8589934592 ⌝ }
+    requires { ⌜ (p < 4352) × (proposedAt (now proposals) p ≡ true) ⌝ }
     ensures { λ _. ⌜ now (words .exit) ≡ mergedAt (now (proposals .entry)) p (now (words .entry)) ⌝ }
 {
-    if sweep::proposed(proposals, p) {
-        put(words, 2 * p, word(proposals, 2 * p));
-        put(words, 2 * p + 1, word(proposals, 2 * p + 1));
-    }
+    let first = word(proposals, 68 + 2 * p);
+    let second = word(proposals, 69 + 2 * p);
+    put(words, p as u32, first, second);
 }
 
 pub fn merge(plan: &[u8], proposals: &[u64], words: &mut [u64])

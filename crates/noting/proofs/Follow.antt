@@ -16,12 +16,14 @@ use Rattle.undo_log.specs.Log.{recordOf, wordOf}
 use Rattle.plan.specs.Words.{variablesOf, variableAt, litOf, domainOf, startAt, occurrenceAt}
 use Rattle.noting.specs.declared.note.Effect.{Effect}
 use Rattle.noting.specs.declared.replay.Place.{Place}
-use Rattle.noting.specs.Words.{fresh, lowerOf, upperOf}
+use Rattle.noting.specs.Words.{lowerOf, upperOf}
 use Rattle.noting.specs.Note.{effect, nothing, sizeEffect, edgeEffect, effectOf, undoRecord, applied, boundary, placeIn, known}
 use Rattle.noting.specs.Undo.{recordsOf}
 use Rattle.noting.specs.Standing.{standing}
-use Rattle.noting.specs.Following.{followEffect, Replays}
+use Rattle.noting.specs.Following.{followEffect, Replays, marksOf, freshBounds}
 use Rattle.noting.specs.Replay.{Followed, followed, place, holdsAt, followSlot, Replayed, replayed, marked, setMark, litAt, opens, followAt, replayLevel, replay, notedDiffers, afresh}
+use Rattle.noting.proofs.Marks.{no-marks}
+use Rattle.noting.proofs.Beginning.{zeros-fresh}
 
 pub holds-before : (log : List ℕ) (used at : ℕ) (r : Record) → holdsAt log used at r ≡ true → at < used
 unfolding holdsAt
@@ -221,10 +223,10 @@ module _ (ws log marks noted : List ℕ) (used at w l : ℕ) (hw : w ≡ getD lo
         let kp = hk ∙ pick-yes _ _ kn in
         level-yes ws log marks noted used (place true at) refl h true (opens-known ws marks log at l w (65536 * l) lit-is hw boundary-word y true (sym kn) refl k kp false (sym t) true refl) refl l k lit-is kp marks₁ noted₁ q hm hf
 
-module _ (ws log : List ℕ) (used count : ℕ) (n work : List ℕ) (r : Bool) (hw : work ≡ fresh ws (replicate 384 0)) (h : Replays ws log used count (replayed (replicate 2176 0) work (place true 0)) r n) (noted : List ℕ) where
-  is-afresh : replay ws log used (replayed (replicate 2176 0) work (place true 0)) ≡ afresh ws log used
+module _ (ws log : List ℕ) (used count : ℕ) (n work : List ℕ) (r : Bool) (hw : work ≡ freshBounds ws (replicate 384 0)) (h : Replays ws log used count (replayed (marksOf (replicate 34 0)) work (place true 0)) r n) (noted : List ℕ) where
+  is-afresh : replay ws log used (replayed (marksOf (replicate 34 0)) work (place true 0)) ≡ afresh ws log used
   unfolding afresh
-  is-afresh = ap (λ (w : List ℕ). replay ws log used (replayed (replicate 2176 0) w (place true 0))) hw
+  is-afresh = ap₂ (λ (m w : List ℕ). replay ws log used (replayed m w (place true 0))) no-marks (hw ∙ zeros-fresh ws)
 
   abbrev ok : Bool
   ok = afresh ws log used .follow .place .ok

@@ -11,6 +11,8 @@ pub mod UndoNote
 pub mod Rising
 pub mod Indexed
 pub mod Undoing
+pub mod Beginning
+pub mod Marks
 pub mod Follow
 pub mod Block
 pub mod Agrees

@@ -8,19 +8,13 @@ use lib.ListN.{length}
 use lib.Dec.{ltb, eqb}
 use borrow.Author.Tests.{eq-eqb, ne-eqb, lt-ltb, le-ltb}
 use Rattle.base.specs.Iter.{pick}
-use Rattle.base.specs.Lists.{filled}
 use Rattle.base.proofs.Loop.{pick-yes, pick-no}
 use Rattle.undo_log.specs.declared.Record.{Record}
 use Rattle.undo_log.specs.declared.Cursor.{Cursor}
 use Rattle.undo_log.specs.Log.{pushWords}
-use Rattle.plan.specs.Words.{verticesOf, edgesOf}
 use Rattle.noting.specs.declared.note.Effect.{Effect}
-use Rattle.noting.specs.Words.{lowerOf, upperOf, lowerLitOf, upperLitOf, capped, firstSize, lastSize, fresh}
+use Rattle.noting.specs.Words.{lowerOf, upperOf, lowerLitOf, upperLitOf}
 use Rattle.noting.specs.Note.{Noting, noting, undoRecord, applied, effectOf, noteSlot, pushedTo, boundary, oneMore, levelPushed, placeIn, known, noteAt, note}
-
-pub fresh-is : (ws noted a b c d e : List ℕ) (nv ne : ℕ) → nv ≡ capped (verticesOf ws) 64 → ne ≡ capped (edgesOf ws) 128 → a ≡ filled 0 ne (λ g. 0) noted → b ≡ filled 128 nv (firstSize ws) a → c ≡ filled 192 nv (lastSize ws) b → d ≡ filled 320 nv (λ v. 65535) c → e ≡ filled 256 nv (λ v. 65535) d → e ≡ fresh ws noted
-unfolding fresh
-fresh-is ws noted a b c d e nv ne hV hE ha hb hc hd he = cc
 
 abbrev recordFor : Effect → ℕ → ℕ → Record
 recordFor e b l = record { kind = e .kind; index = e .index; bound = b; lit = l }

@@ -11,6 +11,7 @@ ghost use lib.ListN.{replicate};
 ghost use Prim.Native.Nat.{ℕ, _+_, _≤_, _<_};
 ghost use Rattle.base.specs.Lists.{filled};
 ghost use Rattle.noting.specs.Words.{edgeStateOf, boundAt, lowerOf, upperOf, lowerLitOf, upperLitOf, capped, firstSize, lastSize, fresh};
+ghost use Rattle.noting.specs.Following.{freshBounds};
 ghost use Rattle.plan.specs.Words.{wordsOf};
 
 pub const NOTED_WORDS: usize = 384;
@@ -133,14 +134,21 @@ fn fill_sizes(plan: &[u8], noted: &mut Noted, n: usize)
     }
 }
 
+// First and last sizes, and no literals.
+pub(crate) fn fresh_bounds(plan: &[u8], noted: &mut Noted)
+    ensures { λ r. ⌜ now (noted .exit) ≡ freshBounds (wordsOf (now (plan .entry))) (now (noted .entry)) ⌝ }
+{
+    let vertices = capped(plan::num_vertices(plan), 64);
+    fill_sizes(plan, noted, vertices);
+    fill(noted, 320, vertices, NO_BOUND_LIT);
+    fill(noted, 256, vertices, NO_BOUND_LIT);
+}
+
 // Nothing noted. Words that the plan does not use stay as they are.
 pub fn fresh(plan: &[u8], noted: &mut Noted)
     ensures { λ r. ⌜ now (noted .exit) ≡ fresh (wordsOf (now (plan .entry))) (now (noted .entry)) ⌝ }
 {
-    let vertices = capped(plan::num_vertices(plan), 64);
     let edges = capped(plan::num_edges(plan), 128);
     fill(noted, 0, edges, UNDECIDED);
-    fill_sizes(plan, noted, vertices);
-    fill(noted, 320, vertices, NO_BOUND_LIT);
-    fill(noted, 256, vertices, NO_BOUND_LIT);
+    fresh_bounds(plan, noted);
 }

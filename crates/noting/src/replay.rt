@@ -2,7 +2,7 @@
 // noting would push is compared with the one in the log. Linear in the log and in the standing literals' occurrences.
 use crate::Noted;
 use crate::capped;
-use crate::fresh;
+use crate::fresh_bounds;
 use crate::lower_bound;
 use crate::note::Effect;
 use crate::note::apply;
@@ -29,7 +29,12 @@ ghost use Rattle.noting.specs.Note.{placeIn, known};
 ghost use Rattle.noting.specs.Undo.{recordsOf};
 ghost use Rattle.noting.specs.Standing.{standing};
 ghost use Rattle.noting.specs.Replay.{place, holdsAt, followed, followSlot, followAt, replayed, marked, setMark, replayLevel, notedDiffers, afresh, logBad};
-ghost use Rattle.noting.specs.Following.{followEffect, Replays, wordDiffers};
+ghost use Rattle.noting.specs.Following.{followEffect, Replays, wordDiffers, marksOf};
+
+// A bit for each distinct variable, 1 where it has stood.
+const MARK_WORDS: usize = 34;
+
+type Marks = [u64; MARK_WORDS];
 
 // Whether the log is as noting gives it, and how far it was read.
 pub struct Place {
@@ -190,20 +195,21 @@ fn follow_at(
     Place { ok: true, at }
 }
 
-fn marked(marks: &[u8; 2176], k: usize) -> bool
-    ensures { λ r. ⌜ r ≡ marked (now (marks .entry)) k ⌝ }
+fn marked(marks: &Marks, k: usize) -> bool
+    ensures { λ r. ⌜ r ≡ marked (marksOf (now (marks .entry))) k ⌝ }
 {
     if k < 2176 {
-        return marks[k] != 0;
+        return (marks[k / 64] >> (k % 64)) % 2 != 0;
     }
     true
 }
 
-fn mark(marks: &mut [u8; 2176], k: usize)
-    ensures { λ _. ⌜ now (marks .exit) ≡ setMark k (now (marks .entry)) ⌝ }
+fn mark(marks: &mut Marks, k: usize)
+    requires { ⌜ length (now marks) ≡ 34 ⌝ }
+    ensures { λ _. ⌜ (marksOf (now (marks .exit)) ≡ setMark k (marksOf (now (marks .entry)))) × (length (now (marks .exit)) ≡ 34) ⌝ }
 {
     if k < 2176 {
-        marks[k] = 1;
+        marks[k / 64] = marks[k / 64] | (1u64 << (k % 64));
     }
 }
 
@@ -227,13 +233,14 @@ fn find(plan: &[u8], x: u32) -> usize
 fn replay_level(
     plan: &[u8],
     noted: &mut Noted,
-    marks: &mut [u8; 2176],
+    marks: &mut Marks,
     log: &[u64],
     used: usize,
     at: usize,
 ) -> Place
-    requires { ⌜ (at < used) × (used ≤ length (now log)) ⌝ }
-    ensures { λ r. ⌜ replayed (now (marks .exit)) (now (noted .exit)) r ≡ replayLevel (wordsOf (now (plan .entry))) (now (log .entry)) used (replayed (now (marks .entry)) (now (noted .entry)) (place true at)) ⌝ }
+    requires { ⌜ (at < used) × (used ≤ length (now log)) × (length (now marks) ≡ 34) ⌝ }
+    ensures { λ r. ⌜ (replayed (marksOf (now (marks .exit))) (now (noted .exit)) r ≡ replayLevel (wordsOf (now (plan .entry))) (now (log .entry)) used (replayed (marksOf (now (marks .entry))) (now (noted .entry)) (place true at)))
+        × (length (now (marks .exit)) ≡ 34) ⌝ }
 {
     let w = log[at];
     let lit = (w / 65536 % 65536) as u16;
@@ -253,13 +260,13 @@ fn replay_level(
 fn replay(
     plan: &[u8],
     noted: &mut Noted,
-    marks: &mut [u8; 2176],
+    marks: &mut Marks,
     log: &[u64],
     used: usize,
     count: usize,
 ) -> bool
-    requires { ⌜ used ≤ length (now log) ⌝ }
-    ensures { λ r. ⌜ Replays (wordsOf (now (plan .entry))) (now (log .entry)) used count (replayed (now (marks .entry)) (now (noted .entry)) (place true 0)) r (now (noted .exit)) ⌝ }
+    requires { ⌜ (used ≤ length (now log)) × (length (now marks) ≡ 34) ⌝ }
+    ensures { λ r. ⌜ Replays (wordsOf (now (plan .entry))) (now (log .entry)) used count (replayed (marksOf (now (marks .entry))) (now (noted .entry)) (place true 0)) r (now (noted .exit)) ⌝ }
 {
     let mut at = 0;
     let mut levels = 0;
@@ -319,8 +326,8 @@ fn differs(plan: &[u8], noted: &Noted, log: &[u64], used: usize, count: usize) -
     ensures { λ r. ⌜ r ≡ (not (eqb (length (standing (recordsOf (now (log .entry)) used))) count) || (not (afresh (wordsOf (now (plan .entry))) (now (log .entry)) used .follow .place .ok) || notedDiffers (wordsOf (now (plan .entry))) (afresh (wordsOf (now (plan .entry))) (now (log .entry)) used .follow .noted) (now (noted .entry)))) ⌝ }
 {
     let mut work = [0u32; 384];
-    let mut marks = [0u8; 2176];
-    fresh(plan, &mut work);
+    let mut marks = [0u64; 34];
+    fresh_bounds(plan, &mut work);
     if replay(plan, &mut work, &mut marks, log, used, count) {
         return noted_differs(plan, &work, noted);
     }

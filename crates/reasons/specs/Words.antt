@@ -1,10 +1,11 @@
 -- A reason as two words, so that an analysis can store what it proposes in a lent array: the kind and up to three numbers a
 -- byte each and one of four bytes in the first, the four literals of the longest reason in the second.
-use mathlib.Core.Bool.{Bool}
+use mathlib.Core.Bool.{Bool, _&&_}
 use mathlib.Core.List.{List, [], _∷_}
-use Prim.Native.Nat.{ℕ, _+_, _*_, _/_, _%_}
+use Prim.Native.Nat.{ℕ, _+_, _*_, _/_, _%_, _^_}
+use lib.Bits.{bitOr}
 use lib.Dec.{eqb, ltb}
-use lib.ListN.{length, set}
+use lib.ListN.{length, getD, set}
 use Rattle.base.specs.Iter.{pick}
 use Rattle.division.specs.Reasons.{Reason, edgeInSameGroup, edgeBetweenDifferentGroups, tooLargeIfRegionsAreMerged, regionAlreadyLarge, regionAlreadySmall, inconsistentBoundsIfRegionsAreMerged, boundPropagationWithinRegion, adjacentSameSizeRegions}
 use Rattle.division.specs.Analysis.{Proposal}
@@ -46,9 +47,18 @@ secondWord (inconsistentBoundsIfRegionsAreMerged g a b flip) = 0
 secondWord (boundPropagationWithinRegion k u ls) = 0
 secondWord (adjacentSameSizeRegions a la ua b lb ub u) = packedLits (litWord la) (litWord ua) (litWord lb) (litWord ub)
 
--- words x and y of place p, if there is room for them; all else stays
+-- whether bit i of a word is set
+unfoldable pub hasBit : ℕ → ℕ → Bool
+hasBit w i = eqb (w / 2 ^ i % 2) 1
+
+-- the first 68 words are marks: bit p % 64 of word p / 64 is that of place p
+unfoldable pub marked : ℕ → List ℕ → List ℕ
+marked p words = set words (p / 64) (bitOr (getD words (p / 64) 0) (2 ^ (p % 64)))
+
+-- place p is marked and its words are x and y, if there is room for them; all else stays
 unfoldable pub put : ℕ → ℕ → ℕ → List ℕ → List ℕ
-put p x y words = pick (ltb (2 * p + 1) (length words)) (set (set words (2 * p) x) (2 * p + 1) y) words
+put p x y words =
+    pick (ltb (69 + 2 * p) (length words) && ltb p 4352) (set (set (marked p words) (68 + 2 * p) x) (69 + 2 * p) y) words
 
 -- `register_propagation`, where `lit` is the literal's place among the distinct literals: the newest proposal stands first in
 -- the list, and over what was there

@@ -2,19 +2,21 @@
 pub mod reason;
 
 ghost use mathlib.Core.Path.{_≡_};
+ghost use Prim.Native.Nat.{_<_, _^_};
+ghost use lib.Bits.{bitOr};
 ghost use lib.ListN.{replicate};
 ghost use Rattle.reasons.specs.Words.{packed, packedLits, put};
 ghost use Rattle.reasons.specs.Verdicts.{goesOn};
 
-// Two words for each place of a literal.
-pub const PROPOSAL_WORDS: usize = 8704;
+// A bit for each place of a literal, then two words for each.
+pub const PROPOSAL_WORDS: usize = 8772;
 
 pub type Proposals = [u64; PROPOSAL_WORDS];
 
 pub fn no_words() -> Proposals
-    ensures { λ r. ⌜ r ≡ replicate 8704 0 ⌝ }
+    ensures { λ r. ⌜ r ≡ replicate 8772 0 ⌝ }
 {
-    [0u64; 8704]
+    [0u64; 8772]
 }
 
 // Where an analysis stands. Everything but Going ends it.
@@ -89,15 +91,25 @@ pub fn packed_lits(a: u32, b: u32, c: u32, d: u32) -> u64
         + 281474976710656 * ((d % 65536) as u64)
 }
 
-// The two words of the literal at place p of the distinct literals. The Rust's `register_propagation` leaves out the
-// reason of a literal that is notified already. This stores always: no analysis proposes a literal that stands, or
+fn with_bit(word: u64, i: usize) -> u64
+    requires { ⌜ i < 64 ⌝ }
+    ensures { λ r. ⌜ r ≡ bitOr word (2 ^ i) ⌝ }
+{
+    word | (1 << i)
+}
+
+// The mark and the two words of the literal at place p of the distinct literals. The Rust's `register_propagation` leaves
+// out the reason of a literal that is notified already. This stores always: no analysis proposes a literal that stands, or
 // whose negation stands (claims specs/Standing).
 pub fn put(proposals: &mut [u64], p: u32, first: u64, second: u64)
     ensures { λ _. ⌜ now (proposals .exit) ≡ put p first second (now (proposals .entry)) ⌝ }
 {
-    let i = 2 * (p as usize);
-    if i + 1 < proposals.len() {
-        proposals[i] = first;
-        proposals[i + 1] = second;
+    let q = p as usize;
+    if 69 + 2 * q < proposals.len() {
+        if q < 4352 {
+            proposals[q / 64] = with_bit(proposals[q / 64], q % 64);
+            proposals[68 + 2 * q] = first;
+            proposals[69 + 2 * q] = second;
+        }
     }
 }

@@ -26,7 +26,7 @@ reasonAt rs p = pick (ltb p 4352) (getD (rs .at) p (holding NotPropagated) .reas
 
 -- what stands at place p then: its reason where it is proposed, else what stood there
 unfoldable pub newest : List ℕ → ℕ → Recorded → Recorded
-newest words p old = pick (proposedAt words p) (holding (reasonOf (getD words (2 * p) 0) (getD words (2 * p + 1) 0))) old
+newest words p old = pick (proposedAt words p) (holding (reasonOf (getD words (68 + 2 * p) 0) (getD words (69 + 2 * p) 0))) old
 
 -- what an analysis has proposed is recorded: its words at each place of the distinct literals
 unfoldable pub recorded : List ℕ → List ℕ → Reasons → Reasons

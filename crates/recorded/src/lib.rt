@@ -42,8 +42,8 @@ fn newest(proposals: &[u64], p: usize, old: Recorded) -> Recorded
     ensures { λ r. ⌜ r ≡ newest (now (proposals .entry)) p old ⌝ }
 {
     if sweep::proposed(proposals, p) {
-        let first = word(proposals, 2 * p);
-        let second = word(proposals, 2 * p + 1);
+        let first = word(proposals, 68 + 2 * p);
+        let second = word(proposals, 69 + 2 * p);
         return Recorded {
             reason: reasons::reason::reason_of(first, second),
         };
@@ -66,11 +66,11 @@ pub fn record(plan: &[u8], proposals: &[u64], reasons: Reasons) -> Reasons
 {
     let n = capped(2 * (plan::num_variables(plan) as usize));
     let mut t = reasons;
-    let mut p = 0;
+    let mut p = sweep::next_proposed(proposals, 0, n);
     while p < n {
         let old = t.at[p];
         t.at[p] = newest(proposals, p, old);
-        p += 1;
+        p = sweep::next_proposed(proposals, p + 1, n);
     }
     t
 }

@@ -6,6 +6,7 @@ use edge_table::Edges;
 use graph::bounds::passable;
 use graph::bounds::walkable;
 ghost use mathlib.Core.Path.{_≡_};
+ghost use mathlib.Core.Bool.{true, false};
 ghost use Prim.Native.Nat.{ℕ, _<_, _≤_};
 ghost use lib.ListN.{length};
 ghost use Rattle.base.specs.Iter.{iter};
@@ -89,6 +90,27 @@ fn label(
     }
 }
 
+// Every edge in order, for the decided labels and for the potential ones: neither waits for what the other merges.
+fn label_both(
+    edges: &Edges,
+    state: &[u32],
+    num_edges: usize,
+    num_vertices: usize,
+    decided: &mut [u8; 64],
+    potential: &mut [u8; 64],
+)
+    requires { ⌜ Fine «num_vertices» «num_edges» (now edges) × («num_edges» ≤ length (now state)) ⌝ }
+    ensures { λ r. ⌜ (now (decided .exit) ≡ labelled (graph (now (edges .entry)) (now (state .entry)) false) «num_edges» «num_vertices» (now (decided .entry)))
+        × (now (potential .exit) ≡ labelled (graph (now (edges .entry)) (now (state .entry)) true) «num_edges» «num_vertices» (now (potential .entry))) ⌝ }
+{
+    start(decided, num_vertices);
+    start(potential, num_vertices);
+    for g in 0..num_edges {
+        bridge(edges, state, false, num_vertices, g, decided);
+        bridge(edges, state, true, num_vertices, g, potential);
+    }
+}
+
 // The label of each vertex: the lowest vertex of its region. The answer is false, and the labels stay, where the graph cannot be walked.
 pub fn compute_regions(
     edges: Edges,
@@ -102,6 +124,26 @@ pub fn compute_regions(
 {
     if walkable(&edges, state, num_edges, num_vertices) {
         label(&edges, state, potential, num_edges, num_vertices, labels);
+        return true;
+    }
+    false
+}
+
+// The labels of the decided regions and of the potential ones, as `compute_regions` makes each, with one test of the graph.
+pub fn compute_both(
+    edges: &Edges,
+    state: &[u32],
+    num_edges: usize,
+    num_vertices: usize,
+    decided: &mut [u8; 64],
+    potential: &mut [u8; 64],
+) -> bool
+    ensures { λ r. ⌜ (r ≡ walkable (now (edges .entry)) (now (state .entry)) «num_edges» «num_vertices»)
+        × (now (decided .exit) ≡ regionsOf (graph (now (edges .entry)) (now (state .entry)) false) «num_edges» «num_vertices» (now (decided .entry)))
+        × (now (potential .exit) ≡ regionsOf (graph (now (edges .entry)) (now (state .entry)) true) «num_edges» «num_vertices» (now (potential .entry))) ⌝ }
+{
+    if walkable(edges, state, num_edges, num_vertices) {
+        label_both(edges, state, num_edges, num_vertices, decided, potential);
         return true;
     }
     false

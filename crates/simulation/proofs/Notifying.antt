@@ -22,7 +22,8 @@ use Rattle.recorded.specs.Recorded.{reasonAt, recorded}
 use Rattle.lists.specs.Within.{Within}
 use Rattle.lists.proofs.Fits.{proposed-within}
 use Rattle.sweep.specs.Sweep.{handing, handedOn}
-use Rattle.sweep.proofs.Stored.{cleared-length, stored-length}
+use Rattle.reasons.proofs.Stored.{stored-length}
+use Rattle.sweep.proofs.Stored.{cleared-length}
 use Rattle.judge.specs.Judge.{Judged, judgeWords}
 use Rattle.judge.specs.Answers as judging
 use Rattle.judge.specs.Answers.{JudgedBy, Leaves, Keeps}
@@ -78,7 +79,7 @@ pub record Analyzed (s : GraphDivision) (w : World) (after : Noting) (ls t propo
 
 -- after: what is noted then, and ls stands; any buffers of the lengths that refusal 7 asks for
 module _ (s : GraphDivision) (log : List ℕ) (c : Cursor) (w : World) (r : Represents s log c w) (after : Noting) (ls : List ℕ) (v : GoodLog (s .plan) after) (e : ls ≡ standingOf after)
-    (t proposals left : List ℕ) (room : 4 * variablesOf (s .plan) ≤ length proposals) (long : length left ≡ 260) where
+    (t proposals left : List ℕ) (room : 68 + 4 * variablesOf (s .plan) ≤ length proposals) (long : length left ≡ 260) where
   abbrev ws : List ℕ
   ws = s .plan
 
@@ -159,7 +160,7 @@ module _ (s : GraphDivision) (log : List ℕ) (c : Cursor) (w : World) (r : Repr
   analyzed = record {
     consistent = noted-agrees .consistent;
     judged = judged-by;
-    long = ap length (judged-by .words) ∙ stored-length _ _ ∙ cleared-length ws proposals;
+    long = ap length (judged-by .words) ∙ stored-length _ _ ∙ cleared-length proposals;
     fine = λ q. fine-kept q 0 (lk .left) (s .initialized) (w .done) (r .done) (omega arith) (tab-take 0 left (omega arith) ∙ sym (fine-left (statePlan s) ls t (saw (statePlan s) ls t) q));
     kept = λ q len m done short z. fine-kept q len m done done refl short z;
     clash = clash-represents;

@@ -89,14 +89,14 @@ module _ (s : GraphDivision) (log : List ℕ) (c : Cursor) (w : World) (r : Repr
       fits = zero-le;
     }
 
-    words-long : 4 * variablesOf ws ≤ length (replicate {A = ℕ} 8704 0)
-    words-long = omega (arith, r .proper .few, length-replicate {A = ℕ} 8704 0)
+    words-long : 68 + 4 * variablesOf ws ≤ length (replicate {A = ℕ} 8772 0)
+    words-long = omega (arith, r .proper .few, length-replicate {A = ℕ} 8772 0)
 
     abbrev j : Judged
-    j = judgedIn s after t (replicate 8704 0) (replicate 260 0)
+    j = judgedIn s after t (replicate 8772 0) (replicate 260 0)
 
-    notified : Analyzed s w after ls t (replicate 8704 0) (replicate 260 0) j lk
-    notified = analyzed s log c w r after ls (noted-valid .0) (noted-valid .1) t (replicate 8704 0) (replicate 260 0) words-long (length-replicate {A = ℕ} 260 0)
+    notified : Analyzed s w after ls t (replicate 8772 0) (replicate 260 0) j lk
+    notified = analyzed s log c w r after ls (noted-valid .0) (noted-valid .1) t (replicate 8772 0) (replicate 260 0) words-long (length-replicate {A = ℕ} 260 0)
 
     -- no more is handed on than there are variables
     handed-fits : length (lk .handed) ≤ length list
@@ -146,7 +146,7 @@ module _ (s : GraphDivision) (log : List ℕ) (c : Cursor) (w : World) (r : Repr
     tried : settled s c l t list log ≡ settledBy s c l j (j .judgement) t list log
     unfolding settled
     tried =
-        ap (λ (m : List ℕ). settledBy s c l (judgeWords ws ends m t (replicate 8704 0) (replicate 260 0)) (judgeWords ws ends m t (replicate 8704 0) (replicate 260 0) .judgement) t list log)
+        ap (λ (m : List ℕ). settledBy s c l (judgeWords ws ends m t (replicate 8772 0) (replicate 260 0)) (judgeWords ws ends m t (replicate 8772 0) (replicate 260 0) .judgement) t list log)
         (tried-out-is s c l log)
 
     settles : SimulatesCalled s list (settled s c l t list log) (calls.settled (statePlan s) w t (litGiven lit))

@@ -9,7 +9,7 @@ use native.Mathlib.Nat.{eq-or-lt-of-le}
 use lib.Dec.{eqb, ltb}
 use lib.ListN.{length, getD, set, length-set}
 use lib.Seq.{getD-set-same, getD-set-other}
-use borrow.Author.Tests.{lt-ltb, le-ltb}
+use borrow.Author.Tests.{lt-ltb}
 use Rattle.base.specs.Iter.{iter, pick}
 use Rattle.base.proofs.Loop.{pick-yes, pick-no, tested}
 use Rattle.division.specs.Reasons as abstract
@@ -20,18 +20,17 @@ use Rattle.plan.specs.Words.{variablesOf, uniqueLitAt}
 use Rattle.plan.specs.Plan.{planOf}
 use Rattle.noting.specs.Words.{capped}
 use Rattle.reasons.specs.declared.reason.Reason.the-variants.{NotPropagated}
-use Rattle.reasons.specs.Words.{stored, firstWord}
+use Rattle.reasons.specs.Words.{stored}
 use Rattle.reasons.specs.Reason.{reasonOf, meaning}
+use Rattle.reasons.proofs.Stored.{orElse}
 use Rattle.recorded.specs.declared.Recorded.{Recorded}
 use Rattle.recorded.specs.declared.Reasons.{Reasons}
 use Rattle.recorded.specs.Recorded.{holding, reasonAt, newest, recorded}
 use Rattle.sweep.specs.Sweep.{cleared, proposedAt}
-use Rattle.sweep.specs.Relit.{wordOf}
-use Rattle.sweep.proofs.Stored.{first-word-some, stored-first}
-use Rattle.sweep.proofs.Swept.{reason-relit}
+use Rattle.sweep.specs.Relit.{some}
 use Rattle.judge.specs.Answers.{atPlaces}
 use Rattle.judge.proofs.Agrees.{Agrees}
-use Rattle.judge.proofs.Proposals.{judged-inside, judged-relits, judged-blank, judged-reasons}
+use Rattle.judge.proofs.Proposals.{judged-proposed, judged-reasons}
 
 abbrev none : Recorded
 none = holding NotPropagated
@@ -82,51 +81,41 @@ module _ (ws words : List ℕ) (rs : Reasons) (few : variablesOf ws ≤ 2176) (l
   recorded-length = loop-length words (rs .at) (capped (2 * variablesOf ws) 4352) ∙ long
 
   recorded-means : (p : ℕ) → p < 2 * variablesOf ws →
-      meaning (reasonAt (recorded ws words rs) p) ≡ pick (proposedAt words p) (meaning (reasonOf (getD words (2 * p) 0) (getD words (2 * p + 1) 0))) (meaning (reasonAt rs p))
+      meaning (reasonAt (recorded ws words rs) p) ≡ pick (proposedAt words p) (meaning (reasonOf (getD words (68 + 2 * p) 0) (getD words (69 + 2 * p) 0))) (meaning (reasonAt rs p))
   unfolding reasonAt recorded newest
   recorded-means p h =
       let t = lt-ltb p 4352 (omega arith) in
       ap meaning (pick-yes _ _ t)
       ∙ ap (λ (r : Recorded). meaning (r .reason)) (loop-in words (rs .at) (capped (2 * variablesOf ws) 4352) p (below-capped p h) (omega (arith, capped-is)))
       ∙ newest-means (proposedAt words p) _ _
-      ∙ ap (λ (m : List abstract.Reason). pick (proposedAt words p) (meaning (reasonOf (getD words (2 * p) 0) (getD words (2 * p + 1) 0))) m) (ap meaning (sym (pick-yes _ _ t)))
+      ∙ ap (λ (m : List abstract.Reason). pick (proposedAt words p) (meaning (reasonOf (getD words (68 + 2 * p) 0) (getD words (69 + 2 * p) 0))) m) (ap meaning (sym (pick-yes _ _ t)))
 
 -- ---- the newest of two lists of reasons
-unfoldable over : List abstract.Reason → List abstract.Reason → List abstract.Reason
-over [] old = old
-over (r ∷ rs) old = r ∷ rs
-
-reason-over : (l : ℕ) (ps old : List Proposal) → runs.reasonOf l (ps ++ old) ≡ over (runs.reasonOf l ps) (runs.reasonOf l old)
-unfolding over runs.reasonOf
+reason-over : (l : ℕ) (ps old : List Proposal) → runs.reasonOf l (ps ++ old) ≡ orElse (runs.reasonOf l ps) (runs.reasonOf l old)
+unfolding orElse runs.reasonOf
 reason-over l [] old = refl
 reason-over l (q ∷ ps) old = tested (eqb l (q .lit))
-    (λ t. pick-yes _ _ t ∙ ap (λ (m : List abstract.Reason). over m (runs.reasonOf l old)) (sym (pick-yes (q .why ∷ []) (runs.reasonOf l ps) t)))
-    (λ t. pick-no _ _ t ∙ reason-over l ps old ∙ ap (λ (m : List abstract.Reason). over m (runs.reasonOf l old)) (sym (pick-no (q .why ∷ []) (runs.reasonOf l ps) t)))
+    (λ t. pick-yes _ _ t ∙ ap (λ (m : List abstract.Reason). orElse m (runs.reasonOf l old)) (sym (pick-yes (q .why ∷ []) (runs.reasonOf l ps) t)))
+    (λ t. pick-no _ _ t ∙ reason-over l ps old ∙ ap (λ (m : List abstract.Reason). orElse m (runs.reasonOf l old)) (sym (pick-no (q .why ∷ []) (runs.reasonOf l ps) t)))
 
-over-picked : (ms old : List abstract.Reason) → pick (ltb 0 (wordOf firstWord ms)) ms old ≡ over ms old
-unfolding over wordOf
-over-picked [] old = pick-no _ _ (le-ltb 0 0 (omega arith))
-over-picked (r ∷ rs) old = pick-yes _ _ (lt-ltb 0 (firstWord r) (first-word-some r))
+over-picked : (ms rest old : List abstract.Reason) → pick (some ms) (orElse ms rest) old ≡ orElse ms old
+unfolding some orElse pick
+over-picked [] rest old = refl
+over-picked (r ∷ rs) rest old = refl
 
-module _ (ws : List ℕ) (ends : List (List ℕ)) (noted ls : List ℕ) (k : Agrees ws ends noted ls) (proposals : List ℕ) (room : 4 * variablesOf ws ≤ length proposals) where
+module _ (ws : List ℕ) (ends : List (List ℕ)) (noted ls : List ℕ) (k : Agrees ws ends noted ls) (proposals : List ℕ) (room : 68 + 4 * variablesOf ws ≤ length proposals) where
   abbrev ps : List Proposal
   ps = analysis (planOf ws ends) ls .props
 
   abbrev after : List ℕ
-  after = stored (atPlaces ws ps) (cleared ws proposals)
-
-  first-word : (p : ℕ) → p < 2 * variablesOf ws → proposedAt after p ≡ ltb 0 (wordOf firstWord (runs.reasonOf (uniqueLitAt ws p) ps))
-  unfolding proposedAt
-  first-word p h = ap (λ (i : ℕ). ltb 0 i)
-      (stored-first ws (cleared ws proposals) (judged-blank ws ends noted ls k proposals room) (atPlaces ws ps) p (judged-inside ws ends noted ls k) h
-      ∙ ap (wordOf firstWord) (sym (reason-relit ws ends (k .held .proper) (atPlaces ws ps) p (judged-inside ws ends noted ls k) h) ∙ ap (runs.reasonOf (uniqueLitAt ws p)) (judged-relits ws ends noted ls k)))
+  after = stored (atPlaces ws ps) (cleared proposals)
 
   pub recorded-newest : (rs : Reasons) → length (rs .at) ≡ 4352 → (old : List Proposal) (p : ℕ) → p < 2 * variablesOf ws → meaning (reasonAt rs p) ≡ runs.reasonOf (uniqueLitAt ws p) old →
       meaning (reasonAt (recorded ws after rs) p) ≡ runs.reasonOf (uniqueLitAt ws p) (ps ++ old)
   recorded-newest rs long old p h e =
       let l = uniqueLitAt ws p in
       recorded-means ws after rs (k .held .proper .few .0) long p h
-      ∙ ap₂ (λ (b : Bool) (m : List abstract.Reason). pick b m (meaning (reasonAt rs p))) (first-word p h) (judged-reasons ws ends noted ls k proposals room p h)
-      ∙ over-picked (runs.reasonOf l ps) (meaning (reasonAt rs p))
-      ∙ ap (over (runs.reasonOf l ps)) e
+      ∙ ap₂ (λ (b : Bool) (m : List abstract.Reason). pick b m (meaning (reasonAt rs p))) (judged-proposed ws ends noted ls k proposals room p h) (judged-reasons ws ends noted ls k proposals room p h)
+      ∙ over-picked (runs.reasonOf l ps) _ (meaning (reasonAt rs p))
+      ∙ ap (orElse (runs.reasonOf l ps)) e
       ∙ sym (reason-over l ps old)

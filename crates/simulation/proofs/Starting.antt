@@ -178,8 +178,8 @@ module _ (s : GraphDivision) (log : List ℕ) (c : Cursor) (w : World) (r : Repr
   record Stands (a : calls.Going) (b : Rest) : Type 0 where
     up-past : b .noted ≡ upTo (b .past)
     represents : Represents (sofar b) (b .noted .log) (b .noted .cursor) (a .world)
-    merges : length (b .words) ≡ 8704
-    proposes : length (b .proposals) ≡ 8704
+    merges : length (b .words) ≡ 8772
+    proposes : length (b .proposals) ≡ 8772
     room : length (a .handed) + unset (variableAt ws) (variablesOf ws) (a .table) ≤ variablesOf ws
 
   -- all is fine before place p
@@ -201,12 +201,12 @@ module _ (s : GraphDivision) (log : List ℕ) (c : Cursor) (w : World) (r : Repr
   -- before the first
   same-start : Same 0 (entering s c t log) (calls.entry w t)
   unfolding entering calls.entry notedUpTo iter
-  same-start = goes (record { noted = start; past = 0; words = blank; proposals = blank; left = s .last; len = s .«last_len» }) refl refl
+  same-start = goes (record { noted = start; past = 0; words = replicate 8772 0; proposals = replicate 8772 0; left = s .last; len = s .«last_len» }) refl refl
       (record {
         up-past = refl;
-        represents = subst (λ (rs : Reasons). Represents (changed s (s .noted) rs (s .last) (s .«last_len») (s .initialized)) log c w) (sym (recorded-none ws 8704 (s .reasons))) r;
-        merges = length-replicate {A = ℕ} 8704 0;
-        proposes = length-replicate {A = ℕ} 8704 0;
+        represents = subst (λ (rs : Reasons). Represents (changed s (s .noted) rs (s .last) (s .«last_len») (s .initialized)) log c w) (sym (recorded-none ws 8772 (s .reasons))) r;
+        merges = length-replicate {A = ℕ} 8772 0;
+        proposes = length-replicate {A = ℕ} 8772 0;
         room = omega (arith, unset-most (variableAt ws) (variablesOf ws) t);
       })
       (record { up-to = refl; long = refl; ahead = λ q a b e. refl })
@@ -227,7 +227,7 @@ module _ (s : GraphDivision) (log : List ℕ) (c : Cursor) (w : World) (r : Repr
         Represents (stateOf y allWords left len done) (y .log) (y .cursor) z
     so-merged left len done z =
         subst (λ (rs : Reasons). Represents (changed s (y .noted) rs left len done) (y .log) (y .cursor) z)
-        (sym (recorded-merged ws (found .proposals) (b .words) (s .reasons) (omega (arith, r .proper .few, k .merges))))
+        (sym (recorded-merged ws (found .proposals) (b .words) (s .reasons) (r .proper .few .0) (omega (arith, r .proper .few, k .merges))))
 
   -- ---- one notification more, of the literal at place p, which does not stand
   module _ (good : tableBad ws t ≡ false) (p : ℕ) (h : p < places) (due : trueIn t (lit p) ≡ true) (a : calls.Going) (b : Rest) (k : Stands a b) (q : Ready p a b) (free : hasVariable (lit p / 2) (standingOf start) ≡ false) where

@@ -1,15 +1,15 @@
 -- The next proposed place, and that a loop may leave out the turns at places that are not proposed.
-use Prim.Native.Nat.{ℕ, zero, suc, _+_, _-_, _*_, _/_, _<_, _≤_, min}
+use Prim.Native.Nat.{ℕ, zero, suc, _+_, _*_, _/_, _%_, _^_, _<_, _≤_, min}
 use native.Mathlib.Omega.{arith}
-use native.Mathlib.Nat.{le-step, lt-suc-self, eq-or-lt-of-le, not-suc-le-zero}
-use mathlib.Core.Path.{_≡_, refl, sym, ap, ap₂, _∙_, subst}
+use native.Mathlib.Nat.{le-step, lt-suc-self, eq-or-lt-of-le}
+use mathlib.Core.Path.{_≡_, sym, ap, ap₂, _∙_, subst}
 use mathlib.Core.Logic.{⊎-elim}
-use mathlib.Core.Bool.{Bool, true, false, true≢false, _&&_}
+use mathlib.Core.Bool.{Bool, true, false, _&&_}
 use mathlib.Core.List.{List}
+use lib.Count.{trailingZeros}
 use lib.Dec.{ltb, leb}
-use lib.Bits.{bitOr, bitAnd, or-zero-l, or-add-and, and-le-l, and-le-r}
 use lib.ListN.{length, getD, List·getD-eq-default}
-use borrow.Author.Tests.{lt-ltb, le-ltb, ltb-false, le-leb, leb-true}
+use borrow.Author.Tests.{lt-ltb, le-ltb, ltb-true, le-leb, leb-true}
 use borrow.Author.Count.{below-more}
 use Rattle.base.specs.Iter.{iter}
 use Rattle.base.proofs.Loop.{pick-no}
@@ -18,21 +18,27 @@ use Rattle.division.specs.Regions.{lowest}
 use Rattle.division.proofs.Phases.{lowest-true}
 use Rattle.calls.specs.Table.{falseIn}
 use Rattle.plan.specs.Words.{uniqueLitAt}
-use Rattle.sweep.specs.Sweep.{proposedAt, nextProposed, firstWords, falseAt, Handed, handed, handedAt}
+use Rattle.reasons.specs.Words.{hasBit}
+use Rattle.reasons.proofs.Marks.{markAt, no-bit, bit-below, bit-at}
+use Rattle.sweep.specs.Sweep.{proposedAt, nextProposed, falseAt, Handed, handed, handedAt}
 use Rattle.sweep.proofs.Loops.{lowest-is, lowest-none, lowest-le, lowest-below}
 
--- ---- the first word of a place
+-- ---- no place past the last mark, or past the words, is proposed
 module _ (words : List ℕ) (p : ℕ) where
-  pub zero-not : getD words (2 * p) 0 ≡ 0 → proposedAt words p ≡ false
+  past-not : 4352 ≤ p → proposedAt words p ≡ false
   unfolding proposedAt
-  zero-not e = le-ltb 0 (getD words (2 * p) 0) (omega arith)
+  past-not h = sym (and-no (markAt words p) (le-ltb p 4352 h))
 
-  pub not-zero : proposedAt words p ≡ false → getD words (2 * p) 0 ≡ 0
+  out-not : length words ≤ p / 64 → proposedAt words p ≡ false
   unfolding proposedAt
-  not-zero e = let h = ltb-false 0 (getD words (2 * p) 0) e in omega arith
+  out-not h =
+      and-either {a = ltb p 4352} (λ _.
+      ap (λ (w : ℕ). hasBit w (p % 64)) (List·getD-eq-default words 0 {n = p / 64} h) ∙ no-bit (p % 64))
 
-  pub past-not : length words ≤ 2 * p → proposedAt words p ≡ false
-  past-not h = zero-not (List·getD-eq-default words 0 {n = 2 * p} h)
+-- a place that is proposed has a mark
+pub proposed-low : (words : List ℕ) (p : ℕ) → proposedAt words p ≡ true → p < 4352
+unfolding proposedAt
+proposed-low words p e = ltb-true p 4352 (and-left (ltb p 4352) (markAt words p) e)
 
 -- no place of from, .., to - 1 is proposed
 pub record NoneIn (words : List ℕ) (from to : ℕ) : Type 0 where
@@ -91,15 +97,6 @@ pub none-join : {words : List ℕ} {from mid to : ℕ} → NoneIn words from mid
 none-join {words} {from} {mid} {to} f g =
     record { at = λ k a h. ⊎-elim (λ l. g .at k l h) (λ l. f .at k a l) (le-or-lt mid k) }
 
-pub none-more : {words : List ℕ} {from p : ℕ} → NoneIn words from p → proposedAt words p ≡ false →
-    NoneIn words from (p + 1)
-none-more {words} {from} {p} f e = record {
-  at = λ k a h. ⊎-elim
-      (λ (q : k ≡ p). ap (proposedAt words) q ∙ e)
-      (λ (q : k < p). f .at k a q)
-      (eq-or-lt-of-le {n = k} {m = p} (omega arith));
-}
-
 -- a run that ends where it starts, or before
 pub none-yet : (words : List ℕ) (from to : ℕ) → to ≤ from → NoneIn words from to
 none-yet words from to h = record { at = λ k a l. absurd (omega arith) }
@@ -108,64 +105,53 @@ none-yet words from to h = record { at = λ k a l. absurd (omega arith) }
 pub none-less : {words : List ℕ} {from to : ℕ} (end : ℕ) → NoneIn words from to → end ≤ to → NoneIn words from end
 none-less end f h = record { at = λ k a l. f .at k a (omega arith) }
 
--- ---- the words of several places, or-ed
-or-zero : (a b : ℕ) → bitOr a b ≡ 0 → (a ≡ 0) × (b ≡ 0)
-or-zero a b e = (omega (arith, or-add-and a b, and-le-r a b), omega (arith, or-add-and a b, and-le-l a b))
-
+-- ---- the marks of a word
 module _ (words : List ℕ) (p : ℕ) where
-  pub words-none : (n : ℕ) → firstWords words p n ≡ 0 → NoneIn words p (p + n)
-  unfolding firstWords iter
-  words-none zero e = none-yet words p (p + 0) (omega arith)
-  words-none (suc n) e =
-      let z = or-zero (firstWords words p n) (getD words (2 * (p + n)) 0) e in
-      none-less (p + suc n) (none-more (words-none n (z .0)) (zero-not words (p + n) (z .1))) (omega arith)
+  abbrev bit : ℕ
+  bit = p % 64 + trailingZeros 64 (getD words (p / 64) 0 / 2 ^ (p % 64))
 
-  pub words-all : (n : ℕ) → NoneIn words p (p + n) → firstWords words p n ≡ 0
-  unfolding firstWords iter
-  words-all zero f = refl
-  words-all (suc n) f =
-      ap₂ bitOr
-      (words-all n (none-less (p + n) f (omega arith)))
-      (not-zero words (p + n) (f .at (p + n) (omega arith) (omega arith)))
+  -- from place p up to the lowest bit or the word's end
+  pub marks-none : (to : ℕ) → to ≤ 64 * (p / 64) + bit → to ≤ 64 * (p / 64) + 64 → NoneIn words p to
+  unfolding proposedAt
+  marks-none to a b = record {
+    at = λ k u h.
+        let e : k / 64 ≡ p / 64 = omega arith in
+        and-either {a = ltb k 4352} (λ _.
+        ap (λ (i : ℕ). hasBit (getD words i 0) (k % 64)) e
+        ∙ bit-below (getD words (p / 64) 0) (p % 64) (k % 64) (omega arith) (omega arith));
+  }
 
--- ---- the next place from a later start and below an earlier end
--- none is proposed before the later start
-pub next-later : (words : List ℕ) (from mid n r : ℕ) → from ≤ mid → mid ≤ n → NoneIn words from mid →
-    r ≡ nextProposed words mid n → r ≡ nextProposed words from n
-next-later words from mid n r a b f e =
-    let t = next-told e in
-    let g = none-join f (t .below) in
-    ⊎-elim
-    (λ (q : r ≡ n). q ∙ next-none words from n (none-less n g (omega arith)))
-    (λ (q : r < n). let l = t .least b in next-is words from n r (omega arith) q g (t .on q))
-    (eq-or-lt-of-le {n = r} {m = n} (t .most))
+  marks-on : p < 4352 → bit < 64 → proposedAt words (64 * (p / 64) + bit) ≡ true
+  unfolding proposedAt
+  marks-on h b =
+      let q = 64 * (p / 64) + bit in
+      let e : q / 64 ≡ p / 64 = omega arith in
+      let f : q % 64 ≡ bit = omega arith in
+      sym (and-next (markAt words q) true (lt-ltb q 4352 (omega arith))
+      (sym (ap₂ (λ (i j : ℕ). hasBit (getD words i 0) j) e f ∙ bit-at (getD words (p / 64) 0) (p % 64) b)))
 
--- one is found below the earlier end
-pub next-sooner : (words : List ℕ) (from m n r : ℕ) → from ≤ m → m ≤ n → r < m →
-    r ≡ nextProposed words from m → r ≡ nextProposed words from n
-next-sooner words from m n r a b h e =
-    let t = next-told e in
-    let l = t .least a in
-    next-is words from n r l (omega arith) (t .below) (t .on h)
+  -- a bit is found
+  pub next-marked : (from n b : ℕ) → from ≤ p → p < 4352 → p < n → NoneIn words from p → b ≡ bit → b < 64 →
+      min (64 * (p / 64) + b) n ≡ nextProposed words from n
+  next-marked from n b a h l f e g =
+      let q = 64 * (p / 64) + bit in
+      let x = none-join f (marks-none q (omega arith) (omega arith)) in
+      ⊎-elim
+      (λ (m : n ≤ q). let z : min (64 * (p / 64) + b) n ≡ n = omega arith in z ∙ next-none words from n (none-less n x m))
+      (λ (m : q < n).
+      let z : min (64 * (p / 64) + b) n ≡ q = omega arith in
+      z ∙ next-is words from n q (omega arith) m x (marks-on h (omega arith)))
+      (le-or-lt n q)
 
--- the first words say that one of the eight is proposed
-pub next-block : (words : List ℕ) (p k n r : ℕ) → 0 < firstWords words p k → p + k ≤ n →
-    r ≡ nextProposed words p (p + k) → r ≡ nextProposed words p n
-next-block words p k n r h b e =
-    let t = next-told e in
-    ⊎-elim
-    (λ (q : r ≡ p + k).
-    let z = words-all words p k (none-less (p + k) (t .below) (omega arith)) in
-    absurd (omega arith))
-    (λ (q : r < p + k). next-sooner words p (p + k) n r (omega arith) b q e)
-    (eq-or-lt-of-le {n = r} {m = p + k} (t .most))
-
--- none is proposed past the words
-pub next-past : (words : List ℕ) (from m n : ℕ) → min n (length words - length words / 2) ≤ m → NoneIn words from m →
+-- none is proposed past the marks
+pub next-past : (words : List ℕ) (from m n : ℕ) → min n (64 * min (length words) 68) ≤ m → NoneIn words from m →
     n ≡ nextProposed words from n
 next-past words from m n h f = next-none words from n (record {
   at = λ k a l. ⊎-elim
-      (λ (q : m ≤ k). past-not words k (omega arith))
+      (λ (q : m ≤ k). ⊎-elim
+      (λ (r : 4352 ≤ k). past-not words k r)
+      (λ (r : k < 4352). out-not words k (omega arith))
+      (le-or-lt 4352 k))
       (λ (q : k < m). f .at k a q)
       (le-or-lt m k);
 })

@@ -2,9 +2,8 @@
 -- among the plan's distinct literals, both signs, which rise: 0 up to twice the distinct variables.
 use mathlib.Core.Bool.{Bool, _&&_}
 use mathlib.Core.List.{List}
-use Prim.Native.Nat.{ℕ, _+_, _*_, _%_}
+use Prim.Native.Nat.{ℕ, _*_, _/_, _%_}
 use lib.Dec.{ltb, leb}
-use lib.Bits.{bitOr}
 use lib.ListN.{getD}
 use Rattle.base.specs.Iter.{iter, pick}
 use Rattle.base.specs.Lists.{filled}
@@ -12,22 +11,19 @@ use Rattle.division.specs.Regions.{lowest}
 use Rattle.calls.specs.Table.{falseIn, unsetIn, enter}
 use Rattle.walks.specs.Written.{Out, outOf, pushed}
 use Rattle.plan.specs.Words.{variablesOf, uniqueLitAt}
+use Rattle.reasons.specs.Words.{hasBit}
 
--- the first word of a place that is proposed is not 0
+-- a place is proposed where its mark is set
 unfoldable pub proposedAt : List ℕ → ℕ → Bool
-proposedAt words p = ltb 0 (getD words (2 * p) 0)
+proposedAt words p = ltb p 4352 && hasBit (getD words (p / 64) 0) (p % 64)
 
 -- the lowest proposed place from `from` on, or n where there is none below n
 unfoldable pub nextProposed : List ℕ → ℕ → ℕ → ℕ
 nextProposed words from n = lowest (λ p. leb from p && proposedAt words p) n
 
--- the first words of n places from p on, or-ed
-unfoldable pub firstWords : List ℕ → ℕ → ℕ → ℕ
-firstWords words p n = iter (λ i x. bitOr x (getD words (2 * (p + i)) 0)) n 0
-
--- an analysis starts with no proposals: two words for each place
-unfoldable pub cleared : List ℕ → List ℕ → List ℕ
-cleared ws words = filled 0 (4 * variablesOf ws) (λ i. 0) words
+-- an analysis starts with no marks; the words of the places stay
+unfoldable pub cleared : List ℕ → List ℕ
+cleared words = filled 0 68 (λ i. 0) words
 
 -- "proposals are sorted, doubles dropped; the first whose value is false": its place, or that past the last
 unfoldable pub falseAt : List ℕ → List ℕ → List ℕ → ℕ → Bool

@@ -1,14 +1,18 @@
-// What an analysis proposed, against the value table. Words 2p and 2p + 1 of the proposals are those of the literal at place p
-// of the plan's distinct literals, which rise; specs/Sweep.antt says what each function does.
+// What an analysis proposed, against the value table. Bit p of the proposals' first 68 words is set where the literal at
+// place p of the plan's distinct literals, which rise, is proposed; words 68 + 2p and 69 + 2p are its reason.
+// specs/Sweep.antt says what each function does.
 pub mod table;
 
+use base::slices::word;
 use walks::push;
 ghost use mathlib.Core.Path.{_≡_};
 ghost use Rattle.plan.specs.Words.{wordsOf, uniqueLitAt};
-ghost use Prim.Native.Nat.{_*_, _+_, _≤_, min};
+ghost use Prim.Native.Nat.{_*_, _+_, _/_, _^_, _<_, _≤_, min};
+ghost use lib.Count.{trailingZeros};
 ghost use lib.ListN.{length};
 ghost use Rattle.base.specs.Lists.{filled};
-ghost use Rattle.sweep.specs.Sweep.{proposedAt, nextProposed, firstWords, cleared, falseAt, firstFalseAt};
+ghost use Rattle.reasons.specs.Words.{hasBit};
+ghost use Rattle.sweep.specs.Sweep.{proposedAt, nextProposed, cleared, falseAt, firstFalseAt};
 ghost use Rattle.sweep.specs.Sweep.{handing, handed, handedAt, handedOn};
 
 // The first n words become 0.
@@ -23,70 +27,40 @@ fn clear_words(proposals: &mut [u64], n: usize)
     }
 }
 
-// No place is proposed any more; the words past the last place's stay.
-pub fn clear(plan: &[u8], proposals: &mut [u64])
-    ensures { λ _. ⌜ now (proposals .exit) ≡ cleared (wordsOf (now (plan .entry))) (now (proposals .entry)) ⌝ }
+// No place is proposed any more.
+pub fn clear(proposals: &mut [u64])
+    ensures { λ _. ⌜ now (proposals .exit) ≡ cleared (now (proposals .entry)) ⌝ }
 {
-    let n = 4 * (plan::num_variables(plan) as usize);
     let len = proposals.len();
-    if n < len {
-        clear_words(proposals, n);
+    if 68 < len {
+        clear_words(proposals, 68);
     } else {
         clear_words(proposals, len);
     }
 }
 
+fn has_bit(word: u64, i: usize) -> bool
+    requires { ⌜ i < 64 ⌝ }
+    ensures { λ r. ⌜ r ≡ hasBit word i ⌝ }
+{
+    (word >> i) % 2 == 1
+}
+
 pub fn proposed(proposals: &[u64], p: usize) -> bool
     ensures { λ r. ⌜ r ≡ proposedAt (now (proposals .entry)) p ⌝ }
 {
-    if p < proposals.len() - proposals.len() / 2 {
-        return 0 < proposals[2 * p];
+    if p < 4352 {
+        return has_bit(word(proposals, p / 64), p % 64);
     }
     false
 }
 
-// The first words of the eight places from p on, or-ed: 0 where none of them is proposed.
-fn first_words(proposals: &[u64], p: usize) -> u64
-    requires { ⌜ 2 * p + 15 ≤ length (now proposals) ⌝ }
-    ensures { λ r. ⌜ r ≡ firstWords (now (proposals .entry)) p 8 ⌝ }
+// The lowest bit that is set, from bit `from` on; 64 or more where there is none.
+fn next_bit(word: u64, from: usize) -> usize
+    requires { ⌜ from < 64 ⌝ }
+    ensures { λ r. ⌜ r ≡ from + trailingZeros 64 (word / 2 ^ from) ⌝ }
 {
-    let mut words = 0;
-    let mut i = 0;
-    while i < 8 {
-        words = words | proposals[2 * (p + i)];
-        i += 1;
-    }
-    words
-}
-
-// The lowest proposed place from `from` on, or `end` where there is none below it: place by place.
-fn scan(proposals: &[u64], from: usize, end: usize) -> usize
-    requires { ⌜ (from ≤ end) × (2 * end ≤ length (now proposals) + 1) ⌝ }
-    ensures { λ r. ⌜ r ≡ nextProposed (now (proposals .entry)) from end ⌝ }
-{
-    let mut q = from;
-    while q < end {
-        if 0 < proposals[2 * q] {
-            return q;
-        }
-        q += 1;
-    }
-    end
-}
-
-// The same, eight places at a time as long as none of them is proposed.
-fn skip(proposals: &[u64], from: usize, end: usize) -> usize
-    requires { ⌜ (from ≤ end) × (2 * end ≤ length (now proposals) + 1) ⌝ }
-    ensures { λ r. ⌜ r ≡ nextProposed (now (proposals .entry)) from end ⌝ }
-{
-    let mut p = from;
-    while p + 8 <= end {
-        if 0 < first_words(proposals, p) {
-            return scan(proposals, p, p + 8);
-        }
-        p += 8;
-    }
-    scan(proposals, p, end)
+    from + u64::trailing_zeros(word >> from) as usize
 }
 
 fn lesser(a: usize, b: usize) -> usize
@@ -102,12 +76,14 @@ fn lesser(a: usize, b: usize) -> usize
 pub fn next_proposed(proposals: &[u64], from: usize, n: usize) -> usize
     ensures { λ r. ⌜ r ≡ nextProposed (now (proposals .entry)) from n ⌝ }
 {
-    let end = lesser(n, proposals.len() - proposals.len() / 2);
-    if from < end {
-        let found = skip(proposals, from, end);
-        if found < end {
-            return found;
+    let end = lesser(n, 64 * lesser(proposals.len(), 68));
+    let mut p = from;
+    while p < end {
+        let bit = next_bit(proposals[p / 64], p % 64);
+        if bit < 64 {
+            return lesser(64 * (p / 64) + bit, n);
         }
+        p += 64 - p % 64;
     }
     n
 }

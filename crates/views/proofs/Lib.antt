@@ -6,5 +6,6 @@ pub mod Taken
 pub mod Inserting
 pub mod Order
 pub mod Separated
+pub mod Sums
 pub mod Ties
 pub mod Meets

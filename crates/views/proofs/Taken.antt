@@ -4,7 +4,7 @@ use native.Mathlib.Omega.{arith}
 use native.Mathlib.Numerals.{add-one}
 use mathlib.Core.Path.{_≡_, refl, ap, ap₂, _∙_}
 use mathlib.Core.List.{List, [], _∷_, _++_}
-use lib.ListN.{length, set}
+use lib.ListN.{length, getD, set}
 use lib.Seq.{getD-set-same, getD-set-other}
 use Rattle.base.specs.Lists.{tab}
 use Rattle.plan.specs.Words.{word}
@@ -13,6 +13,20 @@ pub tab-same : (f g : ℕ → ℕ) (n : ℕ) → ((i : ℕ) → i < n → f i �
 unfolding tab
 tab-same f g zero h = refl
 tab-same f g (suc n) h = ap₂ (λ (x : ℕ) (l : List ℕ). x ∷ l) (h 0 (omega arith)) (tab-same (λ i. f (suc i)) (λ i. g (suc i)) n (λ i k. h (suc i) (omega arith)))
+
+-- one entry stored anew
+pub tab-set : (f g : ℕ → ℕ) (n r : ℕ) → ((k : ℕ) → (k ≡ r → ⊥) → f k ≡ g k) → set (tab f n) r (g r) ≡ tab g n
+unfolding tab
+tab-set f g zero r h = refl
+tab-set f g (suc n) zero h = ap (λ (l : List ℕ). g 0 ∷ l) (tab-same _ _ n (λ i k. h (suc i) (λ (e : suc i ≡ 0). omega arith)))
+tab-set f g (suc n) (suc r) h = ap₂ (λ (x : ℕ) (l : List ℕ). x ∷ l) (h 0 (λ (e : 0 ≡ suc r). omega arith))
+    (tab-set (λ i. f (suc i)) (λ i. g (suc i)) n r (λ k m. h (suc k) (λ (e : suc k ≡ suc r). m (omega arith))))
+
+pub tab-most : (f : ℕ → ℕ) (n r m : ℕ) → ((k : ℕ) → f k ≤ m) → getD (tab f n) r 0 ≤ m
+unfolding tab
+tab-most f zero r m h = omega arith
+tab-most f (suc n) zero m h = h 0
+tab-most f (suc n) (suc r) m h = tab-most (λ i. f (suc i)) n r m (λ k. h (suc k))
 
 -- from place i on
 abbrev pub rest : (ℕ → ℕ) → ℕ → ℕ → List ℕ

@@ -62,3 +62,15 @@ computeView ws es noted view =
     pick (d .known && (p .known && (u .known && l .known)))
     (computedOf true (withBounds 384 l (withBounds 256 u (withRegions 64 p (withRegions 0 d view)))))
     (computedOf false view)
+
+-- the same of labels that are at hand: l's regions, n vertices, and the words of their weights
+unfoldable pub weighedFrom : List ℕ → List ℕ → ℕ → Regions
+weighedFrom l weights n = record { known = weighable l weights 0 n; labels = l; weights = weighed l weights 0 n zeros }
+
+unfoldable pub viewFrom : List ℕ → ℕ → Regions → Regions → List ℕ → Computed
+viewFrom noted n d p view =
+    let u = boundsFrom (d .labels) noted 192 n true in
+    let l = boundsFrom (d .labels) noted 128 n false in
+    pick (d .known && (p .known && (u .known && l .known)))
+    (computedOf true (withBounds 384 l (withBounds 256 u (withRegions 64 p (withRegions 0 d view)))))
+    (computedOf false view)

@@ -2,6 +2,7 @@
 use crate::View;
 use edge_table::Edges;
 use noting::Noted;
+use regions::compute_both;
 use regions::compute_regions;
 use regions::limits::region_bounds;
 use regions::weights::region_weights;
@@ -10,7 +11,7 @@ ghost use mathlib.Core.Bool.{true, false};
 ghost use Prim.Native.Nat.{_+_, _≤_};
 ghost use Rattle.base.specs.Lists.{filled};
 ghost use Rattle.plan.specs.Words.{wordsOf, word};
-ghost use Rattle.views.specs.Compute.{weightWords, computedOf, regionsFrom, boundsFrom, withRegions, withBounds, computeView};
+ghost use Rattle.views.specs.Compute.{weightWords, computedOf, regionsFrom, boundsFrom, weighedFrom, viewFrom, withBounds, computeView};
 
 // Each vertex's label, and each region's weight at its label. Not known where the graph cannot be walked or the weights cannot be added.
 pub struct Regions {
@@ -116,12 +117,12 @@ fn copy_words(words: &[u32; 64], view: &mut View, from: usize)
 }
 
 // Labels from word `from` on, weights from word `from + 128` on.
-fn store_regions(r: Regions, view: &mut View, from: usize)
+fn store_regions(labels: &[u8; 64], weights: &[u32; 64], view: &mut View, from: usize)
     requires { ⌜ from + 192 ≤ 512 ⌝ }
-    ensures { λ z. ⌜ now (view .exit) ≡ withRegions from r (now (view .entry)) ⌝ }
+    ensures { λ _. ⌜ now (view .exit) ≡ filled (from + 128) 64 (word (now (weights .entry))) (filled from 64 (word (now (labels .entry))) (now (view .entry))) ⌝ }
 {
-    copy_bytes(&r.labels, view, from);
-    copy_words(&r.weights, view, from + 128);
+    copy_bytes(labels, view, from);
+    copy_words(weights, view, from + 128);
 }
 
 // Bounds from word `from` on, the vertices that have them from word `from + 64` on.
@@ -147,28 +148,61 @@ pub fn lower_bounds(labels: &[u8; 64], noted: &Noted, vertices: usize) -> Bounds
     bound(labels, noted, 128, vertices, false)
 }
 
-// The regions of the noted words, their weights and bounds. The answer is false, and the view stays, where there are none: a count is
-// past its limit, an edge's end is no vertex, or a weight is over 1,000,000.
-pub fn compute_view(plan: &[u8], edges: Edges, noted: &Noted, view: &mut View) -> bool
-    ensures { λ r. ⌜ computedOf r (now (view .exit)) ≡ computeView (wordsOf (now (plan .entry))) edges (now (noted .entry)) (now (view .entry)) ⌝ }
+// The view of regions whose labels are at hand, of vertices that weigh `words`. The answer is false, and the view stays,
+// where a label is no vertex or a weight is over 1,000,000.
+fn store_view(
+    words: &[u32; 64],
+    noted: &Noted,
+    vertices: usize,
+    decided: &[u8; 64],
+    potential: &[u8; 64],
+    view: &mut View,
+) -> bool
+    ensures { λ r. ⌜ computedOf r (now (view .exit))
+        ≡ viewFrom (now (noted .entry)) vertices (weighedFrom (now (decided .entry)) (now (words .entry)) vertices) (weighedFrom (now (potential .entry)) (now (words .entry)) vertices)
+        (now (view .entry)) ⌝ }
 {
-    let vertices = plan::num_vertices(plan) as usize;
-    let decided = compute(plan, edges, noted, false);
-    let potential = compute(plan, edges, noted, true);
-    let upper = upper_bounds(&decided.labels, noted, vertices);
-    let lower = lower_bounds(&decided.labels, noted, vertices);
-    if decided.known {
-        if potential.known {
+    let mut decided_weights = [0u32; 64];
+    let mut potential_weights = [0u32; 64];
+    let decided_known = region_weights(decided, words, 0, vertices, &mut decided_weights);
+    let potential_known = region_weights(potential, words, 0, vertices, &mut potential_weights);
+    let upper = upper_bounds(decided, noted, vertices);
+    let lower = lower_bounds(decided, noted, vertices);
+    if decided_known {
+        if potential_known {
             if upper.known {
                 if lower.known {
-                    store_regions(decided, view, 0);
-                    store_regions(potential, view, 64);
+                    store_regions(decided, &decided_weights, view, 0);
+                    store_regions(potential, &potential_weights, view, 64);
                     store_bounds(upper, view, 256);
                     store_bounds(lower, view, 384);
                     return true;
                 }
             }
         }
+    }
+    false
+}
+
+// The regions of the noted words, their weights and bounds. The answer is false, and the view stays, where there are none: a count is
+// past its limit, an edge's end is no vertex, or a weight is over 1,000,000.
+pub fn compute_view(plan: &[u8], edges: Edges, noted: &Noted, view: &mut View) -> bool
+    ensures { λ r. ⌜ computedOf r (now (view .exit)) ≡ computeView (wordsOf (now (plan .entry))) edges (now (noted .entry)) (now (view .entry)) ⌝ }
+{
+    let vertices = plan::num_vertices(plan) as usize;
+    let num_edges = plan::num_edges(plan) as usize;
+    let mut decided = [0u8; 64];
+    let mut potential = [0u8; 64];
+    if compute_both(
+        &edges,
+        noted,
+        num_edges,
+        vertices,
+        &mut decided,
+        &mut potential,
+    ) {
+        let words = weight_words(plan);
+        return store_view(&words, noted, vertices, &decided, &potential, view);
     }
     false
 }

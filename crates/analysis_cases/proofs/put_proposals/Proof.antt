@@ -16,6 +16,9 @@ loop-holds c = tt
 mul-put-proposal : tie.Need-mul-put-proposal Inv-loop μ-loop
 mul-put-proposal c = search needs
 
+add-put-proposal : tie.Need-add-put-proposal Inv-loop μ-loop
+add-put-proposal c = search needs
+
 mul-put-proposal-2 : tie.Need-mul-put-proposal-2 Inv-loop μ-loop
 mul-put-proposal-2 c = search needs
 
@@ -25,8 +28,8 @@ element-copy-out-put-proposal c = search needs
 mul-put-proposal-3 : tie.Need-mul-put-proposal-3 Inv-loop μ-loop
 mul-put-proposal-3 c = search needs
 
-add-put-proposal : tie.Need-add-put-proposal Inv-loop μ-loop
-add-put-proposal c = search needs
+add-put-proposal-2 : tie.Need-add-put-proposal-2 Inv-loop μ-loop
+add-put-proposal-2 c = search needs
 
 mul-put-proposal-4 : tie.Need-mul-put-proposal-4 Inv-loop μ-loop
 mul-put-proposal-4 c = search needs
@@ -57,10 +60,11 @@ put-proposals-spec =
     μ-loop
     loop-holds
     mul-put-proposal
+    add-put-proposal
     mul-put-proposal-2
     element-copy-out-put-proposal
     mul-put-proposal-3
-    add-put-proposal
+    add-put-proposal-2
     mul-put-proposal-4
     element-copy-out-put-proposal-2
     put-proposal-requires

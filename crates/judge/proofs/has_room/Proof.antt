@@ -13,6 +13,9 @@ cast-words c = search needs
 mul-words : tie.Need-mul-words
 mul-words c = search needs
 
+add-words : tie.Need-add-words
+add-words c = search needs
+
 returns : tie.Need-returns
 returns c = room-words _ _ _ (omega arith)
 
@@ -50,6 +53,7 @@ has-room-spec =
     num-variables-requires
     cast-words
     mul-words
+    add-words
     returns
     num-edges-requires
     cast-lits

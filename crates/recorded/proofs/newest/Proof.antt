@@ -1,6 +1,4 @@
-use mathlib.Core.Path.{_≡_, refl, sym, ap, ap₂, _∙_}
-use native.Mathlib.Omega.{arith}
-use borrow.Author.Tests.{lt-ltb, le-ltb}
+use mathlib.Core.Path.{sym, ap, ap₂, _∙_}
 use Rattle.base.proofs.Loop.{pick-yes, pick-no}
 use Rattle.reasons.specs.Reason.{reasonOf}
 use Rattle.recorded.specs.Recorded.{newest, holding}
@@ -14,14 +12,17 @@ proposed-requires c κs = search needs
 mul-word : tie.Need-mul-word
 mul-word c = search needs
 
+add-word : tie.Need-add-word
+add-word c = search needs
+
 word-requires : tie.Need-word-requires
 word-requires c κs = search needs
 
 mul-word-2 : tie.Need-mul-word-2
 mul-word-2 c = search needs
 
-add-word : tie.Need-add-word
-add-word c = search needs
+add-word-2 : tie.Need-add-word-2
+add-word-2 c = search needs
 
 word-requires-2 : tie.Need-word-requires-2
 word-requires-2 c κs = search needs
@@ -43,9 +44,10 @@ newest-spec =
     (tie.spec
     proposed-requires
     mul-word
+    add-word
     word-requires
     mul-word-2
-    add-word
+    add-word-2
     word-requires-2
     reason-of-requires
     returns

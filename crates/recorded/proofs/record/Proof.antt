@@ -1,17 +1,15 @@
-use mathlib.Core.Path.{_≡_, refl, sym, ap, _∙_}
+use mathlib.Core.Path.{_≡_, ap}
 use native.Mathlib.Omega.{arith}
-use Prim.Native.Nat.{ℕ, _≤_, _-_, _*_}
-use mathlib.Core.List.{List}
+use Prim.Native.Nat.{_≤_, _-_, _*_}
 use lib.ListN.{getD, set}
 use borrow.Author.Needs.{needs}
 use Rattle.base.specs.Iter.{iter}
-use Rattle.base.proofs.Loop.{iter-zero, iter-more, iter-done}
+use Rattle.base.proofs.Loop.{iter-zero, iter-more}
 use Rattle.noting.specs.Words.{capped}
 use Rattle.reasons.specs.declared.reason.Reason.the-variants.{NotPropagated}
-use Rattle.recorded.specs.declared.Recorded.{Recorded}
-use Rattle.recorded.specs.declared.Reasons.{Reasons}
-use Rattle.recorded.specs.Recorded.{newest, recorded, holding}
-use Rattle.recorded.proofs.Recording.{capped-low, reasons-eq, recorded-done}
+use Rattle.recorded.specs.Recorded.{newest, holding}
+use Rattle.sweep.proofs.Next.{next-told, next-turn}
+use Rattle.recorded.proofs.Recording.{capped-low, recorded-idle, recorded-done}
 use Rattle.plan.specs.Words.{wordsOf}
 use Rattle.recorded.proofs.record.Statement.{statement}
 use Rattle.recorded.proofs.record.Tie as tie
@@ -34,35 +32,50 @@ mul-capped c = omega arith
 capped-requires : tie.Need-capped-requires Inv-loop μ-loop
 capped-requires c κs = search needs
 
+next-proposed-requires : tie.Need-next-proposed-requires Inv-loop μ-loop
+next-proposed-requires c κs = search needs
+
 loop-holds : tie.Need-loop-holds Inv-loop μ-loop
-loop-holds c = (omega arith, iter-zero _ _)
+loop-holds c =
+    let e = c .next-proposed .ensures in
+    (next-told e .most, next-turn _ _ _ (recorded-idle _) _ _ _ _ (omega arith) e (iter-zero _ _))
 
 mul-old : tie.Need-mul-old Inv-loop μ-loop
-mul-old c = omega (arith, capped-low (2 * (c .before .before .before .num-variables .result)), (c .before .before .capped .ensures))
+mul-old c = omega (arith, capped-low (2 * (c .before .before .before .before .num-variables .result)), (c .before .before .before .capped .ensures))
 
 element-copy-out-old : tie.Need-element-copy-out-old Inv-loop μ-loop
-element-copy-out-old c = omega (arith, capped-low (2 * (c .before .before .before .num-variables .result)), (c .before .before .capped .ensures))
+element-copy-out-old c = omega (arith, capped-low (2 * (c .before .before .before .before .num-variables .result)), (c .before .before .before .capped .ensures))
 
 newest-requires : tie.Need-newest-requires Inv-loop μ-loop
-newest-requires c κs = omega (arith, capped-low (2 * (c .before .before .before .before .num-variables .result)), (c .before .before .before .capped .ensures))
+newest-requires c κs = omega (arith, capped-low (2 * (c .before .before .before .before .before .num-variables .result)), (c .before .before .before .before .capped .ensures))
 
 mul-t12 : tie.Need-mul-t12 Inv-loop μ-loop
-mul-t12 c = omega (arith, capped-low (2 * (c .before .before .before .before .before .num-variables .result)), (c .before .before .before .before .capped .ensures))
+mul-t12 c = omega (arith, capped-low (2 * (c .before .before .before .before .before .before .num-variables .result)), (c .before .before .before .before .before .capped .ensures))
 
 element-set-from-t : tie.Need-element-set-from-t Inv-loop μ-loop
-element-set-from-t c = omega (arith, capped-low (2 * (c .before .before .before .before .before .num-variables .result)), (c .before .before .before .before .capped .ensures))
+element-set-from-t c = omega (arith, capped-low (2 * (c .before .before .before .before .before .before .num-variables .result)), (c .before .before .before .before .before .capped .ensures))
 
-add-p : tie.Need-add-p Inv-loop μ-loop
-add-p c = omega arith
+add-next-proposed : tie.Need-add-next-proposed Inv-loop μ-loop
+add-next-proposed c = omega arith
+
+next-proposed-requires-2 : tie.Need-next-proposed-requires-2 Inv-loop μ-loop
+next-proposed-requires-2 c κs = search needs
 
 loop-less : tie.Need-loop-less Inv-loop μ-loop
-loop-less c = omega arith
+loop-less c = let t = next-told (c .next-proposed2 .ensures) in let l = t .least (omega arith) in omega arith
 
 loop-again : tie.Need-loop-again Inv-loop μ-loop
-loop-again c = (omega arith, iter-more _ _ _ _ _ (c .before .before .before .loop .inv .1) (ap (set ((c .before .before .before .loop .t) .at) (c .before .before .before .loop .p)) (c .newest .ensures)))
+loop-again c =
+    let e = c .next-proposed2 .ensures in
+    let x = c .before in
+    let l = x .before .before .before .loop in (
+      next-told e .most,
+      next-turn _ _ _ (recorded-idle _) _ _ _ _ (omega arith) e
+          (iter-more _ _ _ _ _ (l .inv .1) (ap (set (l .t .at) (l .p)) (x .newest .ensures))),
+    )
 
 returns : tie.Need-returns Inv-loop μ-loop
-returns c = recorded-done (wordsOf (c .before .before .before .before .before .before .args .plan .now)) _ _ _ _ _ _ (c .before .before .before .num-variables .ensures) (c .before .before .capped .ensures) (c .before .loop .inv .1) (omega arith) (omega arith)
+returns c = recorded-done (wordsOf (c .before .before .before .before .before .before .before .args .plan .now)) _ _ _ _ _ _ (c .before .before .before .before .num-variables .ensures) (c .before .before .before .capped .ensures) (c .before .loop .inv .1) (omega arith) (omega arith)
 
 pub record-spec : {M : Type 1} → statement M
 record-spec =
@@ -74,13 +87,15 @@ record-spec =
     cast-capped
     mul-capped
     capped-requires
+    next-proposed-requires
     loop-holds
     mul-old
     element-copy-out-old
     newest-requires
     mul-t12
     element-set-from-t
-    add-p
+    add-next-proposed
+    next-proposed-requires-2
     loop-less
     loop-again
     returns)

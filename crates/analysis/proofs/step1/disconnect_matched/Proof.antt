@@ -48,14 +48,21 @@ returns-2 c =
     let k = c .before .before .before .before .num-edges .ensures in
     ran-decided (planIn x) (stateOf (x .noted)) (viewIn x) (ap (lowest (λ (h : ℕ). eqb (getD (x .noted) h 0) 0)) (sym k) ∙ (sym (c .before .first-undecided .ensures) ∙ ((c .if2 .taken) ∙ k))) _
 
-walls-between-requires : tie.Need-walls-between-requires Inv-loop μ-loop
-walls-between-requires c κs = omega (arith, end-low (c .before .before .before .before .before .before .before .args .noted .now) (c .before .before .before .before .num-edges .result), c .before .before .before .disconnected-end .ensures)
+no-walls-requires : tie.Need-no-walls-requires Inv-loop μ-loop
+no-walls-requires c κs = search needs
+
+lowest-walls-requires : tie.Need-lowest-walls-requires Inv-loop μ-loop
+lowest-walls-requires c κs =
+    let s = c .before .before .before .before .before .before in
+    (omega (arith, end-low (s .before .before .before .args .noted .now) (s .num-edges .result), c .before .before .before .before .before .disconnected-end .ensures), c .before .no-walls .ensures)
 
 loop-holds : tie.Need-loop-holds Inv-loop μ-loop
 loop-holds c = (omega arith, ran-none _ _)
 
 matched-requires : tie.Need-matched-requires Inv-loop μ-loop
-matched-requires c κs = (omega arith, omega arith, (c .before .before .before .before .before .before .before .before .disconnected-end .ensures) ∙ ap (disconnectedEnd (c .before .before .before .before .before .before .before .before .before .before .before .before .args .noted .now)) (c .before .before .before .before .before .before .before .before .before .num-edges .ensures), c .before .before .before .before .walls-between .ensures)
+matched-requires c κs =
+    let s = c .before .before .before .before .before .before .before .before .before .before in
+    (omega arith, omega arith, s .disconnected-end .ensures ∙ ap (disconnectedEnd (s .before .before .before .before .args .noted .now)) (s .before .num-edges .ensures), c .before .before .before .before .lowest-walls .ensures)
 
 add-g : tie.Need-add-g Inv-loop μ-loop
 add-g c = omega arith
@@ -84,7 +91,8 @@ disconnect-matched-spec =
     returns
     first-undecided-requires
     returns-2
-    walls-between-requires
+    no-walls-requires
+    lowest-walls-requires
     loop-holds
     matched-requires
     add-g

@@ -19,8 +19,8 @@ use Rattle.analysis.proofs.step1.matched.Tie as tie
 loose-requires : tie.Need-loose-requires
 loose-requires c κs = search needs
 
-marked-match-requires : tie.Need-marked-match-requires
-marked-match-requires c κs = ((c .before .before .before .before .pre .0), omega (arith, (c .before .before .before .before .pre .1), end-low (c .before .before .before .before .args .noted .now) (edgesOf (wordsOf (c .before .before .before .before .args .plan .now))), (c .before .before .before .before .pre .2)), (c .before .before .before .before .pre .3))
+walled-match-requires : tie.Need-walled-match-requires
+walled-match-requires c κs = ((c .before .before .before .before .pre .0), omega (arith, (c .before .before .before .before .pre .1), end-low (c .before .before .before .before .args .noted .now) (edgesOf (wordsOf (c .before .before .before .before .args .plan .now))), (c .before .before .before .before .pre .2)), (c .before .before .before .before .pre .3))
 
 left-region-requires : tie.Need-left-region-requires
 left-region-requires c κs = search needs
@@ -47,16 +47,16 @@ returns : tie.Need-returns
 unfolding loose matches
 returns c =
     let x = words (wordsOf (c .before .before .before .before .before .before .before .before .before .before .before .before .before .before .before .args .plan .now)) (c .before .before .before .before .before .before .before .before .before .before .before .before .before .before .before .args .edges .now) (c .before .before .before .before .before .before .before .before .before .before .before .before .before .before .before .args .noted .now) (c .before .before .before .before .before .before .before .before .before .before .before .before .before .before .before .args .view .now) in
-    let h = end-some (planIn x) (stateOf (c .before .before .before .before .before .before .before .before .before .before .before .before .before .before .before .args .noted .now)) (viewIn x) (c .before .before .before .before .before .before .before .before .before .before .before .before .before .before .before .args .g) (c .before .before .before .before .before .before .before .before .before .before .before .before .before .before .before .args .end) (c .before .before .before .before .before .before .before .before .before .before .before .before .before .before .before .pre .2) (c .before .before .before .before .before .before .before .before .before .before .marked-match .result) (c .before .before .before .before .before .before .before .before .before .before .marked-match .ensures) (c .before .before .before .before .before .before .before .before .before .if2 .taken) in
+    let h = end-some (planIn x) (stateOf (c .before .before .before .before .before .before .before .before .before .before .before .before .before .before .before .args .noted .now)) (viewIn x) (c .before .before .before .before .before .before .before .before .before .before .before .before .before .before .before .args .g) (c .before .before .before .before .before .before .before .before .before .before .before .before .before .before .before .args .end) (c .before .before .before .before .before .before .before .before .before .before .before .before .before .before .before .pre .2) (c .before .before .before .before .before .before .before .before .before .before .walled-match .result) (c .before .before .before .before .before .before .before .before .before .before .walled-match .ensures) (c .before .before .before .before .before .before .before .before .before .if2 .taken) in
     ap (ran Going) (c .before .before .put .ensures)
     ∙ matched-some _ _ _ _ _ _ _ _ _ (sym (c .before .before .before .before .before .before .before .before .before .before .before .before .loose .ensures) ∙ (c .before .before .before .before .before .before .before .before .before .before .before .if1 .taken)) (h .0) (h .1) (ap₂ eqb (c .before .before .before .before .before .before .before .before .left-region .ensures) (c .before .before .before .before .before .before .before .right-region .ensures)) (c .before .before .before .before .before .edge-place .ensures)
-    ((c .before .before .before .packed .ensures) ∙ ap (λ (i : ℕ). packed 2 (c .before .before .before .before .before .before .before .before .before .before .marked-match .result) (c .before .before .before .before .before .before .before .before .before .before .before .before .before .before .before .args .g) i 0) (c .before .before .before .before .bit .ensures))
+    ((c .before .before .before .packed .ensures) ∙ ap (λ (i : ℕ). packed 2 (c .before .before .before .before .before .before .before .before .before .before .walled-match .result) (c .before .before .before .before .before .before .before .before .before .before .before .before .before .before .before .args .g) i 0) (c .before .before .before .before .bit .ensures))
 
 returns-2 : tie.Need-returns-2
 unfolding loose matches
 returns-2 c =
     let x = words (wordsOf (c .before .before .before .before .before .before .args .plan .now)) (c .before .before .before .before .before .before .args .edges .now) (c .before .before .before .before .before .before .args .noted .now) (c .before .before .before .before .before .before .args .view .now) in
-    matched-none _ _ _ _ _ (sym (c .before .before .before .loose .ensures) ∙ (c .before .before .if1 .taken)) (end-nothing (planIn x) (stateOf (c .before .before .before .before .before .before .args .noted .now)) (viewIn x) (c .before .before .before .before .before .before .args .g) (c .before .before .before .before .before .before .args .end) (c .before .before .before .before .before .before .pre .2) (c .before .marked-match .result) (c .before .marked-match .ensures) (c .if2 .left))
+    matched-none _ _ _ _ _ (sym (c .before .before .before .loose .ensures) ∙ (c .before .before .if1 .taken)) (end-nothing (planIn x) (stateOf (c .before .before .before .before .before .before .args .noted .now)) (viewIn x) (c .before .before .before .before .before .before .args .g) (c .before .before .before .before .before .before .args .end) (c .before .before .before .before .before .before .pre .2) (c .before .walled-match .result) (c .before .walled-match .ensures) (c .if2 .left))
 
 returns-3 : tie.Need-returns-3
 unfolding loose
@@ -67,7 +67,7 @@ matched-spec =
     tie.close
     (tie.spec
     loose-requires
-    marked-match-requires
+    walled-match-requires
     left-region-requires
     right-region-requires
     edge-place-requires

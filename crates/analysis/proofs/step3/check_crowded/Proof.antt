@@ -1,11 +1,12 @@
-use Prim.Native.Nat.{ℕ, _≤_, _-_}
+use Prim.Native.Nat.{_≤_, _-_}
 use native.Mathlib.Omega.{arith}
-use mathlib.Core.Path.{_≡_, sym, _∙_}
-use mathlib.Core.List.{List, []}
+use mathlib.Core.Path.{sym, _∙_}
+use mathlib.Core.List.{[]}
 use borrow.Author.Needs.{needs}
 use Rattle.base.specs.Iter.{iter}
 use Rattle.reasons.specs.declared.Verdict.the-variants.{Going}
 use Rattle.reasons.specs.Verdicts.{begun}
+use Rattle.views.proofs.Sums.{sums-at}
 use Rattle.analysis.specs.Placed.{words, on, Finds}
 use Rattle.analysis.proofs.Pass.{ran-none, ran-more, ran-done, ran-halt, goes-going}
 use Rattle.division.specs.Analysis.{crowds, guarded}
@@ -15,10 +16,10 @@ use Rattle.analysis.proofs.step3.check_crowded.Statement.{statement}
 use Rattle.analysis.proofs.step3.check_crowded.Tie as tie
 
 abbrev Inv-loop : tie.InvT-loop
-Inv-loop plan noted view n r₀ r = (r ≤ n) × Finds Going (iter (guarded (on crowds (words (wordsOf plan) [] noted view))) r begun)
+Inv-loop plan noted view n sums r₀ r = (r ≤ n) × Finds Going (iter (guarded (on crowds (words (wordsOf plan) [] noted view))) r begun)
 
 abbrev μ-loop : tie.MeasureT-loop
-μ-loop plan noted view n r₀ r = n - r
+μ-loop plan noted view n sums r₀ r = n - r
 
 num-vertices-requires : tie.Need-num-vertices-requires Inv-loop μ-loop
 num-vertices-requires c κs = search needs
@@ -26,11 +27,20 @@ num-vertices-requires c κs = search needs
 cast-n : tie.Need-cast-n Inv-loop μ-loop
 cast-n c = omega arith
 
+lower-bound-sums-requires : tie.Need-lower-bound-sums-requires Inv-loop μ-loop
+lower-bound-sums-requires c κs = search needs
+
 loop-holds : tie.Need-loop-holds Inv-loop μ-loop
 loop-holds c = (omega arith, λ a. ran-none _ a)
 
+mul-crowds : tie.Need-mul-crowds Inv-loop μ-loop
+mul-crowds c = omega arith
+
+array-read-crowds : tie.Need-array-read-crowds Inv-loop μ-loop
+array-read-crowds c = omega arith
+
 crowds-requires : tie.Need-crowds-requires Inv-loop μ-loop
-crowds-requires c κs = search needs
+crowds-requires c κs = (search needs, sums-at _ _ _ _ _ _ (c .before .before .lower-bound-sums .ensures) (c .before .before .before .num-vertices .ensures) (omega arith))
 
 goes-on-requires : tie.Need-goes-on-requires Inv-loop μ-loop
 goes-on-requires c κs = search needs
@@ -58,7 +68,10 @@ check-crowded-spec =
     μ-loop
     num-vertices-requires
     cast-n
+    lower-bound-sums-requires
     loop-holds
+    mul-crowds
+    array-read-crowds
     crowds-requires
     goes-on-requires
     add-r

@@ -1,12 +1,11 @@
-use mathlib.Core.Path.{_≡_, refl, sym, ap, ap₂, _∙_}
-use Prim.Native.Nat.{ℕ, _≤_, _<_, _+_, _-_, _*_, _/_, _%_}
+use mathlib.Core.Path.{sym, ap, _∙_}
+use Prim.Native.Nat.{ℕ, _+_, _*_}
 use native.Mathlib.Omega.{arith}
-use Rattle.base.specs.Bytes.{wordAt, longAt, putHalf, putWord, putLong, putHalves, putWords, putLongs}
-use Rattle.byte_calls.specs.Stores.{putReason, putReasons, putLast, putNoted, putCursor, putList, putLog}
-use Rattle.base.proofs.Loop.{pick-yes, pick-no}
-use lib.ListN.{length, length-set, getD, set}
-use Rattle.byte_calls.proofs.Filling.{room-is, cap-most, cap-less, ends-more, putReason-length}
+use lib.ListN.{length, getD}
+use Rattle.base.specs.Bytes.{putLong}
 use Rattle.base.proofs.Bytes.{putLong-length}
+use Rattle.base.proofs.Loop.{pick-yes, pick-no}
+use Rattle.byte_calls.specs.Stores.{putReason}
 use borrow.Author.Needs.{needs}
 use Rattle.byte_calls.proofs.store.store_reason.Statement.{statement}
 use Rattle.byte_calls.proofs.store.store_reason.Tie as tie
@@ -23,6 +22,9 @@ add-put-long c = search needs
 mul-put-long-2 : tie.Need-mul-put-long-2
 mul-put-long-2 c = search needs
 
+add-put-long-2 : tie.Need-add-put-long-2
+add-put-long-2 c = search needs
+
 mul-put-long-3 : tie.Need-mul-put-long-3
 mul-put-long-3 c = search needs
 
@@ -35,14 +37,14 @@ put-long-requires c κs = search needs
 mul-put-long-4 : tie.Need-mul-put-long-4
 mul-put-long-4 c = search needs
 
-add-put-long-2 : tie.Need-add-put-long-2
-add-put-long-2 c = search needs
+add-put-long-3 : tie.Need-add-put-long-3
+add-put-long-3 c = search needs
 
 mul-put-long-5 : tie.Need-mul-put-long-5
 mul-put-long-5 c = search needs
 
-add-put-long-3 : tie.Need-add-put-long-3
-add-put-long-3 c = search needs
+add-put-long-4 : tie.Need-add-put-long-4
+add-put-long-4 c = search needs
 
 mul-put-long-6 : tie.Need-mul-put-long-6
 mul-put-long-6 c = search needs
@@ -51,7 +53,7 @@ shared-slice-read-put-long-2 : tie.Need-shared-slice-read-put-long-2
 shared-slice-read-put-long-2 c = search needs
 
 put-long-requires-2 : tie.Need-put-long-requires-2
-put-long-requires-2 c κs = omega (arith, ap (length {A = ℕ}) (c .before .before .before .before .put-long .ensures), putLong-length (63808 + 16 * (c .before .before .before .before .before .before .before .before .before .before .before .args .p)) (getD {A = ℕ} (c .before .before .before .before .before .before .before .before .before .before .before .args .proposals .now) (2 * (c .before .before .before .before .before .before .before .before .before .before .before .args .p)) 0) (c .before .before .before .before .before .before .before .before .before .before .before .args .state .now))
+put-long-requires-2 c κs = omega (arith, ap (length {A = ℕ}) (c .before .before .before .before .put-long .ensures), putLong-length (63808 + 16 * (c .before .before .before .before .before .before .before .before .before .before .before .args .p)) (getD {A = ℕ} (c .before .before .before .before .before .before .before .before .before .before .before .args .proposals .now) (68 + 2 * (c .before .before .before .before .before .before .before .before .before .before .before .args .p)) 0) (c .before .before .before .before .before .before .before .before .before .before .before .args .state .now))
 
 same-length : tie.Need-same-length
 same-length c = search needs
@@ -72,13 +74,14 @@ store-reason-spec =
     mul-put-long
     add-put-long
     mul-put-long-2
+    add-put-long-2
     mul-put-long-3
     shared-slice-read-put-long
     put-long-requires
     mul-put-long-4
-    add-put-long-2
-    mul-put-long-5
     add-put-long-3
+    mul-put-long-5
+    add-put-long-4
     mul-put-long-6
     shared-slice-read-put-long-2
     put-long-requires-2

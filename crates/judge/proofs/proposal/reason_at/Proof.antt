@@ -7,14 +7,17 @@ use Rattle.judge.proofs.proposal.reason_at.Tie as tie
 mul-word : tie.Need-mul-word
 mul-word c = search needs
 
+add-word : tie.Need-add-word
+add-word c = search needs
+
 word-requires : tie.Need-word-requires
 word-requires c κs = search needs
 
 mul-word-2 : tie.Need-mul-word-2
 mul-word-2 c = search needs
 
-add-word : tie.Need-add-word
-add-word c = search needs
+add-word-2 : tie.Need-add-word-2
+add-word-2 c = search needs
 
 word-requires-2 : tie.Need-word-requires-2
 word-requires-2 c κs = search needs
@@ -30,9 +33,10 @@ reason-at-spec =
     tie.close
     (tie.spec
     mul-word
+    add-word
     word-requires
     mul-word-2
-    add-word
+    add-word-2
     word-requires-2
     reason-of-requires
     returns)

@@ -31,9 +31,9 @@ same-length-5 c = search needs
 
 returns : tie.Need-returns
 returns c =
-    let a = (c .before .before .before .before .before .before .before .before .before .before .before .before .before .before .before .before .before .before .before .before .before .before .before .before .before .before .before .before .before .before .args) in
+    let a = (c .before .before .before .before .before .before .before .before .before .before .before .before .before .before .before .before .before .before .before .before .before .before .before .before .before .before .before .before .before .args) in
     of-all _
-    (λ rs. is-begun (stateOf (wordsOf (a .plan .now)) (a .edges) (a .noted .now) rs (a .left .now) (a .last-len) (a .done)) (a .cursor) (a .words .now) (a .table .now) (a .log .now) (a .list .now) _ (c .before .before .before .before .before .before .before .before .before .before .before .before .before .before .before .before .before .before .initialize-refusal .ensures) _ (c .before .before .before .before .before .before .before .before .before .before .before .before .before .before .before .before .before .if1 .taken)
+    (λ rs. is-begun (stateOf (wordsOf (a .plan .now)) (a .t2) (a .noted .now) rs (a .left .now) (a .last-len) (a .done)) (a .cursor) (a .words .now) (a .table .now) (a .log .now) (a .list .now) _ (c .before .before .before .before .before .before .before .before .before .before .before .before .before .before .before .before .before .before .initialize-refusal .ensures) _ (c .before .before .before .before .before .before .before .before .before .before .before .before .before .before .before .before .before .if1 .taken)
     ((c .before .before .before .before .before .before .before .before .before .before .begin .ensures) rs (a .done)))
 
 same-length-6 : tie.Need-same-length-6
@@ -45,8 +45,8 @@ same-length-7 c = search needs
 returns-2 : tie.Need-returns-2
 unfolding begunOf begunAfter stateAfter pick withNoted refuse
 returns-2 c =
-    let a = (c .before .before .before .before .before .before .before .before .before .before .before .before .before .args) in
-    of-all _ (λ rs. is-refused (stateOf (wordsOf (a .plan .now)) (a .edges) (a .noted .now) rs (a .left .now) (a .last-len) (a .done)) (a .cursor) (a .words .now) (a .table .now) (a .log .now) (a .list .now) _ (c .before .initialize-refusal .ensures) (c .if1 .left))
+    let a = (c .before .before .before .before .before .before .before .before .before .before .before .before .args) in
+    of-all _ (λ rs. is-refused (stateOf (wordsOf (a .plan .now)) (a .t2) (a .noted .now) rs (a .left .now) (a .last-len) (a .done)) (a .cursor) (a .words .now) (a .table .now) (a .log .now) (a .list .now) _ (c .before .initialize-refusal .ensures) (c .if1 .left))
 
 pub initialize-spec : {M : Type 1} → statement M
 initialize-spec =

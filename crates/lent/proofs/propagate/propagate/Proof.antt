@@ -43,10 +43,10 @@ same-length-5 c = search needs
 
 returns : tie.Need-returns
 returns c =
-    let a = c .before .before .before .before .before .before .before .before .before .before .before .before .before .before .before .before .before .before .before .before .before .before .before .before .before .before .before .before .before .before .before .before .before .args in
+    let a = c .before .before .before .before .before .before .before .before .before .before .before .before .before .before .before .before .before .before .before .before .before .before .before .before .before .before .before .before .before .before .before .before .args in
     of-parts _
     (λ rs last len b.
-    is-settled (stateOf (wordsOf (a .plan .now)) (a .edges) (a .noted .now) rs last len b) (a .cursor) (a .proposals .now) (a .left .now) _ _ (a .table .now) (a .list .now) (a .log .now) _ ((c .before .before .before .before .before .before .before .before .before .before .before .before .before .before .before .before .before .before .before .before .before .propagate-refusal .ensures) ∙ ap (propagateRefusal (wordsOf (a .plan .now)) (a .edges) (a .noted .now) (a .table .now) (length (a .list .now)) (a .log .now) (a .cursor)) (toZ-ofZ (c .before .before .before .before .before .before .before .before .before .before .before .before .before .before .before .before .before .before .before .before .before .before .before .before .before .before .before .before .before .before .before .before .before .fits .lit))) _ _ ((c .before .before .before .before .before .before .before .before .before .before .before .before .before .before .before .before .before .before .before .lit-number .ensures) ∙ ap litNumber (toZ-ofZ (c .before .before .before .before .before .before .before .before .before .before .before .before .before .before .before .before .before .before .before .before .before .before .before .before .before .before .before .before .before .before .before .before .before .fits .lit))) (c .before .before .before .before .before .before .before .before .before .before .before .before .before .before .before .before .before .before .before .before .if1 .taken) (sym ((c .before .before .before .before .before .before .before .before .before .before .before .before .before .before .before .before .before .before .in-range .ensures) ∙ ap (inRange (pos 0)) (toZ-ofZ (c .before .before .before .before .before .before .before .before .before .before .before .before .before .before .before .before .before .before .before .before .before .before .before .before .before .before .before .before .before .before .before .before .before .fits .num-pending-propagations))) ∙ (c .before .before .before .before .before .before .before .before .before .before .before .before .before .before .before .before .before .if2 .taken)) ((c .before .before .before .before .before .before .before .before .before .before .settle .ensures) rs last len b))
+    is-settled (stateOf (wordsOf (a .plan .now)) (a .t2) (a .noted .now) rs last len b) (a .cursor) (a .proposals .now) (a .left .now) _ _ (a .table .now) (a .list .now) (a .log .now) _ ((c .before .before .before .before .before .before .before .before .before .before .before .before .before .before .before .before .before .before .before .before .before .propagate-refusal .ensures) ∙ ap (propagateRefusal (wordsOf (a .plan .now)) (a .t2) (a .noted .now) (a .table .now) (length (a .list .now)) (a .log .now) (a .cursor)) (toZ-ofZ (c .before .before .before .before .before .before .before .before .before .before .before .before .before .before .before .before .before .before .before .before .before .before .before .before .before .before .before .before .before .before .before .before .fits .lit))) _ _ ((c .before .before .before .before .before .before .before .before .before .before .before .before .before .before .before .before .before .before .before .lit-number .ensures) ∙ ap litNumber (toZ-ofZ (c .before .before .before .before .before .before .before .before .before .before .before .before .before .before .before .before .before .before .before .before .before .before .before .before .before .before .before .before .before .before .before .before .fits .lit))) (c .before .before .before .before .before .before .before .before .before .before .before .before .before .before .before .before .before .before .before .before .if1 .taken) (sym ((c .before .before .before .before .before .before .before .before .before .before .before .before .before .before .before .before .before .before .in-range .ensures) ∙ ap (inRange (pos 0)) (toZ-ofZ (c .before .before .before .before .before .before .before .before .before .before .before .before .before .before .before .before .before .before .before .before .before .before .before .before .before .before .before .before .before .before .before .before .fits .num-pending-propagations))) ∙ (c .before .before .before .before .before .before .before .before .before .before .before .before .before .before .before .before .before .if2 .taken)) ((c .before .before .before .before .before .before .before .before .before .before .settle .ensures) rs last len b))
 
 add-requires : tie.Need-add-requires
 add-requires c κs = search needs
@@ -59,10 +59,10 @@ same-length-7 c = search needs
 
 returns-2 : tie.Need-returns-2
 returns-2 c =
-    let a = c .before .before .before .before .before .before .before .before .before .before .before .before .before .before .before .before .before .before .before .before .before .args in
+    let a = c .before .before .before .before .before .before .before .before .before .before .before .before .before .before .before .before .before .before .before .before .args in
     of-parts _
     (λ rs last len b.
-    is-added (stateOf (wordsOf (a .plan .now)) (a .edges) (a .noted .now) rs last len b) (a .cursor) (a .proposals .now) (a .left .now) _ _ (a .table .now) (a .list .now) (a .log .now) _ ((c .before .before .before .before .before .before .before .before .before .propagate-refusal .ensures) ∙ ap (propagateRefusal (wordsOf (a .plan .now)) (a .edges) (a .noted .now) (a .table .now) (length (a .list .now)) (a .log .now) (a .cursor)) (toZ-ofZ (c .before .before .before .before .before .before .before .before .before .before .before .before .before .before .before .before .before .before .before .before .before .fits .lit))) _ _ ((c .before .before .before .before .before .before .before .lit-number .ensures) ∙ ap litNumber (toZ-ofZ (c .before .before .before .before .before .before .before .before .before .before .before .before .before .before .before .before .before .before .before .before .before .fits .lit))) (c .before .before .before .before .before .before .before .before .if1 .taken) (sym ((c .before .before .before .before .before .before .in-range .ensures) ∙ ap (inRange (pos 0)) (toZ-ofZ (c .before .before .before .before .before .before .before .before .before .before .before .before .before .before .before .before .before .before .before .before .before .fits .num-pending-propagations))) ∙ (c .before .before .before .before .before .if2 .left)) ((c .before .before .add .ensures) (a .edges) rs last len b _ _ _ _))
+    is-added (stateOf (wordsOf (a .plan .now)) (a .t2) (a .noted .now) rs last len b) (a .cursor) (a .proposals .now) (a .left .now) _ _ (a .table .now) (a .list .now) (a .log .now) _ ((c .before .before .before .before .before .before .before .before .before .propagate-refusal .ensures) ∙ ap (propagateRefusal (wordsOf (a .plan .now)) (a .t2) (a .noted .now) (a .table .now) (length (a .list .now)) (a .log .now) (a .cursor)) (toZ-ofZ (c .before .before .before .before .before .before .before .before .before .before .before .before .before .before .before .before .before .before .before .before .fits .lit))) _ _ ((c .before .before .before .before .before .before .before .lit-number .ensures) ∙ ap litNumber (toZ-ofZ (c .before .before .before .before .before .before .before .before .before .before .before .before .before .before .before .before .before .before .before .before .fits .lit))) (c .before .before .before .before .before .before .before .before .if1 .taken) (sym ((c .before .before .before .before .before .before .in-range .ensures) ∙ ap (inRange (pos 0)) (toZ-ofZ (c .before .before .before .before .before .before .before .before .before .before .before .before .before .before .before .before .before .before .before .before .fits .num-pending-propagations))) ∙ (c .before .before .before .before .before .if2 .left)) ((c .before .before .add .ensures) (a .t2) rs last len b _ _ _ _))
 
 same-length-8 : tie.Need-same-length-8
 same-length-8 c = search needs
@@ -73,10 +73,10 @@ same-length-9 c = search needs
 returns-3 : tie.Need-returns-3
 unfolding calledOf stateAfter pick withNoted withJudged refuse triedOut
 returns-3 c =
-    let a = c .before .before .before .before .before .before .before .before .before .before .before .before .before .args in
+    let a = c .before .before .before .before .before .before .before .before .before .before .before .before .args in
     of-parts _
     (λ rs last len b.
-    is-refused (stateOf (wordsOf (a .plan .now)) (a .edges) (a .noted .now) rs last len b) (a .cursor) (a .proposals .now) (a .left .now) _ _ (a .table .now) (a .list .now) (a .log .now) _ ((c .before .propagate-refusal .ensures) ∙ ap (propagateRefusal (wordsOf (a .plan .now)) (a .edges) (a .noted .now) (a .table .now) (length (a .list .now)) (a .log .now) (a .cursor)) (toZ-ofZ (c .before .before .before .before .before .before .before .before .before .before .before .before .before .fits .lit))) (c .if1 .left))
+    is-refused (stateOf (wordsOf (a .plan .now)) (a .t2) (a .noted .now) rs last len b) (a .cursor) (a .proposals .now) (a .left .now) _ _ (a .table .now) (a .list .now) (a .log .now) _ ((c .before .propagate-refusal .ensures) ∙ ap (propagateRefusal (wordsOf (a .plan .now)) (a .t2) (a .noted .now) (a .table .now) (length (a .list .now)) (a .log .now) (a .cursor)) (toZ-ofZ (c .before .before .before .before .before .before .before .before .before .before .before .before .fits .lit))) (c .if1 .left))
 
 pub propagate-spec : {M : Type 1} → statement M
 propagate-spec =

@@ -20,20 +20,20 @@ undo-requires c κs = search needs
 returns : tie.Need-returns
 unfolding calledOf stateAfter pick withNoted withJudged refuse triedOut
 returns c =
-    let a = c .before .before .before .before .before .before .before .before .before .args in (
+    let a = c .before .before .before .before .before .before .before .before .args in (
       of-parts _
           (λ rs last len b.
-          is-undone (stateOf (wordsOf (a .plan .now)) (a .t2) (a .noted .now) rs last len b) (a .cursor) _ (a .log .now) _ ((c .before .before .before .undo-refusal .ensures) ∙ ap (undoRefusal (wordsOf (a .plan .now)) (a .t2) (a .noted .now) (a .log .now) (a .cursor)) (toZ-ofZ (c .before .before .before .before .before .before .before .before .before .fits .lit))) _ _ (c .before .before .if1 .taken) (c .undo .ensures)),
+          is-undone (stateOf (wordsOf (a .plan .now)) (a .t2) (a .noted .now) rs last len b) (a .cursor) _ (a .log .now) _ ((c .before .before .before .undo-refusal .ensures) ∙ ap (undoRefusal (wordsOf (a .plan .now)) (a .t2) (a .noted .now) (a .log .now) (a .cursor)) (toZ-ofZ (c .before .before .before .before .before .before .before .before .fits .lit))) _ _ (c .before .before .if1 .taken) (c .undo .ensures)),
       (refl, refl),
     )
 
 returns-2 : tie.Need-returns-2
 unfolding calledOf stateAfter pick withNoted withJudged refuse triedOut
 returns-2 c =
-    let a = c .before .before .before .before .before .before .before .args in (
+    let a = c .before .before .before .before .before .before .args in (
       of-parts _
           (λ rs last len b.
-          undo-refused (stateOf (wordsOf (a .plan .now)) (a .t2) (a .noted .now) rs last len b) (a .cursor) _ (a .log .now) _ ((c .before .undo-refusal .ensures) ∙ ap (undoRefusal (wordsOf (a .plan .now)) (a .t2) (a .noted .now) (a .log .now) (a .cursor)) (toZ-ofZ (c .before .before .before .before .before .before .before .fits .lit))) (c .if1 .left)),
+          undo-refused (stateOf (wordsOf (a .plan .now)) (a .t2) (a .noted .now) rs last len b) (a .cursor) _ (a .log .now) _ ((c .before .undo-refusal .ensures) ∙ ap (undoRefusal (wordsOf (a .plan .now)) (a .t2) (a .noted .now) (a .log .now) (a .cursor)) (toZ-ofZ (c .before .before .before .before .before .before .fits .lit))) (c .if1 .left)),
       (refl, refl),
     )
 

@@ -1,12 +1,14 @@
 use mathlib.Core.Path.{_≡_, ap, _∙_}
-use Prim.Native.Nat.{_-_, _*_, _≤_}
+use mathlib.Core.Bool.{true}
+use Prim.Native.Nat.{_-_, _*_, _<_, _≤_}
 use native.Mathlib.Omega.{arith}
 use lib.ListN.{length}
 use Rattle.base.specs.Iter.{iter}
 use Rattle.base.proofs.Loop.{iter-zero, iter-more, iter-done}
 use Rattle.plan.specs.Words.{wordsOf, variablesOf}
 use Rattle.notifications.specs.Notifications.{mergedAt, merged}
-use Rattle.sweep.proofs.Next.{next-told, next-turn}
+use Rattle.sweep.specs.Sweep.{proposedAt}
+use Rattle.sweep.proofs.Next.{next-told, next-turn, proposed-low}
 use Rattle.notifications.proofs.Cases.{merged-length, merged-idle}
 use borrow.Author.Needs.{needs}
 use Rattle.notifications.proofs.merge.merge.Statement.{statement}
@@ -14,6 +16,7 @@ use Rattle.notifications.proofs.merge.merge.Tie as tie
 
 abbrev Inv-loop : tie.InvT-loop
 Inv-loop plan proposals words₀ n p₀ words p = (p ≤ n) × ((n ≡ 2 * variablesOf (wordsOf plan)) × (words ≡ iter (mergedAt proposals) p words₀))
+    × (p < n → proposedAt proposals p ≡ true)
 
 abbrev μ-loop : tie.MeasureT-loop
 μ-loop plan proposals words₀ n p₀ words p = n - p
@@ -33,10 +36,13 @@ next-proposed-requires c κs = search needs
 loop-holds : tie.Need-loop-holds Inv-loop μ-loop
 loop-holds c =
     let e = c .next-proposed .ensures in
-    (next-told e .most, (omega arith, next-turn _ _ _ (merged-idle _) _ _ _ _ (omega arith) e (iter-zero _ _)))
+    (next-told e .most, (omega arith, next-turn _ _ _ (merged-idle _) _ _ _ _ (omega arith) e (iter-zero _ _)), next-told e .on)
 
 merge-at-requires : tie.Need-merge-at-requires Inv-loop μ-loop
-merge-at-requires c κs = omega arith
+merge-at-requires c κs =
+    let l = c .before .before in
+    let on = l .loop .inv .2 (omega arith) in
+    (proposed-low _ _ on, on)
 
 add-next-proposed : tie.Need-add-next-proposed Inv-loop μ-loop
 add-next-proposed c = omega arith
@@ -58,6 +64,7 @@ loop-again c =
         next-turn _ _ _ (merged-idle _) _ _ _ _ (omega arith) e
             (iter-more _ _ _ _ _ (l .loop .inv .1 .1) (x .merge-at .ensures)),
       ),
+      next-told e .on,
     )
 
 same-length : tie.Need-same-length Inv-loop μ-loop

@@ -9,6 +9,7 @@ use Rattle.base.specs.Iter.{iter}
 use Rattle.noting.specs.Undo.{recordsOf}
 use Rattle.noting.specs.Standing.{standing}
 use Rattle.noting.specs.Replay.{replayed, place, replayLevel}
+use Rattle.noting.specs.Following.{marksOf}
 use Rattle.noting.proofs.Back.{standing-none}
 use Rattle.noting.proofs.Follow.{level-on}
 use Rattle.noting.proofs.Passed.{level-step, replay-other, replay-through}
@@ -19,13 +20,14 @@ use Rattle.noting.proofs.replay.replay.Tie as tie
 abbrev Inv-loop : tie.InvT-loop
 Inv-loop plan noted₀ marks₀ log used count at₀ levels₀ noted marks at levels =
     (at ≤ used) × (levels ≤ at) × (length (standing (recordsOf log at)) ≡ levels)
-    × (replayed marks noted (place true at) ≡ iter (λ _ y. replayLevel (wordsOf plan) log used y) levels (replayed marks₀ noted₀ (place true 0)))
+    × (replayed (marksOf marks) noted (place true at) ≡ iter (λ _ y. replayLevel (wordsOf plan) log used y) levels (replayed (marksOf marks₀) noted₀ (place true 0)))
+    × (length marks ≡ 34)
 
 abbrev μ-loop : tie.MeasureT-loop
 μ-loop plan noted₀ marks₀ log used count at₀ levels₀ noted marks at levels = used - at
 
 loop-holds : tie.Need-loop-holds Inv-loop μ-loop
-loop-holds c = (omega arith, omega arith, ap length (standing-none _ 0 (omega arith)), iter-zero _ _)
+loop-holds c = (omega arith, omega arith, ap length (standing-none _ 0 (omega arith)), iter-zero _ _, omega arith)
 
 replay-level-requires : tie.Need-replay-level-requires Inv-loop μ-loop
 replay-level-requires c κs = search needs
@@ -38,7 +40,7 @@ loop-less c =
     let l = c .before .before .before .before .before .loop in
     let a = c .before .before .before .before .before .before .before .before .args in
     let r = c .before .replay-level in
-    let s = level-step (wordsOf (a .plan .now)) (a .log .now) (a .used) (l .marks) (l .noted) _ _ (l .at) (r .result) (r .ensures) (omega arith) (c .if1 .taken) in
+    let s = level-step (wordsOf (a .plan .now)) (a .log .now) (a .used) (marksOf (l .marks)) (l .noted) _ _ (l .at) (r .result) (r .ensures .0) (omega arith) (c .if1 .taken) in
     omega (arith, s .up, s .down)
 
 loop-again : tie.Need-loop-again Inv-loop μ-loop
@@ -46,11 +48,12 @@ loop-again c =
     let l = c .before .before .before .before .before .loop in
     let a = c .before .before .before .before .before .before .before .before .args in
     let r = c .before .replay-level in
-    let s = level-step (wordsOf (a .plan .now)) (a .log .now) (a .used) (l .marks) (l .noted) _ _ (l .at) (r .result) (r .ensures) (omega arith) (c .if1 .taken) in (
+    let s = level-step (wordsOf (a .plan .now)) (a .log .now) (a .used) (marksOf (l .marks)) (l .noted) _ _ (l .at) (r .result) (r .ensures .0) (omega arith) (c .if1 .taken) in (
       s .down,
       omega (arith, s .up),
       s .stands ∙ ap (λ (n : ℕ). n + 1) (l .inv .2),
-      level-on _ _ (r .result) (c .if1 .taken) ∙ iter-more _ _ _ _ _ (l .inv .3) (r .ensures),
+      level-on _ _ (r .result) (c .if1 .taken) ∙ iter-more _ _ _ _ _ (l .inv .3) (r .ensures .0),
+      r .ensures .1,
     )
 
 returns : tie.Need-returns Inv-loop μ-loop
@@ -58,7 +61,7 @@ returns c =
     let l = c .before .before .before .before .before .loop in
     let a = c .before .before .before .before .before .before .before .before .args in
     let r = c .before .replay-level in
-    replay-other (wordsOf (a .plan .now)) (a .log .now) (a .used) _ (l .levels + 1) (omega arith) _ _ (r .result) (iter-more _ _ _ _ _ (l .inv .3) (r .ensures)) (c .if1 .left) (a .count)
+    replay-other (wordsOf (a .plan .now)) (a .log .now) (a .used) _ (l .levels + 1) (omega arith) _ _ (r .result) (iter-more _ _ _ _ _ (l .inv .3) (r .ensures .0)) (c .if1 .left) (a .count)
 
 returns-2 : tie.Need-returns-2 Inv-loop μ-loop
 returns-2 c =

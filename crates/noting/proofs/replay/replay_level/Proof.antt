@@ -3,6 +3,7 @@ use mathlib.Core.Path.{_≡_, refl, sym, ap, ap₂, _∙_}
 use mathlib.Core.Bool.{Bool, true, false, not, _&&_, _||_}
 use Prim.Native.Nat.{ℕ, suc, pred, _+_, _-_, _*_, _/_, _%_, _≤_, _<_}
 use native.Mathlib.Omega.{arith}
+use Rattle.noting.specs.Following.{marksOf}
 use Rattle.noting.proofs.Follow.{found-at, level-other, level-marked, level-free}
 use Rattle.plan.specs.Words.{wordsOf}
 use Rattle.noting.proofs.replay.replay_level.Statement.{statement}
@@ -40,7 +41,7 @@ returns c =
     let a = c .before .before .before .before .before .before .before .before .before .args in
     let f = c .before .before .before .find in
     let m = c .before .marked in
-    level-marked (wordsOf (a .plan .now)) (a .log .now) (a .marks .now) (a .noted .now) (a .used) (a .at) _ _ refl refl (omega arith) (c .before .before .before .before .before .if1 .taken) (f .result) (found-at (wordsOf (a .plan .now)) (c .before .before .before .before .variable .ensures) (f .ensures .0)) (sym (m .ensures) ∙ c .if2 .taken)
+    (level-marked (wordsOf (a .plan .now)) (a .log .now) (marksOf (a .marks .now)) (a .noted .now) (a .used) (a .at) _ _ refl refl (omega arith) (c .before .before .before .before .before .if1 .taken) (f .result) (found-at (wordsOf (a .plan .now)) (c .before .before .before .before .variable .ensures) (f .ensures .0)) (sym (m .ensures) ∙ c .if2 .taken), omega arith)
 
 mark-requires : tie.Need-mark-requires
 mark-requires c κs = search needs
@@ -56,12 +57,12 @@ returns-2 c =
     let a = c .before .before .before .before .before .before .before .before .before .before .before .before .before .args in
     let f = c .before .before .before .before .before .before .before .find in
     let m = c .before .before .before .before .before .marked in
-    level-free (wordsOf (a .plan .now)) (a .log .now) (a .marks .now) (a .noted .now) (a .used) (a .at) _ _ refl refl (omega arith) (c .before .before .before .before .before .before .before .before .before .if1 .taken) (f .result) (found-at (wordsOf (a .plan .now)) (c .before .before .before .before .before .before .before .before .variable .ensures) (f .ensures .0)) (sym (m .ensures) ∙ c .before .before .before .before .if2 .left) _ _ _ (c .before .before .mark .ensures) (c .follow-at .ensures)
+    (level-free (wordsOf (a .plan .now)) (a .log .now) (marksOf (a .marks .now)) (a .noted .now) (a .used) (a .at) _ _ refl refl (omega arith) (c .before .before .before .before .before .before .before .before .before .if1 .taken) (f .result) (found-at (wordsOf (a .plan .now)) (c .before .before .before .before .before .before .before .before .variable .ensures) (f .ensures .0)) (sym (m .ensures) ∙ c .before .before .before .before .if2 .left) _ _ _ (c .before .before .mark .ensures .0) (c .follow-at .ensures), c .before .before .mark .ensures .1)
 
 returns-3 : tie.Need-returns-3
 returns-3 c =
     let a = c .before .before .before .before .args in
-    level-other (wordsOf (a .plan .now)) (a .log .now) (a .marks .now) (a .noted .now) (a .used) (a .at) _ _ refl refl (omega arith) (c .if1 .left)
+    (level-other (wordsOf (a .plan .now)) (a .log .now) (marksOf (a .marks .now)) (a .noted .now) (a .used) (a .at) _ _ refl refl (omega arith) (c .if1 .left), omega arith)
 
 pub replay-level-spec : {M : Type 1} → statement M
 replay-level-spec =

@@ -13,7 +13,9 @@ copy-words-requires : tie.Need-copy-words-requires
 copy-words-requires c κs = search needs
 
 returns : tie.Need-returns
-returns c = with-regions _ _ _ _ _ (c .before .before .before .before .copy-bytes .ensures) (c .copy-words .ensures)
+returns c =
+    let a = c .before .before .before .before .args in
+    with-regions (a .from) (a .labels .now) (a .weights .now) (a .view .now) _ _ (c .before .before .copy-bytes .ensures) (c .copy-words .ensures)
 
 pub store-regions-spec : {M : Type 1} → statement M
 store-regions-spec =
