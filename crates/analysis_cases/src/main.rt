@@ -59,7 +59,7 @@ fn put_listed(letter: u8, numbers: &[u32], end: Listed) {
 }
 
 // How much of a block was read. A count stops far past every limit, so that it never wraps.
-#[derive(Drop)]
+#[derive(Clone, Copy)]
 struct Counts {
     vertices: usize,
     edges: usize,

@@ -18,7 +18,7 @@ use edge_table::Edges;
 use plan::{BUILT, Plan};
 
 // `GraphDivisionOptions` of the Rust, both off by default.
-#[derive(Drop)]
+#[derive(Clone, Copy)]
 pub struct GraphDivisionOptions {
     pub disallow_adjacent_same_size_regions: bool,
     pub allow_extra_walls: bool,
@@ -32,7 +32,7 @@ impl GraphDivisionOptions {
 }
 
 // A plan's words, by value.
-#[derive(Drop)]
+#[derive(Clone, Copy)]
 pub struct PlanWords {
     pub words: Plan,
 }

@@ -19,7 +19,7 @@ use text::Line;
 use undo_log::Cursor;
 
 // What a line leaves, besides what it was lent: the first `printed` bytes of the lent buffer are what it prints.
-#[derive(Drop)]
+#[derive(Clone, Copy)]
 pub struct Obeyed {
     pub state: GraphDivision,
     pub cursor: Cursor,

@@ -7,7 +7,7 @@ use builder::input::{no_edges, no_vertices};
 use graph_division::GraphDivision;
 
 // The refusal that the program answers and ends with, or 0 and a fresh state, and where the calls' lines begin.
-#[derive(Drop)]
+#[derive(Clone, Copy)]
 pub struct Started {
     pub refusal: u8,
     pub state: GraphDivision,

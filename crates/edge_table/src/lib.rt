@@ -7,7 +7,7 @@ pub const MOST_EDGES: usize = 128;
 // Each edge's two ends, "an array of pairs of pen numbers".
 pub type Edges = [[u8; 2]; MOST_EDGES];
 
-#[derive(Drop)]
+#[derive(Clone, Copy)]
 pub struct EdgeTable {
     pub ends: Edges,
 }

@@ -12,7 +12,7 @@ use plan::Plan;
 use recorded::Reasons;
 use undo_log::Cursor;
 
-#[derive(Drop)]
+#[derive(Clone, Copy)]
 pub struct GraphDivision {
     // The plan's words, read through the functions of crate `plan`.
     pub plan: Plan,
@@ -30,7 +30,7 @@ pub struct GraphDivision {
 }
 
 // What a call answers. specs/Answers.antt gives document 01's number and values for each.
-#[derive(Drop)]
+#[derive(Clone, Copy)]
 pub enum Answer {
     // The first `handed` entries of the lent list are the literals handed on.
     Consistent { handed: usize },
@@ -78,7 +78,7 @@ pub fn is_consistent(answer: Answer) -> bool
 }
 
 // A call's state, cursor and answer; what it was lent is changed in place.
-#[derive(Drop)]
+#[derive(Clone, Copy)]
 pub struct Outcome {
     pub state: GraphDivision,
     pub cursor: Cursor,
@@ -87,7 +87,7 @@ pub struct Outcome {
 
 // What building gives: 0 and a fresh state, or the number of the refusal, and then the state is no plan's: its words are all 0,
 // without the mark `plan::BUILT`, and every call refuses it with 7 (refused-no-plan of proofs/NoPlan).
-#[derive(Drop)]
+#[derive(Clone, Copy)]
 pub struct Built {
     pub refusal: u8,
     pub state: GraphDivision,

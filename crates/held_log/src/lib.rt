@@ -9,14 +9,14 @@ use graph_division::{Answer, GraphDivision};
 use undo_log::{Cursor, Record};
 
 // As many records as any plan's log holds.
-#[derive(Drop)]
+#[derive(Clone, Copy)]
 pub struct UndoLog {
     pub records: [Record; 4352],
     pub cursor: Cursor,
 }
 
 // A call's state, log and answer; the other buffers that it was lent are changed in place.
-#[derive(Drop)]
+#[derive(Clone, Copy)]
 pub struct Held {
     pub state: GraphDivision,
     pub log: UndoLog,

@@ -13,7 +13,7 @@ use noting::Noted;
 use proposal::judge_proposals;
 use reasons::Verdict;
 
-#[derive(Drop)]
+#[derive(Clone, Copy)]
 pub enum Judgement {
     Fine,
     // The list that the conflict leaves is left[0..len].

@@ -8,7 +8,7 @@ ghost use Rattle.lent_log.specs.Records.{lent, pushed_run, popped_to};
 use undo_log::{Cursor, Record};
 
 // What a pop found: the newest record, or, where `taken` is false, none.
-#[derive(Drop)]
+#[derive(Clone, Copy)]
 pub struct Newest {
     pub taken: bool,
     pub record: Record,

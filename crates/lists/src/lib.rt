@@ -28,7 +28,7 @@ pub fn no_list() -> ReasonList
 }
 
 // The ends of an edge, or of a path.
-#[derive(Drop)]
+#[derive(Clone, Copy)]
 struct Ends {
     u: usize,
     v: usize,

@@ -16,7 +16,7 @@ use sat::Lit;
 use undo_log::Cursor;
 
 // How far the notifications have come.
-#[derive(Drop)]
+#[derive(Clone, Copy)]
 pub struct Progress {
     pub judgement: Judgement,
     // The length of the list of the literals handed on.

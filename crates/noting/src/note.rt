@@ -18,7 +18,7 @@ pub const NOTHING: u8 = 0;
 
 // What a literal says of one vertex or edge: `LiteralInfo` of the Rust. The kinds are the undo log's EDGE, LOWER_BOUND and
 // UPPER_BOUND, or NOTHING; an edge's value is its state.
-#[derive(Drop)]
+#[derive(Clone, Copy)]
 pub struct Effect {
     pub kind: u8,
     pub index: u8,
@@ -26,7 +26,7 @@ pub struct Effect {
 }
 
 // A part of the distinct variables.
-#[derive(Drop)]
+#[derive(Clone, Copy)]
 pub struct Span {
     pub low: usize,
     pub high: usize,
@@ -419,7 +419,7 @@ pub fn crossed(plan: &[u8], noted: &Noted) -> usize
 }
 
 // What applying a literal tells: the cursor after it, and the lowest vertex whose bounds cross, as `crossed` has it.
-#[derive(Drop)]
+#[derive(Clone, Copy)]
 pub struct Told {
     pub cursor: Cursor,
     pub crossed: usize,

@@ -22,7 +22,7 @@ const MARK_WORDS: usize = 34;
 type Marks = [u64; MARK_WORDS];
 
 // Whether the log is as noting gives it, and how far it was read.
-#[derive(Drop)]
+#[derive(Clone, Copy)]
 pub struct Place {
     pub ok: bool,
     pub at: usize,

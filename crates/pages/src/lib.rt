@@ -13,7 +13,7 @@ ghost use Rattle.pages.specs.Lines.{num_regions, line_of, page_text, page_buffer
 use graph::bounds::wide;
 use text_writer::{count_digits, write_number};
 
-#[derive(Drop)]
+#[derive(Clone, Copy)]
 pub enum Printed {
     // The page has so many bytes, from the buffer's start on.
     Bytes(usize),

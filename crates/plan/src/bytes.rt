@@ -6,7 +6,7 @@ ghost use Rattle.plan.specs.Words.{word, words_of};
 use crate::Plan;
 
 // As many bytes as a plan's words have.
-#[derive(Drop)]
+#[derive(Clone, Copy)]
 pub struct PlanBytes {
     pub bytes: [u8; 60964],
 }

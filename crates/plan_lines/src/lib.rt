@@ -7,7 +7,7 @@ use builder::input::{EdgeNumbers, VertexNumbers};
 use text::Line;
 
 // How much of a plan was read. A count stops far past every limit, so that it never wraps.
-#[derive(Drop)]
+#[derive(Clone, Copy)]
 pub struct Counts {
     pub vertices: usize,
     pub edges: usize,
@@ -16,7 +16,7 @@ pub struct Counts {
 }
 
 // What the plan's lines are, and where the first line that is none of them starts.
-#[derive(Drop)]
+#[derive(Clone, Copy)]
 pub struct PlanLines {
     pub counts: Counts,
     pub calls_at: usize,

@@ -18,7 +18,7 @@ pub fn no_words() -> Proposals
 }
 
 // Where an analysis stands. Everything but Going ends it.
-#[derive(Drop)]
+#[derive(Clone, Copy)]
 pub enum Verdict {
     Going,
     // A disconnected edge inside a region.

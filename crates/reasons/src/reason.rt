@@ -6,7 +6,7 @@ ghost use Rattle.reasons.specs.Reason.{opt_of, opt_word, later_reason, reason_of
 use crate::{packed, packed_lits};
 use sat::{Lit, OptLit};
 
-#[derive(Drop)]
+#[derive(Clone, Copy)]
 pub enum Reason {
     NotPropagated,
     // Both ends of the edge are in one group: it is to be connected.

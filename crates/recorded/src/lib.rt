@@ -7,12 +7,12 @@ ghost use Rattle.noting.specs.Words.{capped};
 use base::slices::word;
 use reasons::reason::Reason;
 
-#[derive(Drop)]
+#[derive(Clone, Copy)]
 pub struct Recorded {
     pub reason: Reason,
 }
 
-#[derive(Drop)]
+#[derive(Clone, Copy)]
 pub struct Reasons {
     pub at: [Recorded; 4352],
 }

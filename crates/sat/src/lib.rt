@@ -3,21 +3,21 @@ ghost use Rattle.std.specs.Prelude.{◌≡◌, pos};
 ghost use Rattle.sat.specs.Literal.{literal, variable, is_negated, is_positive, sign, negate, lit_of, var_of};
 ghost use Rattle.base.specs.Range.{in_range};
 
-#[derive(Drop)]
+#[derive(Clone, Copy)]
 pub struct Var(pub u16);
 
-#[derive(Drop)]
+#[derive(Clone, Copy)]
 pub struct Lit(pub u16);
 
 // A variable that may be missing.
-#[derive(Drop)]
+#[derive(Clone, Copy)]
 pub enum OptVar {
     Some(Var),
     Nothing,
 }
 
 // A literal that may be missing: `Option<Lit>` of the Rust.
-#[derive(Drop)]
+#[derive(Clone, Copy)]
 pub enum OptLit {
     Some(Lit),
     Nothing,

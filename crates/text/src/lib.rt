@@ -9,21 +9,21 @@ ghost use Rattle.text.specs.Lines.{seen_of, within, shape_o, shape_p, shape_g, s
 ghost use Rattle.text.specs.Steps.{more, see_next, Fitting, store};
 
 // A field as it was read: whether it is a number, its sign and its size.
-#[derive(Drop)]
+#[derive(Clone, Copy)]
 pub struct Field {
     pub ok: bool,
     pub minus: bool,
     pub size: u32,
 }
 
-#[derive(Drop)]
+#[derive(Clone, Copy)]
 pub enum Read {
     Number(i32),
     Malformed,
 }
 
 // What a line's shape goes by: whether its fields are numbers, how many there are, and the first three.
-#[derive(Drop)]
+#[derive(Clone, Copy)]
 pub struct Seen {
     pub ok: bool,
     pub count: usize,
@@ -33,7 +33,7 @@ pub struct Seen {
 }
 
 // What a line is. Values are as they were read: only V's and O's are tested here.
-#[derive(Drop)]
+#[derive(Clone, Copy)]
 pub enum Line {
     O {
         same_size: bool,

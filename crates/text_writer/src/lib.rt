@@ -3,7 +3,7 @@ ghost use Rattle.std.specs.Prelude.{◌≡◌, ◌+◌, ◌≤◌, leb, length};
 ghost use Rattle.text_writer.specs.Digits.{digits};
 ghost use Rattle.text_writer.specs.Written.{put, after, next, tabbed, tabbed_one, answer_line};
 
-#[derive(Drop)]
+#[derive(Clone, Copy)]
 pub enum Written {
     // Where the next byte goes.
     Next(usize),

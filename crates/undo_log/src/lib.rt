@@ -16,7 +16,7 @@ pub const NO_LIT: u16 = 65535;
 
 // A notification's first record is a LEVEL_BOUNDARY with its literal. An EDGE record has the edge as its index, a
 // bound's record the vertex, the old bound and the literal that it was due to, if any. Unused fields are 0 and NO_LIT.
-#[derive(Drop)]
+#[derive(Clone, Copy)]
 pub struct Record {
     pub kind: u8,
     pub index: u8,
@@ -24,7 +24,7 @@ pub struct Record {
     pub lit: u16,
 }
 
-#[derive(Drop)]
+#[derive(Clone, Copy)]
 pub struct Cursor {
     // How many records of the log are in use.
     pub used: usize,
@@ -33,14 +33,14 @@ pub struct Cursor {
 }
 
 // What a push did: the cursor after it, or nothing for want of room.
-#[derive(Drop)]
+#[derive(Clone, Copy)]
 pub enum Pushed {
     Moved(Cursor),
     Full,
 }
 
 // What a pop found: the newest record and the cursor after it, or no record.
-#[derive(Drop)]
+#[derive(Clone, Copy)]
 pub enum Popped {
     Taken(Record, Cursor),
     Nothing,

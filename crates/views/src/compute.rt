@@ -12,7 +12,7 @@ use regions::weights::region_weights;
 use regions::{compute_both, compute_regions};
 
 // Each vertex's label, and each region's weight at its label. Not known where the graph cannot be walked or the weights cannot be added.
-#[derive(Drop)]
+#[derive(Clone, Copy)]
 pub struct Regions {
     pub known: bool,
     pub labels: [u8; 64],
@@ -20,7 +20,7 @@ pub struct Regions {
 }
 
 // Each region's tightest bound and the lowest vertex that has it, at its label. Not known where a label is no vertex.
-#[derive(Drop)]
+#[derive(Clone, Copy)]
 pub struct Bounds {
     pub known: bool,
     pub bounds: [u32; 64],

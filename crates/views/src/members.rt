@@ -11,7 +11,7 @@ use noting::Noted;
 use walks::{Listed, Shape, region_vertices};
 
 // The two vertices. Not found where the region cannot be walked.
-#[derive(Drop)]
+#[derive(Clone, Copy)]
 pub struct Extremes {
     pub found: bool,
     pub lower_bound_idx: usize,
@@ -19,7 +19,7 @@ pub struct Extremes {
 }
 
 // A region's vertices: the first `count` entries.
-#[derive(Drop)]
+#[derive(Clone, Copy)]
 struct Members {
     known: bool,
     count: usize,

@@ -14,7 +14,7 @@ use graph::bounds::walkable;
 use sat::negation;
 
 // How many vertices and edges there are, and where the literals of the edges start in the words that are lent.
-#[derive(Drop)]
+#[derive(Clone, Copy)]
 pub struct Shape {
     pub num_vertices: usize,
     pub num_edges: usize,
@@ -22,7 +22,7 @@ pub struct Shape {
 }
 
 // The place past a list that was written; or there is none, and nothing was written.
-#[derive(Drop)]
+#[derive(Clone, Copy)]
 pub enum Listed {
     Past(usize),
     Missing,

@@ -3,7 +3,7 @@ ghost use Rattle.std.specs.Prelude.{◌≡◌, ◌+◌, ◌≤◌, length, take,
 ghost use Rattle.desk.specs.Session.{session};
 
 // How many bytes standard output was given, and whether a write of them failed.
-#[derive(Drop)]
+#[derive(Clone, Copy)]
 pub(crate) struct Shown {
     told: usize,
     failed: bool,
