@@ -1,5 +1,7 @@
 // The steps of `analyze`, over lent words: plan, noted, view. Each reads, and stores what it proposes by the literal's place
 // among the distinct literals; nothing of the state is changed.
+#![tactic(auto)]
+
 pub mod analyze;
 pub mod step1;
 pub mod step2;

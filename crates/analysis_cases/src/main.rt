@@ -5,6 +5,8 @@
 //
 // The file stdin is tests/analysis/named and after it what `tests/analysis/generate 1 280` prints. The file stdout has the Rust's
 // answers and not this program's: `tests/analysis/oracle FOLDER <crates/analysis_cases/stdin`, where FOLDER has the Rust source.
+#![tactic(auto)]
+
 ghost use Rattle.std.specs.Prelude.{◌≡◌, ◌+◌, ◌<◌, ◌≤◌, length};
 
 use builder::build::{GraphDivisionOptions, PlanWords};

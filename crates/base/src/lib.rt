@@ -1,4 +1,6 @@
 // What every crate may need: range tests on numbers from outside, small sums, entries of slices. The definitions of loops stand in specs/.
+#![tactic(auto)]
+
 pub mod slices;
 
 ghost use Rattle.std.specs.Prelude.{◌≡◌, pred, ◌+◌, ◌*◌};

@@ -1,1 +1,2 @@
 // Definitions and theorems only: the conditions of the order.
+#![tactic(auto)]

@@ -1,4 +1,6 @@
 // The program's lines past the plan's: the call that a line is, on state, cursor, table and log, and the bytes that it prints.
+#![tactic(auto)]
+
 pub mod print;
 pub mod start;
 pub mod table;

@@ -1,4 +1,6 @@
 // The propagator's state, how it is built, and what its calls answer. The calls are in crates lent and by_value; specs/ says what they do.
+#![tactic(auto)]
+
 ghost use Rattle.std.specs.Prelude.{◌≡◌};
 ghost use Rattle.graph_division.specs.Answers.{is_consistent, is_refused};
 ghost use Rattle.graph_division.specs.New.{built};

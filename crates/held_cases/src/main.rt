@@ -1,5 +1,7 @@
 // Case G of document 01 through crate held_log: a caller in ordinary forms, none of its functions proved by a walk of its own.
 // The answers are printed as `yard` prints them, and the file stdout has the document's.
+#![tactic(auto)]
+
 ghost use Rattle.std.specs.Prelude.{◌<◌};
 
 use builder::build::GraphDivisionOptions;

@@ -1,5 +1,7 @@
 // The calls for a caller without a walk of its own: the undo log, records and cursor, by value. Each lends the two to the call
 // on records.
+#![tactic(auto)]
+
 ghost use Rattle.std.specs.Prelude.{◌≡◌};
 ghost use Rattle.graph_division.specs.Calls.{called, fetched};
 ghost use Rattle.record_calls.specs.Checked.{checked_initialized, checked_propagated, checked_undone, checked_reason, checked_last};

@@ -1,5 +1,7 @@
 // The C host: the calls of crate byte_calls, exported under C's names. A slice is a pointer and a length in C; include/zuntjev.h has the
 // layout of the bytes. Every call takes any bytes. `rt staticlib` proves this crate once more: it stays thin.
+#![tactic(auto)]
+
 ghost use Rattle.std.specs.Prelude.{◌≡◌};
 ghost use Rattle.byte_calls.specs.Host.{left_with, back, too_short, host_initialized, initialized_in, host_propagated};
 ghost use Rattle.byte_calls.specs.Host.{propagated_in, host_undone, undone_in, host_reason, host_last, host_run};

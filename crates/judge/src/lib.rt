@@ -1,5 +1,7 @@
 // The body of the Rust's `propagate` after noting, up to handing on: an analysis, and its proposals against the value table.
 // Nothing of the state or of the table is changed; specs/Judge.antt says what each function does.
+#![tactic(auto)]
+
 pub mod conflict;
 pub mod proposal;
 

@@ -1,5 +1,7 @@
 // The undo log in the form that a caller holds: a lent slice of records, and a cursor that is lent and moves in place. The
 // functions that are lent records are thin: the flat form, crate undo_log, does the work on words.
+#![tactic(auto)]
+
 ghost use Rattle.std.specs.Prelude.{◌≡◌, get_or, set};
 ghost use Rattle.undo_log.specs.Log.{word_of, record_of};
 ghost use Rattle.lent_log.specs.Records.{pushing, push_record, has_newest, popping, pop_record, least, loaded};

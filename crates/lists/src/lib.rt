@@ -1,5 +1,7 @@
 // The lists of literals: `get_reason_lits` and the list of a conflict, each written to a lent buffer from a place on. Both walk the
 // edges as noted.
+#![tactic(auto)]
+
 pub mod conflict;
 
 ghost use Rattle.std.specs.Prelude.{◌≡◌, replicate};

@@ -1,5 +1,7 @@
 // The notifications of `initialize` and its last pass, over lent arrays: all is tried out here, and `initialize` takes it over or
 // drops it. specs/Notifications.antt says what each function does.
+#![tactic(auto)]
+
 pub mod merge;
 
 ghost use Rattle.std.specs.Prelude.{◌≡◌, ◌<◌};

@@ -1,5 +1,7 @@
 // Noting a literal, undoing it, and what stands. The noted words are the part of the Rust's `GraphDivision` that
 // notifications change; specs/Words.antt says which word is which.
+#![tactic(auto)]
+
 pub mod buffers;
 pub mod note;
 pub mod replay;

@@ -1,5 +1,7 @@
 // Document 02, request 3: a page with a line for each region, in the order of its lowest vertex. A region is kept as a
 // set of 64 bits, one a vertex.
+#![tactic(auto)]
+
 ghost use Rattle.std.specs.Prelude.{◌≡◌, ℕ, ◌+◌, ◌*◌, ◌<◌, ◌≤◌, eqb, length, get_or, replicate};
 ghost use Rattle.std.specs.Int.Count.{ones, count_trailing_zeros};
 ghost use Rattle.base.specs.Iter.{pick};

@@ -1,6 +1,8 @@
 // The plan: its words, which the builder fills and every call reads, and the plan's own test. A call is lent them as bytes, so that
 // a C host's are read where they are and nothing is decoded.
 // Reading a plan's words. specs/Words.antt says which word is which; every function answers 0 past its limits.
+#![tactic(auto)]
+
 pub mod bytes;
 pub mod check;
 

@@ -1,4 +1,6 @@
 // The plan's lines, O, P and G, into the two arrays that a plan is built from (builder::input says how they are laid out).
+#![tactic(auto)]
+
 ghost use Rattle.std.specs.Prelude.{◌≡◌, ◌+◌, ◌*◌, ◌-◌, ◌≤◌, ◌<◌, pos, get_or};
 ghost use Rattle.text.specs.Lines.{read_line};
 ghost use Rattle.plan_lines.specs.Lines.{one_more, as_number, row_put, numbers_put, head_put, lits_put, vertex_put, edge_put, counts, drafted, taken, is_plan_line, reading_of, next_line, taken_lines};

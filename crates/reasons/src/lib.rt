@@ -1,4 +1,6 @@
 // What an analysis finds: a verdict, and proposals with their reasons, stored as words. specs/Words.antt says what is where.
+#![tactic(auto)]
+
 pub mod reason;
 
 ghost use Rattle.std.specs.Prelude.{◌≡◌, ◌<◌, ◌^◌, replicate};

@@ -2,6 +2,8 @@
 // lent and moves in place. Each loads the records in use as words and makes the flat call on them. What this pushed is
 // then pushed on the lent log, record by record, and what it took back is popped. These calls test the whole plan, which
 // those that they make do not.
+#![tactic(auto)]
+
 pub mod calc_reason;
 pub mod initialize;
 pub mod propagate;

@@ -1,4 +1,6 @@
 // The reasons recorded for the distinct literals: the Rust's `propagation_reasons`, an array of records that hold the enum.
+#![tactic(auto)]
+
 ghost use Rattle.std.specs.Prelude.{◌≡◌, ◌*◌, ◌<◌};
 ghost use Rattle.plan.specs.Words.{words_of, variables_of};
 ghost use Rattle.recorded.specs.Recorded.{no_reasons, reason_at, newest, recorded};

@@ -1,5 +1,7 @@
 // The tests that a call makes before it works: refusals 7 to 11 in this order, each on any input. The answer is the
 // refusal's number, 0 where none applies. The plan's counts come first: they bound the loops of all other tests.
+#![tactic(auto)]
+
 ghost use Rattle.std.specs.Prelude.{◌≡◌, ℕ};
 ghost use Rattle.refusals.specs.Refusals.{state_bad, table_state_bad, lit_number, unknown_lit, literal_refusal, initialize_refusal, propagate_refusal, undo_refusal, fetch_refusal};
 ghost use Rattle.plan.specs.Words.{words_of};

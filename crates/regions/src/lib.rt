@@ -1,4 +1,6 @@
 // The regions of a graph by one walk of its edges, which merges labels.
+#![tactic(auto)]
+
 pub mod limits;
 pub mod weights;
 

@@ -1,6 +1,8 @@
 // The run of edges, connected or undecided, that joins two vertices with the fewest undecided ones; among equals the
 // one with fewer edges, then the one whose edge numbers come first. Distances are measured from the last vertex, so
 // that the run is found from the first one on, by the lowest edge that leads onward each time.
+#![tactic(auto)]
+
 ghost use Rattle.std.specs.Prelude.{◌≡◌, Bool, true, false, ◌||◌, ℕ, ◌+◌, ◌<◌, ◌≤◌, eqb, length};
 ghost use Rattle.base.specs.Iter.{pick};
 ghost use Rattle.graph.specs.Search.{graph};

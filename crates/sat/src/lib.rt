@@ -1,4 +1,6 @@
 // Variables and literals: `Var` and `Lit` of sat.rs. Variable v gives literal 2v, and 2v + 1 for its negation.
+#![tactic(auto)]
+
 ghost use Rattle.std.specs.Prelude.{◌≡◌, pos};
 ghost use Rattle.sat.specs.Literal.{literal, variable, is_negated, is_positive, sign, negate, lit_of, var_of};
 ghost use Rattle.base.specs.Range.{in_range};

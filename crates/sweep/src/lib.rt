@@ -1,6 +1,8 @@
 // What an analysis proposed, against the value table. Bit p of the proposals' first 68 words is set where the literal at
 // place p of the plan's distinct literals, which rise, is proposed; words 68 + 2p and 69 + 2p are its reason.
 // specs/Sweep.antt says what each function does.
+#![tactic(auto)]
+
 pub mod table;
 
 ghost use Rattle.std.specs.Prelude.{◌≡◌, ◌*◌, ◌+◌, ◌/◌, ◌^◌, ◌<◌, ◌≤◌, min, length};

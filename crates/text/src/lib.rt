@@ -1,4 +1,6 @@
 // Text lines: a line's letter and its numbers, parted by tabs. `input` has the order of the lines.
+#![tactic(auto)]
+
 pub mod input;
 
 ghost use Rattle.std.specs.Prelude.{◌≡◌, map, [], ◌+◌, ◌≤◌, ◌<◌, false, length, drop};

@@ -1,4 +1,6 @@
 // Answers: numbers in base ten, and answer lines, into a lent buffer.
+#![tactic(auto)]
+
 ghost use Rattle.std.specs.Prelude.{◌≡◌, ◌+◌, ◌≤◌, leb, length};
 ghost use Rattle.text_writer.specs.Digits.{digits};
 ghost use Rattle.text_writer.specs.Written.{put, after, next, tabbed, tabbed_one, answer_line};

@@ -1,4 +1,6 @@
 // The undo log in its flat form: one u64 word a record over a lent slice, and a cursor by value.
+#![tactic(auto)]
+
 ghost use Rattle.std.specs.Prelude.{◌≡◌};
 ghost use Rattle.undo_log.specs.Log.{word_of, record_of, push_words, push_answer, pop_answer};
 

@@ -1,5 +1,7 @@
 // What an analysis computes first: the regions of a state, their weights and their bounds, as words. specs/Words.antt says
 // which word is which; every function answers 0 past its limit.
+#![tactic(auto)]
+
 pub mod cells;
 pub mod compute;
 pub mod members;

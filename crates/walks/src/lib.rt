@@ -1,4 +1,6 @@
 // The lists that the Rust makes by walking the graph, each written to a lent buffer from a place on.
+#![tactic(auto)]
+
 mod search;
 
 ghost use Rattle.std.specs.Prelude.{◌≡◌, true, ℕ, ◌+◌, ◌<◌, ◌≤◌, length, get_or};

@@ -1,6 +1,8 @@
 // The program `yard`: a plan's lines and calls' lines from standard input, the answers to standard output. The bytes that are given to standard
 // output are those of `session` (crate desk, specs/Session): `show`, the only function that writes there, requires it of each part, and `answer`
 // ensures that no byte is left.
+#![tactic(auto)]
+
 mod output;
 
 ghost use Rattle.std.specs.Prelude.{◌≡◌, ◌≤◌, length, replicate};

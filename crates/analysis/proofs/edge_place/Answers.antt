@@ -1,0 +1,11 @@
+use mathlib.Core.Path.{◌≡◌, refl, sym, ap, ap₂, ◌∙◌}
+use Prim.Native.Nat.{ℕ, ◌+◌, ◌*◌, ◌/◌, ◌%◌}
+use native.Mathlib.Omega.{arith}
+use Rattle.analysis.specs.Placed.{place_of_lit, place_for, edge_place_of, dom_place_of}
+use borrow.Author.Rules.{rules}
+use Rattle.plan.specs.Words.{words_of}
+use Rattle.analysis.proofs.edge_place.Goals as goal
+
+pub returns : goal.returns
+unfolding edge_place_of
+returns c = c.place_for_lem.ensures ∙ ap₂ (place_for (words_of c.args.plan.now)) c.edge_index.ensures c.edge_lit.ensures

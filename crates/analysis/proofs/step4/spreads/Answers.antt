@@ -1,0 +1,11 @@
+use mathlib.Core.Path.{◌≡◌, refl, sym, ap, ap₂, ◌∙◌}
+use native.Mathlib.Omega.{arith}
+use Rattle.division.specs.Analysis.{spreads}
+use Rattle.analysis.proofs.Pass.{ran_after}
+use Rattle.analysis.proofs.Spreading.{spreads_high_follows}
+use borrow.Author.Rules.{rules}
+use Rattle.analysis.proofs.step4.spreads.Goals as goal
+
+pub returns : goal.returns
+unfolding spreads
+returns c = ran_after _ (spreads_high_follows _ _ _ _) _ _ _ _ _ c.spreads_low_lem.ensures c.spreads_high_lem.ensures

@@ -1,0 +1,18 @@
+use mathlib.Core.Path.{◌≡◌, refl, sym, ap, ◌∙◌}
+use mathlib.Core.List.{List}
+use Prim.Native.Nat.{ℕ, zero, suc, pred, ◌+◌, ◌-◌, ◌*◌, ◌≤◌, ◌<◌}
+use native.Mathlib.Omega.{arith}
+use borrow.Author.Rules.{rules}
+use Rattle.base.specs.Iter.{iter}
+use Rattle.base.specs.Lists.{filled}
+use Rattle.base.specs.Range.{to_nat}
+use Rattle.base.proofs.Loop.{iter_zero, iter_more, iter_done}
+use Rattle.builder.specs.Input.{len_at, size_at, lit_at}
+use Rattle.builder.specs.Build.{rows}
+use Rattle.builder.proofs.build.fill_dom_lits.Given as goal
+
+abbrev pub invariant-loop-v : goal.invariant-loop-v
+invariant-loop-v l = (l.v ≤ l.n) × (l.plan ≡ iter (λ l.v l. filled (2184 + 32 * l.v) (pred (len_at l.vertices l.v)) (λ j. to_nat (lit_at l.vertices l.v j)) l) l.v l.initial.plan)
+
+abbrev pub decreases-loop-v : goal.decreases-loop-v
+decreases-loop-v l = l.n - l.v

@@ -1,0 +1,39 @@
+use mathlib.Core.Path.{◌≡◌, refl, sym, ap, ◌∙◌}
+use mathlib.Core.List.{List}
+use Prim.Native.Nat.{ℕ, pred, ◌+◌, ◌-◌, ◌*◌, ◌≤◌, ◌<◌}
+use native.Mathlib.Omega.{arith}
+use borrow.Author.Rules.{rules}
+use lib.ListN.{get_or, set, length-set}
+use Rattle.base.specs.Iter.{iter}
+use Rattle.base.specs.Lists.{filled}
+use Rattle.base.specs.Range.{to_nat}
+use Rattle.base.proofs.Loop.{iter_zero, iter_more, iter_done}
+use Rattle.builder.specs.Input.{weight_at, len_at, size_at, lit_at, edge_lit_at}
+use Rattle.builder.proofs.build.fill_weights.Goals as goal
+
+pub loop-v-init : goal.loop-v-init
+loop-v-init c = (omega arith, iter_zero _ _)
+
+pub overflow_add-plan : goal.overflow_add-plan
+overflow_add-plan c = omega arith
+
+pub offset_bounds-plan-v : goal.offset_bounds-plan-v
+offset_bounds-plan-v c = omega arith
+
+pub bounds-plan-v : goal.bounds-plan-v
+bounds-plan-v c = omega arith
+
+pub overflow_add-v : goal.overflow_add-v
+overflow_add-v c = omega arith
+
+pub loop-v-smaller : goal.loop-v-smaller
+loop-v-smaller c = omega arith
+
+pub loop-v-preserved : goal.loop-v-preserved
+loop-v-preserved c =
+    let l = c.loop-v in
+    (omega arith, iter_more _ _ _ _ _ l.invariant.1 (ap (set l.plan (8 + l.v)) c.weight_number.ensures))
+
+pub returns : goal.returns
+unfolding filled
+returns c = iter_done _ _ _ _ _ c.loop-v.invariant.1 (omega arith) (omega arith)

@@ -1,0 +1,36 @@
+use mathlib.Core.Path.{◌≡◌, refl, sym, ap, ap₂, ◌∙◌}
+use Rattle.lent.specs.Lent.{state_of, state_after, called_of}
+use Rattle.graph_division.specs.Calls.{with_noted, with_judged, refuse, tried_out}
+use Rattle.base.specs.Iter.{pick}
+use mir.Facts.{to_z-of_z}
+use lib.IntN.{pos}
+use lib.ListN.{length}
+use Rattle.base.specs.Range.{in_range}
+use Rattle.refusals.specs.Refusals.{lit_number, propagate_refusal}
+use Rattle.lent.proofs.Lending.{is_settled, is_added, is_refused}
+use Rattle.lent.proofs.Parting.{of_parts}
+use borrow.Author.Rules.{rules}
+use Rattle.plan.specs.Words.{words_of}
+use Rattle.lent.proofs.propagate.propagate.Goals as goal
+
+pub returns-then-in_range : goal.returns-then-in_range
+returns-then-in_range c =
+    let a = c.args in
+    of_parts _
+    (λ rs last len b.
+    is_settled (state_of (words_of a.plan.now) a.t2 a.noted.now rs last len b) a.cursor a.proposals.now a.left.now _ _ a.table.now a.list.now a.log.now _ (c.propagate_refusal-n.ensures ∙ ap (propagate_refusal (words_of a.plan.now) a.t2 a.noted.now a.table.now (length a.list.now) a.log.now a.cursor) (to_z-of_z c.ranges.lit)) _ _ (c.lit_number-l.ensures ∙ ap lit_number (to_z-of_z c.ranges.lit)) c.if-n-eq0.true (sym (c.in_range.ensures ∙ ap (in_range (pos 0)) (to_z-of_z c.ranges.num-pending-propagations)) ∙ c.if-in_range.true) (c.settle.ensures rs last len b))
+
+pub returns-then-n-eq0 : goal.returns-then-n-eq0
+returns-then-n-eq0 c =
+    let a = c.args in
+    of_parts _
+    (λ rs last len b.
+    is_added (state_of (words_of a.plan.now) a.t2 a.noted.now rs last len b) a.cursor a.proposals.now a.left.now _ _ a.table.now a.list.now a.log.now _ (c.propagate_refusal-n.ensures ∙ ap (propagate_refusal (words_of a.plan.now) a.t2 a.noted.now a.table.now (length a.list.now) a.log.now a.cursor) (to_z-of_z c.ranges.lit)) _ _ (c.lit_number-l.ensures ∙ ap lit_number (to_z-of_z c.ranges.lit)) c.if-n-eq0.true (sym (c.in_range.ensures ∙ ap (in_range (pos 0)) (to_z-of_z c.ranges.num-pending-propagations)) ∙ c.if-in_range.false) (c.add.ensures a.t2 rs last len b _ _ _ _))
+
+pub returns : goal.returns
+unfolding called_of state_after pick with_noted with_judged refuse tried_out
+returns c =
+    let a = c.args in
+    of_parts _
+    (λ rs last len b.
+    is_refused (state_of (words_of a.plan.now) a.t2 a.noted.now rs last len b) a.cursor a.proposals.now a.left.now _ _ a.table.now a.list.now a.log.now _ (c.propagate_refusal-n.ensures ∙ ap (propagate_refusal (words_of a.plan.now) a.t2 a.noted.now a.table.now (length a.list.now) a.log.now a.cursor) (to_z-of_z c.ranges.lit)) c.if-n-eq0.false)

@@ -1,0 +1,6 @@
+use Rattle.lists.proofs.Spans.{span_by}
+use borrow.Author.Rules.{rules}
+use Rattle.lists.proofs.conflict.span.Goals as goal
+
+pub returns : goal.returns
+returns c = span_by _ _ _ _ _ _ _ c.lower_bound_lit.ensures c.and_lit-s.ensures c.upper_bound_lit.ensures c.and_lit.ensures

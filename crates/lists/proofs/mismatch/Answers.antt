@@ -1,0 +1,11 @@
+use Rattle.lists.proofs.Steps.{mismatch_by, mismatch_other}
+use Rattle.walks.specs.Answers.{missing}
+use borrow.Author.Rules.{rules}
+use Rattle.lists.proofs.mismatch.Goals as goal
+
+pub returns-in-InconsistentBoundsIfRegionsAreMerged : goal.returns-in-InconsistentBoundsIfRegionsAreMerged
+returns-in-InconsistentBoundsIfRegionsAreMerged c = mismatch_by _ _ _ _ _ _ _ _ _ _ _ _ _ _ _ c.reason-1.given.1 c.ends_of-e.ensures c.two_paths-r.ensures c.upper_bound_lit.ensures c.and_lit-s.ensures c.lower_bound_lit.ensures c.and_lit.ensures
+
+pub returns : goal.returns
+unfolding missing
+returns c = mismatch_other _ _ _ _ _ c.in_default.keys2

@@ -1,0 +1,6 @@
+use Rattle.lists.proofs.Steps.{potential_by}
+use borrow.Author.Rules.{rules}
+use Rattle.lists.proofs.potential.Goals as goal
+
+pub returns : goal.returns
+returns c = potential_by _ _ _ _ _ _ _ _ c.shape_of.ensures c.edge_lits-lits.ensures c.reason_potential_region.ensures

@@ -1,0 +1,12 @@
+use mathlib.Core.Path.{sym, ap}
+use Rattle.reasons.specs.Reason.{opt_word}
+use borrow.Author.Rules.{rules}
+use Rattle.reasons.proofs.reason.lit_word.Goals as goal
+
+pub returns-in-Some : goal.returns-in-Some
+unfolding opt_word
+returns-in-Some c = sym (ap opt_word c.l-1.given.1)
+
+pub returns-in-Nothing : goal.returns-in-Nothing
+unfolding opt_word
+returns-in-Nothing c = sym (ap opt_word c.enum_told-1.given.1)

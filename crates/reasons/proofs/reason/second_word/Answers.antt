@@ -1,0 +1,41 @@
+use mathlib.Core.Path.{sym, ◌∙◌, ap}
+use Rattle.reasons.specs.Reason.{second_word_of}
+use Rattle.reasons.proofs.Back.{lits_as}
+use borrow.Author.Rules.{rules}
+use Rattle.reasons.proofs.reason.second_word.Goals as goal
+
+pub returns-in-NotPropagated : goal.returns-in-NotPropagated
+unfolding second_word_of
+returns-in-NotPropagated c = sym (ap second_word_of c.enum_told-1.given.1)
+
+pub returns-in-EdgeInSameGroup : goal.returns-in-EdgeInSameGroup
+unfolding second_word_of
+returns-in-EdgeInSameGroup c = sym (ap second_word_of c.enum_told-in-EdgeInSameGroup-1.given.1)
+
+pub returns-in-EdgeBetweenDifferentGroups : goal.returns-in-EdgeBetweenDifferentGroups
+unfolding second_word_of
+returns-in-EdgeBetweenDifferentGroups c = sym (ap second_word_of c.enum_told-in-EdgeBetweenDifferentGroups-1.given.1)
+
+pub returns-in-TooLargeIfRegionsAreMerged : goal.returns-in-TooLargeIfRegionsAreMerged
+unfolding second_word_of
+returns-in-TooLargeIfRegionsAreMerged c = sym (ap second_word_of c.enum_told-in-TooLargeIfRegionsAreMerged-1.given.1)
+
+pub returns-in-RegionAlreadyLarge : goal.returns-in-RegionAlreadyLarge
+unfolding second_word_of
+returns-in-RegionAlreadyLarge c = sym (ap second_word_of c.enum_told-in-RegionAlreadyLarge-1.given.1)
+
+pub returns-in-RegionAlreadySmall : goal.returns-in-RegionAlreadySmall
+unfolding second_word_of
+returns-in-RegionAlreadySmall c = sym (ap second_word_of c.enum_told-in-RegionAlreadySmall-1.given.1)
+
+pub returns-in-InconsistentBoundsIfRegionsAreMerged : goal.returns-in-InconsistentBoundsIfRegionsAreMerged
+unfolding second_word_of
+returns-in-InconsistentBoundsIfRegionsAreMerged c = sym (ap second_word_of c.enum_told-in-InconsistentBoundsIfRegionsAreMerged-1.given.1)
+
+pub returns-in-BoundPropagationWithinRegion : goal.returns-in-BoundPropagationWithinRegion
+unfolding second_word_of
+returns-in-BoundPropagationWithinRegion c = sym (ap second_word_of c.enum_told-in-BoundPropagationWithinRegion-1.given.1)
+
+pub returns-in-AdjacentSameSizeRegions : goal.returns-in-AdjacentSameSizeRegions
+unfolding second_word_of
+returns-in-AdjacentSameSizeRegions c = lits_as _ _ _ _ _ c.packed_lits.ensures c.lit_word_lem.ensures c.lit_word-in-AdjacentSameSizeRegions.ensures c.lit_word-in-AdjacentSameSizeRegions-2.ensures c.lit_word-in-AdjacentSameSizeRegions-3.ensures ∙ sym (ap second_word_of c.r-1.given.1)

@@ -1,0 +1,17 @@
+use mir.Facts.{to_z-of_z}
+use Rattle.graph_division.specs.Calls.{propagated}
+use mathlib.Core.Path.{sym, ap, ◌∙◌}
+use Rattle.base.proofs.Loop.{pick_yes, pick_no}
+use Rattle.graph_division.specs.declared.Outcome.{Outcome}
+use Rattle.graph_division.specs.Calls.{called}
+use borrow.Author.Rules.{rules}
+use Rattle.record_calls.proofs.propagate.propagate_words.Goals as goal
+
+pub returns-then-reaches : goal.returns-then-reaches
+returns-then-reaches c =
+    (c.propagate.ensures)
+    ∙ (λ i. propagated (c.args.s) (c.args.cursor) (to_z-of_z (c.ranges.lit) i) (to_z-of_z (c.ranges.num-pending-propagations) i) (c.args.table.now) (c.args.list.now) (c.args.words.now))
+    ∙ sym (pick_yes _ _ (sym (c.reaches.ensures) ∙ (c.if-reaches.true)))
+
+pub returns : goal.returns
+returns c = ap (λ (o : Outcome). called o (c.args.table.now) (c.args.list.now) (c.args.words.now)) (c.refuse.ensures) ∙ sym (pick_no _ _ (sym (c.reaches.ensures) ∙ (c.if-reaches.false)))

@@ -1,0 +1,13 @@
+use mathlib.Core.Path.{◌≡◌, refl}
+use native.Mathlib.Omega.{arith}
+use Prim.Native.Nat.{◌≤◌, ◌-◌}
+use Rattle.graph.proofs.Lists.{put_as}
+use Rattle.graph.specs.Lists.{mapped}
+use Rattle.base.proofs.Loop.{iter_zero, iter_more, iter_done}
+use Rattle.regions.proofs.limits.set_bounds.Given as goal
+
+abbrev pub invariant-loop-r : goal.invariant-loop-r
+invariant-loop-r l = (l.r ≤ l.num_vertices) × (l.bounds ≡ mapped (λ _ _. l.x) l.r l.initial.bounds)
+
+abbrev pub decreases-loop-r : goal.decreases-loop-r
+decreases-loop-r l = l.num_vertices - l.r

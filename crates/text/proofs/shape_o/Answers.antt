@@ -1,0 +1,33 @@
+use mathlib.Core.Path.{sym, ◌∙◌}
+use borrow.Author.Tests.{eq-eqb, ne_eqb, not-true, not-false}
+use Rattle.base.proofs.Loop.{pick_yes, pick_no}
+use Rattle.text.specs.Lines.{shape_o}
+use borrow.Author.Rules.{rules}
+use Rattle.text.proofs.shape_o.Goals as goal
+
+pub returns-then-n-ne2 : goal.returns-then-n-ne2
+unfolding shape_o
+returns-then-n-ne2 c = sym (pick_no _ _ (ne_eqb _ _ c.if-n-ne2.true))
+
+pub returns-then-not-is_within : goal.returns-then-not-is_within
+unfolding shape_o
+returns-then-not-is_within c =
+    sym
+    (pick_yes _ _ (eq-eqb _ _ c.if-n-ne2.false)
+    ∙ pick_no _ _ (sym c.is_Within.ensures ∙ not-true _ c.if-not-is_within.true))
+
+pub returns-then-not-is_within-2 : goal.returns-then-not-is_within-2
+unfolding shape_o
+returns-then-not-is_within-2 c =
+    sym
+    (pick_yes _ _ (eq-eqb _ _ c.if-n-ne2.false)
+    ∙ pick_yes _ _ (sym c.is_Within.ensures ∙ not-false _ c.if-not-is_within.false)
+    ∙ pick_no _ _ (sym c.is_within-2.ensures ∙ not-true _ c.if-not-is_within-2.true))
+
+pub returns : goal.returns
+unfolding shape_o
+returns c =
+    sym
+    (pick_yes _ _ (eq-eqb _ _ c.if-n-ne2.false)
+    ∙ pick_yes _ _ (sym c.is_Within.ensures ∙ not-false _ c.if-not-is_within.false)
+    ∙ pick_yes _ _ (sym c.is_within-2.ensures ∙ not-false _ c.if-not-is_within-2.false))

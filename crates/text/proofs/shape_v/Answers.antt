@@ -1,0 +1,49 @@
+use mathlib.Core.Path.{sym, ◌∙◌}
+use borrow.Author.Tests.{eq-eqb, ne_eqb, not-true, not-false}
+use Rattle.base.proofs.Loop.{pick_yes, pick_no}
+use native.Mathlib.Omega.{arith}
+use Rattle.text.specs.Lines.{shape_v}
+use Rattle.text.proofs.Shapes.{within_size}
+use borrow.Author.Rules.{rules}
+use Rattle.text.proofs.shape_v.Goals as goal
+
+pub returns-then-n-ne2 : goal.returns-then-n-ne2
+unfolding shape_v
+returns-then-n-ne2 c = sym (pick_no _ _ (ne_eqb _ _ c.if-n-ne2.true))
+
+pub returns-then-not-is_within : goal.returns-then-not-is_within
+unfolding shape_v
+returns-then-not-is_within c =
+    sym
+    (pick_yes _ _ (eq-eqb _ _ c.if-n-ne2.false)
+    ∙ pick_no _ _ (sym c.is_Within.ensures ∙ not-true _ c.if-not-is_within.true))
+
+pub returns-then-not-is_within-2 : goal.returns-then-not-is_within-2
+unfolding shape_v
+returns-then-not-is_within-2 c =
+    sym
+    (pick_yes _ _ (eq-eqb _ _ c.if-n-ne2.false)
+    ∙ pick_yes _ _ (sym c.is_Within.ensures ∙ not-false _ c.if-not-is_within.false)
+    ∙ pick_no _ _ (sym c.is_within-2.ensures ∙ not-true _ c.if-not-is_within-2.true))
+
+-- LEFT
+cast-t7 : tie.Need-overflow-cast-t7
+cast-t7 c =
+    let f = c.before.before.before.before.before.args.s.a in
+    let h = within_size 4095 f (sym c.before.before.before.is_Within.ensures ∙ not-false _ c.before.before.if2.false) in
+    record { fits = omega arith }
+
+-- LEFT
+cast-t8 : tie.Need-overflow-cast-t8
+cast-t8 c =
+    let f = c.before.before.before.before.before.args.s.b in
+    let h = within_size 4 f (sym c.before.is-within2.ensures ∙ not-false _ c.if3.false) in
+    record { fits = omega arith }
+
+pub returns : goal.returns
+unfolding shape_v
+returns c =
+    sym
+    (pick_yes _ _ (eq-eqb _ _ c.if-n-ne2.false)
+    ∙ pick_yes _ _ (sym c.is_Within.ensures ∙ not-false _ c.if-not-is_within.false)
+    ∙ pick_yes _ _ (sym c.is_within-2.ensures ∙ not-false _ c.if-not-is_within-2.false))
