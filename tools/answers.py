@@ -18,7 +18,7 @@ HEAD = re.compile(r"^(abbrev )?(pub )?([^\s:(){}]+) : (.*)$")
 
 def flat(name):
     """A goal's or a step's name without what the scripts before this one have turned in it already."""
-    name = name.replace("_", "-")
+    name = name.replace("_", "-").lower()
     return re.sub(r"^bounds-", "index-", re.sub(r"^slice-bounds-", "part-", re.sub(r"^overflow-", "", name)))
 
 
@@ -64,7 +64,7 @@ class Function:
             old, new = self.places[chain[i]][2]
             if old and flat(old) == flat(name):
                 return new
-        return name
+        return {"type-inv": "type_inv"}.get(name, name)
 
 
 def turn_paths(body, var, fn, place):

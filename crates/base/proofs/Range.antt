@@ -65,7 +65,7 @@ module _ (n : ℤ) (f : SFits w32 n) where
 
 -- a number that a call answered, read back
 pub reads_back : (z : ℤ) → suc (mag z) ≤ 2147483648 → to_z w32 (of_z w32 z) ≡ z
-reads_back z h = to_z-of_z (record { sfits = h })
+reads_back z h = to_z-of_z {w = w32} (record { sfits = h })
 
 -- what a passed test says of the natural number
 pub in_range_nat : (most : ℕ) (n : ℤ) → in_range (pos most) n ≡ true → to_nat n ≤ most

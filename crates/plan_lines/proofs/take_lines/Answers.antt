@@ -31,12 +31,12 @@ pub slice_bounds-line-end : goal.slice_bounds-line-end
 slice_bounds-line-end c = omega (arith, c.line_end-e.ensures, inside (goal.at.slice_bounds-line-end c).After-line_end-e)
 
 pub loop-at-smaller : goal.loop-at-smaller
-loop-at-smaller c = let p = past c.loop-at.at c.line_end-e.result (length c.args.input.now) (omega (arith, c.line_end-e.ensures)) (omega arith) in omega (arith, p, c.after_Line.ensures)
+loop-at-smaller c = let p = past c.loop-at.at c.line_end-e.result (length c.args.input.now) (omega (arith, c.line_end-e.ensures)) (omega arith) in omega (arith, p, c.after_line-at.ensures)
 
 pub loop-at-preserved : goal.loop-at-preserved
 loop-at-preserved c =
     let l = c.loop-at in
-    plan_line c.args.input.now l.at c.line_end-e.result c.read_line-read.result (drafted l.c l.vertices l.edges) (omega arith) c.line_end-e.ensures c.read_line-read.ensures _ _ (sym c.is_plan_line.ensures ∙ c.if-is_plan_line.true) c.take-c.ensures c.after_Line.ensures
+    plan_line c.args.input.now l.at c.line_end-e.result c.read_line-read.result (drafted l.c l.vertices l.edges) (omega arith) c.line_end-e.ensures c.read_line-read.ensures _ _ (sym c.is_plan_line.ensures ∙ c.if-is_plan_line.true) c.take-c.ensures c.after_line-at.ensures
     ∙ l.invariant
 
 pub returns-in-loop-at : goal.returns-in-loop-at

@@ -18,7 +18,7 @@ room : (c : Else-not-has_room) → c.args.at + (length (tabbed c.args.numbers.no
 room c =
     let a = c.args in
     let h : length (tabbed a.numbers.now) ≤ length a.buf.now - a.at - 2 = leb-true _ _ (sym c.has_room.ensures ∙ not-false _ c.if-not-has_room.false) in
-    omega (arith, two c {-2-})
+    omega (arith, two c{-2-})
 
 pub returns-then-not-fits : goal.returns-then-not-fits
 returns-then-not-fits c =

@@ -23,7 +23,8 @@ use Rattle.byte_calls.proofs.changes.store_state.Goals as goal
 
 pub returns-then-judged : goal.returns-then-judged
 unfolding state_after with_judged
-returns-then-judged c = (
+returns-then-judged c =
+    (
   λ f.
       let t : c.args.done.judged ≡ true = c.if-judged.true in
       let l : c.args.done.len < 4294967296 = subst (λ (s : GraphDivision). s.last_len < 4294967296) (pick_yes _ _ t) f in
@@ -35,7 +36,8 @@ returns-then-judged c = (
 
 pub returns : goal.returns
 unfolding state_after
-returns c = (
+returns c =
+    (
   λ f. (ap state_in c.store_noted-2.ensures.0 ∙ noted_stored c.args.noted.now c.args.state.now (λ i. omega (arith, c.shared_slice_known-1.given i)) c.requires.1 c.requires.0) ∙ sym (pick_no _ _ c.if-judged.false),
   noted_kept c.args.noted.now c.args.state.now _ c.store_noted-2.ensures.0,
 )

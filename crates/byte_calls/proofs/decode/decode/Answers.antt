@@ -16,5 +16,5 @@ returns c =
     let b = c.args.state.now in
     all_decoded b _ _
     (read_words_in b 61220 384 _ _ p.2 c.read_words.ensures)
-    (records_read _ p.3 c.read_cursor-before.ensures c.read_Log.ensures)
+    (records_read _ p.3 c.read_cursor-before.ensures c.read_log.ensures)
     c.read_cursor-before.ensures

@@ -18,7 +18,8 @@ returns-then-is_consistent c =
     )
 
 pub returns-else-is_consistent : goal.returns-else-is_consistent
-returns-else-is_consistent c = (
+returns-else-is_consistent c =
+    (
   λ (u : is_consistent c.args.answer ≡ true). absurd (true≢false (sym u ∙ (sym c.is_consistent.ensures ∙ c.if-is_consistent.false))),
   (λ u. refl, kept_same _),
 )

@@ -30,7 +30,7 @@ pub loop-i-smaller : goal.loop-i-smaller
 loop-i-smaller c = omega arith
 
 pub loop-i-preserved : goal.loop-i-preserved
-loop-i-preserved c = (omega arith, iter_more _ _ _ _ _ c.loop-i.invariant.1 (ap (set c.loop-i.numbers c.loop-i.i) (int_back c.args.bytes.now c.loop-i.i _ c.Int-at.ensures)), length-set {A = ℤ} c.loop-i.numbers c.loop-i.i _ ∙ c.loop-i.invariant.2)
+loop-i-preserved c = (omega arith, iter_more _ _ _ _ _ c.loop-i.invariant.1 (ap (set c.loop-i.numbers c.loop-i.i) (int_back c.args.bytes.now c.loop-i.i _ c.int_at.ensures)), length-set {A = ℤ} c.loop-i.numbers c.loop-i.i _ ∙ c.loop-i.invariant.2)
 
 pub shape_of-numbers : goal.shape_of-numbers
 shape_of-numbers c = c.loop-i.invariant.2
