@@ -13,63 +13,63 @@ pub returns-in-V : goal.returns-in-V
 unfolding obeyed valued
 returns-in-V c =
     let a = c.args in
-    told_line _ (desk a.s a.cursor a.table.now a.log.now) a.out.now _ _ c.read-1.given.1
+    told_line _ (desk a.s a.cursor a.table.now a.log.now) a.out.now _ _ c.in-V.is
     (told_along _ a.out.now _ _ (ap (λ (t : List ℕ). turn (desk a.s a.cursor t a.log.now) []) c.store.ensures) (silent _ a.s a.cursor _ a.log.now a.out.now c.stay.ensures))
 
 pub returns-in-N : goal.returns-in-N
 unfolding obeyed valued
 returns-in-N c =
     let a = c.args in
-    told_line _ (desk a.s a.cursor a.table.now a.log.now) a.out.now _ _ c.read-in-N-1.given.1
-    (told_along _ a.out.now _ _ (λ i. notified (desk a.s a.cursor a.table.now a.log.now) (to_z-of_z {w = w32} {z = c.read-in-N-1.given.0.0} (sfits_of (c.known_told-in-N-1.given.0.1)) i) (to_z-of_z {w = w32} {z = c.read-in-N-1.given.0.1.0} (sfits_of (c.known_told-in-N-1.given.1.0.1)) i)) c.notify.ensures)
+    told_line _ (desk a.s a.cursor a.table.now a.log.now) a.out.now _ _ c.in-N.is
+    (told_along _ a.out.now _ _ (λ i. notified (desk a.s a.cursor a.table.now a.log.now) (to_z-of_z {w = w32} {z = c.in-N.lit} (sfits_of (c.known_told-in-N-1.given.0.1)) i) (to_z-of_z {w = w32} {z = c.in-N.pending} (sfits_of (c.known_told-in-N-1.given.1.0.1)) i)) c.notify.ensures)
 
 pub returns-in-U : goal.returns-in-U
 unfolding obeyed valued
 returns-in-U c =
     let a = c.args in
-    told_line _ (desk a.s a.cursor a.table.now a.log.now) a.out.now _ _ c.read-in-U-1.given.1
-    (told_along _ a.out.now _ _ (λ i. taken_back (desk a.s a.cursor a.table.now a.log.now) (to_z-of_z {w = w32} {z = c.read-in-U-1.given.0.0} (sfits_of (c.known_told-in-U-1.given.0.1)) i)) c.take_back.ensures)
+    told_line _ (desk a.s a.cursor a.table.now a.log.now) a.out.now _ _ c.in-U.is
+    (told_along _ a.out.now _ _ (λ i. taken_back (desk a.s a.cursor a.table.now a.log.now) (to_z-of_z {w = w32} {z = c.in-U.lit} (sfits_of (c.known_told-in-U-1.given.0.1)) i)) c.take_back.ensures)
 
 pub returns-in-R : goal.returns-in-R
 unfolding obeyed valued
 returns-in-R c =
     let a = c.args in
-    told_line _ (desk a.s a.cursor a.table.now a.log.now) a.out.now _ _ c.read-in-R-1.given.1
-    (asked _ a.s a.cursor a.table.now a.log.now a.out.now _ _ _ _ c.stay-in-R.ensures (λ i. reason_asked a.s a.cursor a.log.now (to_z-of_z {w = w32} {z = c.read-in-R-1.given.0.0} (sfits_of (c.known_told-in-R-1.given.0.1)) i)) c.ask_reason.ensures)
+    told_line _ (desk a.s a.cursor a.table.now a.log.now) a.out.now _ _ c.in-R.is
+    (asked _ a.s a.cursor a.table.now a.log.now a.out.now _ _ _ _ c.stay-in-R.ensures (λ i. reason_asked a.s a.cursor a.log.now (to_z-of_z {w = w32} {z = c.in-R.lit} (sfits_of (c.known_told-in-R-1.given.0.1)) i)) c.ask_reason.ensures)
 
 pub returns-in-RLast : goal.returns-in-RLast
 unfolding obeyed valued
 returns-in-RLast c =
     let a = c.args in
-    told_line _ (desk a.s a.cursor a.table.now a.log.now) a.out.now _ _ c.enum_told-1.given.1
+    told_line _ (desk a.s a.cursor a.table.now a.log.now) a.out.now _ _ c.in-RLast.is
     (asked _ a.s a.cursor a.table.now a.log.now a.out.now _ _ _ _ c.stay-in-RLast.ensures refl c.ask_last.ensures)
 
 pub returns-in-I : goal.returns-in-I
 unfolding obeyed valued
 returns-in-I c =
     let a = c.args in
-    told_line _ (desk a.s a.cursor a.table.now a.log.now) a.out.now _ _ c.enum_told-in-I-1.given.1 c.begin.ensures
+    told_line _ (desk a.s a.cursor a.table.now a.log.now) a.out.now _ _ c.in-I.is c.begin.ensures
 
 pub returns-in-O : goal.returns-in-O
 unfolding obeyed valued
 returns-in-O c =
     let a = c.args in
-    told_line _ (desk a.s a.cursor a.table.now a.log.now) a.out.now _ _ c.enum_told-in-O-1.given.1 (silent _ a.s a.cursor a.table.now a.log.now a.out.now c.stay-in-O.ensures)
+    told_line _ (desk a.s a.cursor a.table.now a.log.now) a.out.now _ _ c.in-O.is (silent _ a.s a.cursor a.table.now a.log.now a.out.now c.stay-in-O.ensures)
 
 pub returns-in-P : goal.returns-in-P
 unfolding obeyed valued
 returns-in-P c =
     let a = c.args in
-    told_line _ (desk a.s a.cursor a.table.now a.log.now) a.out.now _ _ c.enum_told-in-P-1.given.1 (silent _ a.s a.cursor a.table.now a.log.now a.out.now c.stay-in-P.ensures)
+    told_line _ (desk a.s a.cursor a.table.now a.log.now) a.out.now _ _ c.in-P.is (silent _ a.s a.cursor a.table.now a.log.now a.out.now c.stay-in-P.ensures)
 
 pub returns-in-G : goal.returns-in-G
 unfolding obeyed valued
 returns-in-G c =
     let a = c.args in
-    told_line _ (desk a.s a.cursor a.table.now a.log.now) a.out.now _ _ c.enum_told-in-G-1.given.1 (silent _ a.s a.cursor a.table.now a.log.now a.out.now c.stay-in-G.ensures)
+    told_line _ (desk a.s a.cursor a.table.now a.log.now) a.out.now _ _ c.in-G.is (silent _ a.s a.cursor a.table.now a.log.now a.out.now c.stay-in-G.ensures)
 
 pub returns-in-Malformed : goal.returns-in-Malformed
 unfolding obeyed valued
 returns-in-Malformed c =
     let a = c.args in
-    told_line _ (desk a.s a.cursor a.table.now a.log.now) a.out.now _ _ c.enum_told-in-Malformed-1.given.1 (silent _ a.s a.cursor a.table.now a.log.now a.out.now c.stay-in-Malformed.ensures)
+    told_line _ (desk a.s a.cursor a.table.now a.log.now) a.out.now _ _ c.in-Malformed.is (silent _ a.s a.cursor a.table.now a.log.now a.out.now c.stay-in-Malformed.ensures)

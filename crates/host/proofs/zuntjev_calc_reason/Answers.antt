@@ -11,5 +11,5 @@ returns c =
     let a = c.args in
     let f = c.calc_reason in
     let lit = to_z-of_z c.ranges.lit in
-    back_handed _ _ _ _ (to_z-of_z {w = w32} {z = f.result} (record { sfits = f.type-inv }))
+    back_handed _ _ _ _ (to_z-of_z {w = w32} {z = f.result} (record { sfits = f.type_inv }))
     (f.ensures ∙ (λ i. host_reason a.state.now a.log.now a.cursor.now (lit i) a.buffer.now))

@@ -3,7 +3,7 @@ use borrow.Author.Rules.{rules}
 use Rattle.lists.proofs.and_opt.Goals as goal
 
 pub returns-in-Some : goal.returns-in-Some
-returns-in-Some c = opt_some _ _ _ _ c.l-1.given.1 c.and_word.ensures
+returns-in-Some c = opt_some _ _ _ _ c.in-Some.is c.and_word.ensures
 
 pub returns-in-Nothing : goal.returns-in-Nothing
-returns-in-Nothing c = opt_none _ _ _ c.enum_told-1.given.1
+returns-in-Nothing c = opt_none _ _ _ c.in-Nothing.is

@@ -4,7 +4,7 @@ use borrow.Author.Rules.{rules}
 use Rattle.lists.proofs.mismatch.Goals as goal
 
 pub returns-in-InconsistentBoundsIfRegionsAreMerged : goal.returns-in-InconsistentBoundsIfRegionsAreMerged
-returns-in-InconsistentBoundsIfRegionsAreMerged c = mismatch_by _ _ _ _ _ _ _ _ _ _ _ _ _ _ _ c.reason-1.given.1 c.ends_of-e.ensures c.two_paths-r.ensures c.upper_bound_lit.ensures c.and_lit-s.ensures c.lower_bound_lit.ensures c.and_lit.ensures
+returns-in-InconsistentBoundsIfRegionsAreMerged c = mismatch_by _ _ _ _ _ _ _ _ _ _ _ _ _ _ _ c.in-InconsistentBoundsIfRegionsAreMerged.is c.ends_of-e.ensures c.two_paths-r.ensures c.upper_bound_lit.ensures c.and_lit-s.ensures c.lower_bound_lit.ensures c.and_lit.ensures
 
 pub returns : goal.returns
 unfolding missing

@@ -7,36 +7,36 @@ use Rattle.lists.proofs.reason_lits.Goals as goal
 
 pub returns-in-NotPropagated : goal.returns-in-NotPropagated
 unfolding reason_lits missing
-returns-in-NotPropagated c = arm _ _ _ _ _ _ _ c.enum_told-1.given.1 refl
+returns-in-NotPropagated c = arm _ _ _ _ _ _ _ c.in-NotPropagated.is refl
 
 pub returns-in-EdgeInSameGroup : goal.returns-in-EdgeInSameGroup
 unfolding reason_lits missing
-returns-in-EdgeInSameGroup c = arm _ _ _ _ _ _ _ c.reason-1.given.1 c.inside.ensures
+returns-in-EdgeInSameGroup c = arm _ _ _ _ _ _ _ c.in-EdgeInSameGroup.is c.inside.ensures
 
 pub returns-in-EdgeBetweenDifferentGroups : goal.returns-in-EdgeBetweenDifferentGroups
 unfolding reason_lits missing
-returns-in-EdgeBetweenDifferentGroups c = arm _ _ _ _ _ _ _ c.reason-in-EdgeBetweenDifferentGroups-1.given.1 c.between.ensures
+returns-in-EdgeBetweenDifferentGroups c = arm _ _ _ _ _ _ _ c.in-EdgeBetweenDifferentGroups.is c.between.ensures
 
 pub returns-in-TooLargeIfRegionsAreMerged : goal.returns-in-TooLargeIfRegionsAreMerged
 unfolding reason_lits missing
-returns-in-TooLargeIfRegionsAreMerged c = arm _ _ _ _ _ _ _ c.reason-in-TooLargeIfRegionsAreMerged-1.given.1 c.too_large.ensures
+returns-in-TooLargeIfRegionsAreMerged c = arm _ _ _ _ _ _ _ c.in-TooLargeIfRegionsAreMerged.is c.too_large.ensures
 
 pub returns-in-RegionAlreadyLarge : goal.returns-in-RegionAlreadyLarge
 unfolding reason_lits missing
-returns-in-RegionAlreadyLarge c = arm _ _ _ _ _ _ _ c.reason-in-RegionAlreadyLarge-1.given.1 c.decided.ensures
+returns-in-RegionAlreadyLarge c = arm _ _ _ _ _ _ _ c.in-RegionAlreadyLarge.is c.decided.ensures
 
 pub returns-in-RegionAlreadySmall : goal.returns-in-RegionAlreadySmall
 unfolding reason_lits missing
-returns-in-RegionAlreadySmall c = arm _ _ _ _ _ _ _ c.reason-in-RegionAlreadySmall-1.given.1 c.potential.ensures
+returns-in-RegionAlreadySmall c = arm _ _ _ _ _ _ _ c.in-RegionAlreadySmall.is c.potential.ensures
 
 pub returns-in-InconsistentBoundsIfRegionsAreMerged : goal.returns-in-InconsistentBoundsIfRegionsAreMerged
 unfolding reason_lits missing
-returns-in-InconsistentBoundsIfRegionsAreMerged c = mismatch_arm _ _ _ _ _ _ _ _ _ _ c.enum_told-in-InconsistentBoundsIfRegionsAreMerged-1.given.1 c.mismatch.ensures
+returns-in-InconsistentBoundsIfRegionsAreMerged c = mismatch_arm _ _ _ _ _ _ _ _ _ _ c.in-InconsistentBoundsIfRegionsAreMerged.is c.mismatch.ensures
 
 pub returns-in-BoundPropagationWithinRegion : goal.returns-in-BoundPropagationWithinRegion
 unfolding reason_lits missing
-returns-in-BoundPropagationWithinRegion c = arm _ _ _ _ _ _ _ c.reason-in-BoundPropagationWithinRegion-1.given.1 c.spread.ensures
+returns-in-BoundPropagationWithinRegion c = arm _ _ _ _ _ _ _ c.in-BoundPropagationWithinRegion.is c.spread.ensures
 
 pub returns-in-AdjacentSameSizeRegions : goal.returns-in-AdjacentSameSizeRegions
 unfolding reason_lits missing
-returns-in-AdjacentSameSizeRegions c = same_arm _ _ _ _ _ _ _ _ _ _ _ _ _ c.enum_told-in-AdjacentSameSizeRegions-1.given.1 c.same_size.ensures
+returns-in-AdjacentSameSizeRegions c = same_arm _ _ _ _ _ _ _ _ _ _ _ _ _ c.in-AdjacentSameSizeRegions.is c.same_size.ensures

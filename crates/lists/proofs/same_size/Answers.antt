@@ -4,7 +4,7 @@ use borrow.Author.Rules.{rules}
 use Rattle.lists.proofs.same_size.Goals as goal
 
 pub returns-in-AdjacentSameSizeRegions : goal.returns-in-AdjacentSameSizeRegions
-returns-in-AdjacentSameSizeRegions c = same_by _ _ _ _ _ _ _ _ _ _ _ _ _ _ _ _ _ c.reason-1.given.1 c.three_regions-r.ensures c.and_opt-s.ensures c.and_opt-t.ensures c.and_opt-w.ensures c.and_opt.ensures
+returns-in-AdjacentSameSizeRegions c = same_by _ _ _ _ _ _ _ _ _ _ _ _ _ _ _ _ _ c.in-AdjacentSameSizeRegions.is c.three_regions-r.ensures c.and_opt-s.ensures c.and_opt-t.ensures c.and_opt-w.ensures c.and_opt.ensures
 
 pub returns : goal.returns
 unfolding missing

@@ -5,8 +5,8 @@ use Rattle.lists.proofs.two_regions.Goals as goal
 
 pub returns-in-Past : goal.returns-in-Past
 unfolding two_regions
-returns-in-Past c = then_past _ _ _ _ _ _ c.decided-r.ensures c.r-1.given.1 c.decided.ensures
+returns-in-Past c = then_past _ _ _ _ _ _ c.decided-r.ensures c.in-Past.is c.decided.ensures
 
 pub returns-in-Missing : goal.returns-in-Missing
 unfolding two_regions
-returns-in-Missing c = then_stop _ _ _ _ c.decided-r.ensures c.enum_told-1.given.1
+returns-in-Missing c = then_stop _ _ _ _ c.decided-r.ensures c.in-Missing.is

@@ -31,7 +31,7 @@ pub loop-j-smaller : goal.loop-j-smaller
 loop-j-smaller c = omega arith
 
 pub loop-j-preserved : goal.loop-j-preserved
-loop-j-preserved c = (omega arith, c.loop-j.invariant.1, iter_more _ _ _ _ _ c.loop-j.invariant.2 (ap (set c.loop-j.vertices (c.args.at + c.loop-j.j)) (to_z-of_z {w = w32} (record { sfits = c.number_at.type-inv }) ∙ c.number_at.ensures)))
+loop-j-preserved c = (omega arith, c.loop-j.invariant.1, iter_more _ _ _ _ _ c.loop-j.invariant.2 (ap (set c.loop-j.vertices (c.args.at + c.loop-j.j)) (to_z-of_z {w = w32} (record { sfits = c.number_at.type_inv }) ∙ c.number_at.ensures)))
 
 pub returns : goal.returns
 unfolding row_put

@@ -14,7 +14,7 @@ unfolding taken
 returns-in-O c =
     let a = c.args in
     ap (λ (x : Counts). drafted x a.vertices.now a.edges.now) c.with_options.ensures
-    ∙ sym (ap (λ (r : Line). taken a.line.now r (drafted a.c a.vertices.now a.edges.now)) c.read-1.given.1)
+    ∙ sym (ap (λ (r : Line). taken a.line.now r (drafted a.c a.vertices.now a.edges.now)) c.in-O.is)
 
 pub returns-in-P : goal.returns-in-P
 unfolding taken
@@ -23,7 +23,7 @@ returns-in-P c =
     let w = to_z-of_z {w = w32} (sfits_of (c.known_told-in-P-1.given.0.1)) in
     let r = c.read-in-P-1.given.0 in
     (λ i. drafted (c.with_vertex.ensures i) ((c.put_vertex.ensures ∙ ap (λ (x : ℤ). vertex_put a.line.now x r.1.0 r.1.1.0 a.c.vertices a.vertices.now) w) i) a.edges.now)
-    ∙ sym (ap (λ (r : Line). taken a.line.now r (drafted a.c a.vertices.now a.edges.now)) c.read-in-P-1.given.1)
+    ∙ sym (ap (λ (r : Line). taken a.line.now r (drafted a.c a.vertices.now a.edges.now)) c.in-P.is)
 
 pub returns-in-G : goal.returns-in-G
 unfolding taken
@@ -34,46 +34,46 @@ returns-in-G c =
     let v = to_z-of_z {w = w32} (sfits_of k.1.0.1) in
     let l = to_z-of_z {w = w32} (sfits_of k.1.1.0.1) in
     (λ i. drafted (c.with_edge.ensures i) a.vertices.now ((c.put_edge.ensures ∙ (λ j. edge_put (u j) (v j) (l j) a.c.edges a.edges.now)) i))
-    ∙ sym (ap (λ (r : Line). taken a.line.now r (drafted a.c a.vertices.now a.edges.now)) c.read-in-G-1.given.1)
+    ∙ sym (ap (λ (r : Line). taken a.line.now r (drafted a.c a.vertices.now a.edges.now)) c.in-G.is)
 
 pub returns-in-V : goal.returns-in-V
 unfolding taken
 returns-in-V c =
     let a = c.args in
-    sym (ap (λ (r : Line). taken a.line.now r (drafted a.c a.vertices.now a.edges.now)) c.enum_told-1.given.1)
+    sym (ap (λ (r : Line). taken a.line.now r (drafted a.c a.vertices.now a.edges.now)) c.in-V.is)
 
 pub returns-in-I : goal.returns-in-I
 unfolding taken
 returns-in-I c =
     let a = c.args in
-    sym (ap (λ (r : Line). taken a.line.now r (drafted a.c a.vertices.now a.edges.now)) c.enum_told-in-I-1.given.1)
+    sym (ap (λ (r : Line). taken a.line.now r (drafted a.c a.vertices.now a.edges.now)) c.in-I.is)
 
 pub returns-in-N : goal.returns-in-N
 unfolding taken
 returns-in-N c =
     let a = c.args in
-    sym (ap (λ (r : Line). taken a.line.now r (drafted a.c a.vertices.now a.edges.now)) c.enum_told-in-N-1.given.1)
+    sym (ap (λ (r : Line). taken a.line.now r (drafted a.c a.vertices.now a.edges.now)) c.in-N.is)
 
 pub returns-in-U : goal.returns-in-U
 unfolding taken
 returns-in-U c =
     let a = c.args in
-    sym (ap (λ (r : Line). taken a.line.now r (drafted a.c a.vertices.now a.edges.now)) c.enum_told-in-U-1.given.1)
+    sym (ap (λ (r : Line). taken a.line.now r (drafted a.c a.vertices.now a.edges.now)) c.in-U.is)
 
 pub returns-in-R : goal.returns-in-R
 unfolding taken
 returns-in-R c =
     let a = c.args in
-    sym (ap (λ (r : Line). taken a.line.now r (drafted a.c a.vertices.now a.edges.now)) c.enum_told-in-R-1.given.1)
+    sym (ap (λ (r : Line). taken a.line.now r (drafted a.c a.vertices.now a.edges.now)) c.in-R.is)
 
 pub returns-in-RLast : goal.returns-in-RLast
 unfolding taken
 returns-in-RLast c =
     let a = c.args in
-    sym (ap (λ (r : Line). taken a.line.now r (drafted a.c a.vertices.now a.edges.now)) c.enum_told-in-RLast-1.given.1)
+    sym (ap (λ (r : Line). taken a.line.now r (drafted a.c a.vertices.now a.edges.now)) c.in-RLast.is)
 
 pub returns-in-Malformed : goal.returns-in-Malformed
 unfolding taken
 returns-in-Malformed c =
     let a = c.args in
-    sym (ap (λ (r : Line). taken a.line.now r (drafted a.c a.vertices.now a.edges.now)) c.enum_told-in-Malformed-1.given.1)
+    sym (ap (λ (r : Line). taken a.line.now r (drafted a.c a.vertices.now a.edges.now)) c.in-Malformed.is)

@@ -62,7 +62,7 @@ loop-at-preserved c =
     let l = c.loop-at in
     let a = c.args in
     let f = c.read_field-f in
-    walk_step a.line.now a.from a.out.now l.out c.store_number.new.1.1.1.0 l.at l.j c.field_end-e.result f.result
+    walk_step a.line.now a.from a.out.now l.out c.store_number.new.out l.at l.j c.field_end-e.result f.result
     (omega arith) c.field_end-e.ensures f.ensures (inside (goal.at.loop-at-preserved c).After-field_end-e) c.store_number.ensures l.invariant
 
 pub shape_of-out-then-j-from : goal.shape_of-out-then-j-from

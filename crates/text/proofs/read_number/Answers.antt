@@ -17,7 +17,7 @@ pub returns-then-ok : goal.returns-then-ok
 unfolding read_number
 returns-then-ok c =
     let e = c.read_field-f.ensures in
-    ap Number (to_z-of_z {w = w32} (record { sfits = c.signed.type-inv }) ∙ c.signed.ensures ∙ ap number_of e)
+    ap Number (to_z-of_z {w = w32} (record { sfits = c.signed.type_inv }) ∙ c.signed.ensures ∙ ap number_of e)
     ∙ sym (pick_yes _ _ (sym (ap (λ (f : Field). f.ok) e) ∙ c.if-ok.true))
 
 pub returns : goal.returns

@@ -21,7 +21,7 @@ pub returns : goal.returns
 unfolding shape_g
 returns c =
     made
-    (to_z-of_z {w = w32} (record { sfits = c.signed-u.type-inv }) ∙ c.signed-u.ensures)
-    (to_z-of_z {w = w32} (record { sfits = c.signed-v.type-inv }) ∙ c.signed-v.ensures)
-    (to_z-of_z {w = w32} (record { sfits = c.signed-lit.type-inv }) ∙ c.signed-lit.ensures)
+    (to_z-of_z {w = w32} (record { sfits = c.signed-u.type_inv }) ∙ c.signed-u.ensures)
+    (to_z-of_z {w = w32} (record { sfits = c.signed-v.type_inv }) ∙ c.signed-v.ensures)
+    (to_z-of_z {w = w32} (record { sfits = c.signed-lit.type_inv }) ∙ c.signed-lit.ensures)
     ∙ sym (pick_yes _ _ (eq-eqb _ _ c.if-n-ne3.false))

@@ -15,5 +15,5 @@ returns-then-n-ne2 c = sym (pick_no _ _ (ne_eqb _ _ c.if-n-ne2.true))
 pub returns : goal.returns
 unfolding shape_n
 returns c =
-    ap₂ N (to_z-of_z {w = w32} (record { sfits = c.signed-lit.type-inv }) ∙ c.signed-lit.ensures) (to_z-of_z {w = w32} (record { sfits = c.signed-pending.type-inv }) ∙ c.signed-pending.ensures)
+    ap₂ N (to_z-of_z {w = w32} (record { sfits = c.signed-lit.type_inv }) ∙ c.signed-lit.ensures) (to_z-of_z {w = w32} (record { sfits = c.signed-pending.type_inv }) ∙ c.signed-pending.ensures)
     ∙ sym (pick_yes _ _ (eq-eqb _ _ c.if-n-ne2.false))

@@ -14,20 +14,20 @@ unfolding shape_o
 returns-then-not-is_within c =
     sym
     (pick_yes _ _ (eq-eqb _ _ c.if-n-ne2.false)
-    ∙ pick_no _ _ (sym c.is_within.ensures ∙ not-true _ c.if-not-is_within.true))
+    ∙ pick_no _ _ (sym c.is_within.ensures ∙ c.if-not-is_within.true))
 
 pub returns-then-not-is_within-2 : goal.returns-then-not-is_within-2
 unfolding shape_o
 returns-then-not-is_within-2 c =
     sym
     (pick_yes _ _ (eq-eqb _ _ c.if-n-ne2.false)
-    ∙ pick_yes _ _ (sym c.is_within.ensures ∙ not-false _ c.if-not-is_within.false)
-    ∙ pick_no _ _ (sym c.is_within-2.ensures ∙ not-true _ c.if-not-is_within-2.true))
+    ∙ pick_yes _ _ (sym c.is_within.ensures ∙ c.if-not-is_within.false)
+    ∙ pick_no _ _ (sym c.is_within-2.ensures ∙ c.if-not-is_within-2.true))
 
 pub returns : goal.returns
 unfolding shape_o
 returns c =
     sym
     (pick_yes _ _ (eq-eqb _ _ c.if-n-ne2.false)
-    ∙ pick_yes _ _ (sym c.is_within.ensures ∙ not-false _ c.if-not-is_within.false)
-    ∙ pick_yes _ _ (sym c.is_within-2.ensures ∙ not-false _ c.if-not-is_within-2.false))
+    ∙ pick_yes _ _ (sym c.is_within.ensures ∙ c.if-not-is_within.false)
+    ∙ pick_yes _ _ (sym c.is_within-2.ensures ∙ c.if-not-is_within-2.false))

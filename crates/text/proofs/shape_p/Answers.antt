@@ -19,7 +19,7 @@ unfolding shape_p
 returns-then-not-is_within c =
     sym
     (pick_yes _ _ (le-leb _ _ c.if-n-lt2.false)
-    ∙ pick_no _ _ (sym c.is_within.ensures ∙ not-true _ c.if-not-is_within.true))
+    ∙ pick_no _ _ (sym c.is_within.ensures ∙ c.if-not-is_within.true))
 
 -- LEFT
 cast-t8 : tie.Need-overflow-cast-t8
@@ -29,7 +29,7 @@ pub returns : goal.returns
 unfolding shape_p
 returns c =
     let s = c.args.s in
-    ap (λ (w : ℤ). P w s.b.size (s.count - 2)) (to_z-of_z {w = w32} (record { sfits = c.signed-weight.type-inv }) ∙ c.signed-weight.ensures)
+    ap (λ (w : ℤ). P w s.b.size (s.count - 2)) (to_z-of_z {w = w32} (record { sfits = c.signed-weight.type_inv }) ∙ c.signed-weight.ensures)
     ∙ sym
     (pick_yes _ _ (le-leb _ _ c.if-n-lt2.false)
-    ∙ pick_yes _ _ (sym c.is_within.ensures ∙ not-false _ c.if-not-is_within.false))
+    ∙ pick_yes _ _ (sym c.is_within.ensures ∙ c.if-not-is_within.false))

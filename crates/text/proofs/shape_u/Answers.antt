@@ -14,4 +14,4 @@ returns-then-n-ne1 c = sym (pick_no _ _ (ne_eqb _ _ c.if-n-ne1.true))
 
 pub returns : goal.returns
 unfolding shape_u
-returns c = ap U (to_z-of_z {w = w32} (record { sfits = c.signed-lit.type-inv }) ∙ c.signed-lit.ensures) ∙ sym (pick_yes _ _ (eq-eqb _ _ c.if-n-ne1.false))
+returns c = ap U (to_z-of_z {w = w32} (record { sfits = c.signed-lit.type_inv }) ∙ c.signed-lit.ensures) ∙ sym (pick_yes _ _ (eq-eqb _ _ c.if-n-ne1.false))

@@ -16,15 +16,15 @@ unfolding shape_v
 returns-then-not-is_within c =
     sym
     (pick_yes _ _ (eq-eqb _ _ c.if-n-ne2.false)
-    ∙ pick_no _ _ (sym c.is_within.ensures ∙ not-true _ c.if-not-is_within.true))
+    ∙ pick_no _ _ (sym c.is_within.ensures ∙ c.if-not-is_within.true))
 
 pub returns-then-not-is_within-2 : goal.returns-then-not-is_within-2
 unfolding shape_v
 returns-then-not-is_within-2 c =
     sym
     (pick_yes _ _ (eq-eqb _ _ c.if-n-ne2.false)
-    ∙ pick_yes _ _ (sym c.is_within.ensures ∙ not-false _ c.if-not-is_within.false)
-    ∙ pick_no _ _ (sym c.is_within-2.ensures ∙ not-true _ c.if-not-is_within-2.true))
+    ∙ pick_yes _ _ (sym c.is_within.ensures ∙ c.if-not-is_within.false)
+    ∙ pick_no _ _ (sym c.is_within-2.ensures ∙ c.if-not-is_within-2.true))
 
 -- LEFT
 cast-t7 : tie.Need-overflow-cast-t7
@@ -45,5 +45,5 @@ unfolding shape_v
 returns c =
     sym
     (pick_yes _ _ (eq-eqb _ _ c.if-n-ne2.false)
-    ∙ pick_yes _ _ (sym c.is_within.ensures ∙ not-false _ c.if-not-is_within.false)
-    ∙ pick_yes _ _ (sym c.is_within-2.ensures ∙ not-false _ c.if-not-is_within-2.false))
+    ∙ pick_yes _ _ (sym c.is_within.ensures ∙ c.if-not-is_within.false)
+    ∙ pick_yes _ _ (sym c.is_within-2.ensures ∙ c.if-not-is_within-2.false))

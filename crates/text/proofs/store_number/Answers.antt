@@ -21,5 +21,5 @@ returns-then-out-i c =
 pub returns : goal.returns
 returns c =
     let a = c.args in
-    ap (set a.out.now (a.j - a.from)) (to_z-of_z {w = w32} (record { sfits = c.signed.type-inv }) ∙ c.signed.ensures)
+    ap (set a.out.now (a.j - a.from)) (to_z-of_z {w = w32} (record { sfits = c.signed.type_inv }) ∙ c.signed.ensures)
     ∙ sym (store_at a.from a.j (number_of a.f) a.out.now (omega arith))

@@ -12,19 +12,19 @@ use Rattle.text_writer.proofs.write_answer.Goals.{Else-not-fits, Else-not-has_ro
 
 -- what the two tests showed
 two : (c : Else-not-fits) → c.args.at + 2 ≤ length c.args.buf.now
-two c = leb-true _ _ (sym c.fits2.ensures ∙ not-false _ c.if-not-fits.false)
+two c = leb-true _ _ (sym c.fits2.ensures ∙ c.if-not-fits.false)
 
 room : (c : Else-not-has_room) → c.args.at + (length (tabbed c.args.numbers.now) + 2) ≤ length c.args.buf.now
 room c =
     let a = c.args in
-    let h : length (tabbed a.numbers.now) ≤ length a.buf.now - a.at - 2 = leb-true _ _ (sym c.has_room.ensures ∙ not-false _ c.if-not-has_room.false) in
+    let h : length (tabbed a.numbers.now) ≤ length a.buf.now - a.at - 2 = leb-true _ _ (sym c.has_room.ensures ∙ c.if-not-has_room.false) in
     omega (arith, two c{-2-})
 
 pub returns-then-not-fits : goal.returns-then-not-fits
 returns-then-not-fits c =
     let a = c.args in
     let line = answer_line a.letter a.numbers.now in
-    let short : length a.buf.now < a.at + 2 = leb-false _ _ (sym c.fits2.ensures ∙ not-true _ c.if-not-fits.true) in
+    let short : length a.buf.now < a.at + 2 = leb-false _ _ (sym c.fits2.ensures ∙ c.if-not-fits.true) in
     let told = refused a.buf.now line a.at (omega (arith, answer_long a.letter a.numbers.now)) in
     (sym told.0, sym told.1)
 
@@ -38,7 +38,7 @@ pub returns-then-not-has_room : goal.returns-then-not-has_room
 returns-then-not-has_room c =
     let a = c.args in
     let line = answer_line a.letter a.numbers.now in
-    let short : length a.buf.now - a.at - 2 < length (tabbed a.numbers.now) = leb-false _ _ (sym c.has_room.ensures ∙ not-true _ c.if-not-has_room.true) in
+    let short : length a.buf.now - a.at - 2 < length (tabbed a.numbers.now) = leb-false _ _ (sym c.has_room.ensures ∙ c.if-not-has_room.true) in
     let told = refused a.buf.now line a.at (omega (arith, two (goal.at.returns-then-not-has_room c).Else-not-fits, answer_long a.letter a.numbers.now)) in
     (sym told.0, sym told.1)
 

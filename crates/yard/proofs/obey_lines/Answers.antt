@@ -47,7 +47,7 @@ slice_bounds-obey-end-in-loop-at-2 c = omega (arith, c.line_end-e.ensures, insid
 
 -- what the line prints is what comes next, and what is left after it
 shown : (c : After-obey-o) →
-    take c.obey-o.result.printed c.obey-o.new.1.1.1.1.1.0
+    take c.obey-o.result.printed c.obey-o.new.out
     ≡ take c.obey-o.result.printed (drop c.loop-at.shown.told (session c.args.input.now))
 shown c =
     let l = c.loop-at in
@@ -65,7 +65,7 @@ few c =
     (held c.obey-o.result z.1.1.0 z.1.1.1.0 z.1.1.1.1.1.0) l.out c.obey-o.ensures l.invariant.3
 
 left : (c : After-obey-o) →
-    Left c.args.input.now (c.loop-at.shown.told + c.obey-o.result.printed) (c.line_end-e.result + 1) (desk c.obey-o.result.state c.obey-o.result.cursor c.obey-o.new.1.1.0 c.obey-o.new.1.1.1.0)
+    Left c.args.input.now (c.loop-at.shown.told + c.obey-o.result.printed) (c.line_end-e.result + 1) (desk c.obey-o.result.state c.obey-o.result.cursor c.obey-o.new.table c.obey-o.new.log)
 left c =
     let l = c.loop-at in
     let e = c.line_end-e in

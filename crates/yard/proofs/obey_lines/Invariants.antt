@@ -14,7 +14,7 @@ use Rattle.yard.proofs.obey_lines.Given as goal
 
 -- what the line prints is what comes next, and what is left after it
 shown : (c : After-obey-o) →
-    take c.obey-o.result.printed c.obey-o.new.1.1.1.1.1.0
+    take c.obey-o.result.printed c.obey-o.new.out
     ≡ take c.obey-o.result.printed (drop c.loop-at.shown.told (session c.args.input.now))
 shown c =
     let l = c.loop-at in

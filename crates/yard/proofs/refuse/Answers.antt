@@ -12,7 +12,7 @@ use Rattle.yard.proofs.refuse.Goals as goal
 use Rattle.yard.proofs.refuse.Goals.{After-print_refusal-n}
 
 shown : (c : After-print_refusal-n) →
-    (take c.print_refusal-n.result c.print_refusal-n.new.1.0 ≡ take c.print_refusal-n.result (drop 0 (session c.args.input.now)))
+    (take c.print_refusal-n.result c.print_refusal-n.new.out ≡ take c.print_refusal-n.result (drop 0 (session c.args.input.now)))
     × (c.print_refusal-n.result ≡ length (session c.args.input.now))
 shown c =
     let a = c.args in

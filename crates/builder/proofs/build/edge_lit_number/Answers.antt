@@ -5,4 +5,4 @@ use borrow.Author.Rules.{rules}
 use Rattle.builder.proofs.build.edge_lit_number.Goals as goal
 
 pub returns : goal.returns
-returns c = c.to_nat.ensures ∙ ap to_nat (reads_back _ c.edge_lit.type-inv ∙ c.edge_lit.ensures)
+returns c = c.to_nat.ensures ∙ ap to_nat (reads_back _ c.edge_lit.type_inv ∙ c.edge_lit.ensures)

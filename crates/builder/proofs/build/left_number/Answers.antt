@@ -7,4 +7,4 @@ use borrow.Author.Rules.{rules}
 use Rattle.builder.proofs.build.left_number.Goals as goal
 
 pub returns : goal.returns
-returns c = c.end_number.ensures ∙ ap (λ (z : ℤ). to_nat z % 256) (reads_back _ c.left.type-inv ∙ c.left.ensures)
+returns c = c.end_number.ensures ∙ ap (λ (z : ℤ). to_nat z % 256) (reads_back _ c.left.type_inv ∙ c.left.ensures)

@@ -5,4 +5,4 @@ use borrow.Author.Rules.{rules}
 use Rattle.builder.proofs.build.lit_number.Goals as goal
 
 pub returns : goal.returns
-returns c = c.to_nat.ensures ∙ ap to_nat (reads_back _ c.size_lit.type-inv ∙ c.size_lit.ensures)
+returns c = c.to_nat.ensures ∙ ap to_nat (reads_back _ c.size_lit.type_inv ∙ c.size_lit.ensures)

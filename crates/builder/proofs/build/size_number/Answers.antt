@@ -5,4 +5,4 @@ use borrow.Author.Rules.{rules}
 use Rattle.builder.proofs.build.size_number.Goals as goal
 
 pub returns : goal.returns
-returns c = c.to_nat.ensures ∙ ap to_nat (reads_back _ c.size.type-inv ∙ c.size.ensures)
+returns c = c.to_nat.ensures ∙ ap to_nat (reads_back _ c.size.type_inv ∙ c.size.ensures)

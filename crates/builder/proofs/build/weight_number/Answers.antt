@@ -5,4 +5,4 @@ use borrow.Author.Rules.{rules}
 use Rattle.builder.proofs.build.weight_number.Goals as goal
 
 pub returns : goal.returns
-returns c = c.to_nat.ensures ∙ ap to_nat (reads_back _ c.weight.type-inv ∙ c.weight.ensures)
+returns c = c.to_nat.ensures ∙ ap to_nat (reads_back _ c.weight.type_inv ∙ c.weight.ensures)

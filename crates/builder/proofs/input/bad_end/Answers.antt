@@ -12,13 +12,13 @@ pub returns-then-is_vertex : goal.returns-then-is_vertex
 returns-then-is_vertex c =
     let s = c.args in
     let left_is : is_vertex s.n (left_at s.edges.now s.g) ≡ true =
-    sym (c.is_vertex.ensures ∙ ap (is_vertex s.n) (reads_back _ c.left.type-inv ∙ c.left.ensures)) ∙ c.if-is_vertex.true in
-    ap not (c.is_vertex-then-is_vertex.ensures ∙ ap (is_vertex s.n) (reads_back _ c.right.type-inv ∙ c.right.ensures))
+    sym (c.is_vertex.ensures ∙ ap (is_vertex s.n) (reads_back _ c.left.type_inv ∙ c.left.ensures)) ∙ c.if-is_vertex.true in
+    ap not (c.is_vertex-then-is_vertex.ensures ∙ ap (is_vertex s.n) (reads_back _ c.right.type_inv ∙ c.right.ensures))
     ∙ sym (ap (λ (t : Bool). not (t && is_vertex s.n (right_at s.edges.now s.g))) left_is)
 
 pub returns : goal.returns
 returns c =
     let s = c.args in
     let left-no : is_vertex s.n (left_at s.edges.now s.g) ≡ false =
-    sym (c.is_vertex.ensures ∙ ap (is_vertex s.n) (reads_back _ c.left.type-inv ∙ c.left.ensures)) ∙ c.if-is_vertex.false in
+    sym (c.is_vertex.ensures ∙ ap (is_vertex s.n) (reads_back _ c.left.type_inv ∙ c.left.ensures)) ∙ c.if-is_vertex.false in
     sym (ap (λ (t : Bool). not (t && is_vertex s.n (right_at s.edges.now s.g))) left-no)

@@ -14,7 +14,7 @@ use Rattle.builder.proofs.input.bad_lit_count.Goals.{After-in_range}
 
 -- what the range test answered
 tested : (c : After-in_range) → c.in_range.result ≡ in_range (pos 31) (lits_at c.args.vertices.now c.args.v)
-tested c = c.in_range.ensures ∙ ap (in_range (pos 31)) (reads_back _ c.lits.type-inv ∙ c.lits.ensures)
+tested c = c.in_range.ensures ∙ ap (in_range (pos 31)) (reads_back _ c.lits.type_inv ∙ c.lits.ensures)
 
 pub returns-then-len-eq0 : goal.returns-then-len-eq0
 returns-then-len-eq0 c =
@@ -26,7 +26,7 @@ returns-then-in_range c =
     let s = c.args in
     lits_counted s.vertices.now s.v c.domain_len-len.result c.domain_len-len.ensures c.to_nat-count.result
     c.if-len-eq0.false (sym (tested (goal.at.returns-then-in_range c).After-in_range) ∙ c.if-in_range.true)
-    (c.to_nat-count.ensures ∙ ap to_nat (reads_back _ c.lits-then-in_range.type-inv ∙ c.lits-then-in_range.ensures))
+    (c.to_nat-count.ensures ∙ ap to_nat (reads_back _ c.lits-then-in_range.type_inv ∙ c.lits-then-in_range.ensures))
 
 pub returns : goal.returns
 returns c =

@@ -15,7 +15,7 @@ use Rattle.builder.proofs.input.bad_size.Goals.{After-in_range}
 
 -- what the range test answered
 tested : (c : After-in_range) → c.in_range.result ≡ in_range (pos 1000000) (size_at c.args.vertices.now c.args.v c.args.j)
-tested c = c.in_range.ensures ∙ ap (in_range (pos 1000000)) (reads_back _ c.size.type-inv ∙ c.size.ensures)
+tested c = c.in_range.ensures ∙ ap (in_range (pos 1000000)) (reads_back _ c.size.type_inv ∙ c.size.ensures)
 
 pub returns-then-j-eq0 : goal.returns-then-j-eq0
 returns-then-j-eq0 c =
@@ -27,7 +27,7 @@ returns-then-in_range c =
     let s = c.args in
     size_next s.vertices.now s.v s.j c.less.result
     (sym (tested (goal.at.returns-then-in_range c).After-in_range) ∙ c.if-in_range.true) c.if-j-eq0.false
-    (c.less.ensures ∙ ap₂ lt_z (reads_back _ c.size-then-in_range.type-inv ∙ c.size-then-in_range.ensures) (reads_back _ c.size-then-in_range-2.type-inv ∙ c.size-then-in_range-2.ensures))
+    (c.less.ensures ∙ ap₂ lt_z (reads_back _ c.size-then-in_range.type_inv ∙ c.size-then-in_range.ensures) (reads_back _ c.size-then-in_range-2.type_inv ∙ c.size-then-in_range-2.ensures))
 
 pub returns : goal.returns
 returns c =

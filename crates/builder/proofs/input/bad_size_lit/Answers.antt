@@ -7,4 +7,4 @@ use borrow.Author.Rules.{rules}
 use Rattle.builder.proofs.input.bad_size_lit.Goals as goal
 
 pub returns : goal.returns
-returns c = ap not (c.is_literal.ensures ∙ ap (in_range (pos 8191)) (reads_back _ c.size_lit.type-inv ∙ c.size_lit.ensures))
+returns c = ap not (c.is_literal.ensures ∙ ap (in_range (pos 8191)) (reads_back _ c.size_lit.type_inv ∙ c.size_lit.ensures))

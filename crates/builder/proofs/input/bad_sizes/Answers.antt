@@ -7,4 +7,4 @@ use borrow.Author.Rules.{rules}
 use Rattle.builder.proofs.input.bad_sizes.Goals as goal
 
 pub returns : goal.returns
-returns c = ap not (c.in_range.ensures ∙ ap (in_range (pos 32)) (reads_back _ c.sizes.type-inv ∙ c.sizes.ensures))
+returns c = ap not (c.in_range.ensures ∙ ap (in_range (pos 32)) (reads_back _ c.sizes.type_inv ∙ c.sizes.ensures))

@@ -7,4 +7,4 @@ use borrow.Author.Rules.{rules}
 use Rattle.builder.proofs.input.bad_weight.Goals as goal
 
 pub returns : goal.returns
-returns c = ap not (c.in_range.ensures ∙ ap (in_range (pos 1000000)) (reads_back _ c.weight.type-inv ∙ c.weight.ensures))
+returns c = ap not (c.in_range.ensures ∙ ap (in_range (pos 1000000)) (reads_back _ c.weight.type_inv ∙ c.weight.ensures))

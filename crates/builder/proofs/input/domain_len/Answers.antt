@@ -6,4 +6,4 @@ use borrow.Author.Rules.{rules}
 use Rattle.builder.proofs.input.domain_len.Goals as goal
 
 pub returns : goal.returns
-returns c = c.to_nat.ensures ∙ ap to_nat (reads_back _ c.sizes.type-inv ∙ c.sizes.ensures)
+returns c = c.to_nat.ensures ∙ ap to_nat (reads_back _ c.sizes.type_inv ∙ c.sizes.ensures)

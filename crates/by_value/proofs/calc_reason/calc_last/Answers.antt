@@ -3,4 +3,4 @@ use borrow.Author.Rules.{rules}
 use Rattle.by_value.proofs.calc_reason.calc_last.Goals as goal
 
 pub returns : goal.returns
-returns c = last_shell c.args.t1 _ _ c.table_of-edges.ensures _ c.plan_bytes-plan.ensures _ _ _ c.calc_last.ensures
+returns c = last_shell c.args.s _ _ c.table_of-edges.ensures _ c.plan_bytes-plan.ensures _ _ _ c.calc_last.ensures

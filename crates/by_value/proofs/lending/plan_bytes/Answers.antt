@@ -8,5 +8,5 @@ use Rattle.by_value.proofs.lending.plan_bytes.Goals as goal
 
 pub returns : goal.returns
 returns c =
-    let n : length c.args.t1.plan ≡ 15241 = omega arith in
+    let n : length c.args.s.plan ≡ 15241 = omega arith in
     words_held _ _ n c.bytes_of.ensures

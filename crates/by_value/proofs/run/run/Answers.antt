@@ -4,4 +4,4 @@ use borrow.Author.Rules.{rules}
 use Rattle.by_value.proofs.run.run.Goals as goal
 
 pub returns : goal.returns
-returns c = run_shell c.args.t1 _ _ c.table_of-edges.ensures _ c.plan_bytes-plan.ensures _ _ _ _ _ _ _ (to_z-of_z c.ranges.from) (to_z-of_z c.ranges.to) c.run.ensures
+returns c = run_shell c.args.s _ _ c.table_of-edges.ensures _ c.plan_bytes-plan.ensures _ _ _ _ _ _ _ (to_z-of_z c.ranges.from) (to_z-of_z c.ranges.to) c.run.ensures

@@ -5,8 +5,8 @@ use Rattle.desk.proofs.print.count_of.Goals as goal
 
 pub returns-in-Next : goal.returns-in-Next
 unfolding count_of
-returns-in-Next c = sym (ap count_of c.w-1.given.1)
+returns-in-Next c = sym (ap count_of c.in-Next.is)
 
 pub returns-in-TooSmall : goal.returns-in-TooSmall
 unfolding count_of
-returns-in-TooSmall c = sym (ap count_of c.enum_told-1.given.1)
+returns-in-TooSmall c = sym (ap count_of c.in-TooSmall.is)

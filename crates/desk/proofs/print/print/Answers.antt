@@ -7,32 +7,32 @@ use Rattle.desk.proofs.print.print.Goals as goal
 
 pub returns-in-Consistent : goal.returns-in-Consistent
 unfolding line_of letter_of numbers_in values_of
-returns-in-Consistent c = shown_as c.args.values.now _ _ c.args.out.now _ _ c.a-1.given.1 c.print_first.ensures
+returns-in-Consistent c = shown_as c.args.values.now _ _ c.args.out.now _ _ c.in-Consistent.is c.print_first.ensures
 
 pub returns-in-Conflict : goal.returns-in-Conflict
 unfolding line_of letter_of numbers_in values_of
-returns-in-Conflict c = shown_as c.args.values.now _ _ c.args.out.now _ _ c.enum_told-1.given.1 c.print_first-in-Conflict.ensures
+returns-in-Conflict c = shown_as c.args.values.now _ _ c.args.out.now _ _ c.in-Conflict.is c.print_first-in-Conflict.ensures
 
 pub returns-in-Noted : goal.returns-in-Noted
 unfolding line_of letter_of numbers_in values_of
-returns-in-Noted c = shown_as c.args.values.now _ _ c.args.out.now _ _ c.enum_told-in-Noted-1.given.1 c.print_first-in-Noted.ensures
+returns-in-Noted c = shown_as c.args.values.now _ _ c.args.out.now _ _ c.in-Noted.is c.print_first-in-Noted.ensures
 
 pub returns-in-Undone : goal.returns-in-Undone
 unfolding line_of letter_of numbers_in values_of
-returns-in-Undone c = shown_as c.args.values.now _ _ c.args.out.now _ _ c.enum_told-in-Undone-1.given.1 c.print_first-in-Undone.ensures
+returns-in-Undone c = shown_as c.args.values.now _ _ c.args.out.now _ _ c.in-Undone.is c.print_first-in-Undone.ensures
 
 pub returns-in-Reason : goal.returns-in-Reason
 unfolding line_of letter_of numbers_in values_of
-returns-in-Reason c = shown_as c.args.values.now _ _ c.args.out.now _ _ c.a-in-Reason-1.given.1 c.print_first-in-Reason.ensures
+returns-in-Reason c = shown_as c.args.values.now _ _ c.args.out.now _ _ c.in-Reason.is c.print_first-in-Reason.ensures
 
 pub returns-in-Run : goal.returns-in-Run
 unfolding line_of letter_of numbers_in values_of
-returns-in-Run c = shown_as c.args.values.now _ _ c.args.out.now _ _ c.a-in-Run-1.given.1 c.print_first-in-Run.ensures
+returns-in-Run c = shown_as c.args.values.now _ _ c.args.out.now _ _ c.in-Run.is c.print_first-in-Run.ensures
 
 pub returns-in-Page : goal.returns-in-Page
 unfolding line_of letter_of numbers_in values_of
-returns-in-Page c = shown_as c.args.values.now _ _ c.args.out.now _ _ c.a-in-Page-1.given.1 c.print_first-in-Page.ensures
+returns-in-Page c = shown_as c.args.values.now _ _ c.args.out.now _ _ c.in-Page.is c.print_first-in-Page.ensures
 
 pub returns-in-Refused : goal.returns-in-Refused
 unfolding line_of letter_of numbers_in values_of
-returns-in-Refused c = shown_as c.args.values.now _ _ c.args.out.now _ _ c.a-in-Refused-1.given.1 c.print_refusal.ensures
+returns-in-Refused c = shown_as c.args.values.now _ _ c.args.out.now _ _ c.in-Refused.is c.print_refusal.ensures

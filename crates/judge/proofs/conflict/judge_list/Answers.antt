@@ -6,8 +6,8 @@ use Rattle.judge.proofs.conflict.judge_list.Goals as goal
 
 pub returns-in-Past : goal.returns-in-Past
 unfolding listed
-returns-in-Past c = list_arm _ _ _ c.r-1.given.1 refl
+returns-in-Past c = list_arm _ _ _ c.in-Past.is refl
 
 pub returns-in-Missing : goal.returns-in-Missing
 unfolding listed
-returns-in-Missing c = list_arm _ _ _ c.enum_told-1.given.1 refl
+returns-in-Missing c = list_arm _ _ _ c.in-Missing.is refl

@@ -9,10 +9,10 @@ pub returns-in-Past : goal.returns-in-Past
 unfolding reason_given
 returns-in-Past c =
     let a = c.args in
-    c.give_list.ensures ∙ ap (λ (l : Listed). reason_given (words_of a.plan.now) a.list.now l a.buffer.now) (sym c.listed-1.given.1)
+    c.give_list.ensures ∙ ap (λ (l : Listed). reason_given (words_of a.plan.now) a.list.now l a.buffer.now) (sym c.in-Past.is)
 
 pub returns-in-Missing : goal.returns-in-Missing
 unfolding reason_given
 returns-in-Missing c =
     let a = c.args in
-    ap (λ (l : Listed). reason_given (words_of a.plan.now) a.list.now l a.buffer.now) (sym c.enum_told-1.given.1)
+    ap (λ (l : Listed). reason_given (words_of a.plan.now) a.list.now l a.buffer.now) (sym c.in-Missing.is)

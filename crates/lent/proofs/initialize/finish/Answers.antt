@@ -15,7 +15,7 @@ returns-in-Fine c =
     let a = c.args in
     λ ends rs last len b words left.
     let s = (state_of (words_of a.plan.now) ends a.noted.now rs last len b) in
-    end_fine s a.cursor a.entry.now a.log.now words left a.x _ _ _ _ _ _ _ c.enum_told-1.given.1 c.copy.ensures
+    end_fine s a.cursor a.entry.now a.log.now words left a.x _ _ _ _ _ _ _ c.in-Fine.is c.copy.ensures
     (taken_done s a.cursor a.entry.now a.log.now words left a.x _ _ _ c.note_up_to-c.ensures (answer.Consistent a.x.handed))
 
 pub returns-in-Clash : goal.returns-in-Clash
@@ -24,7 +24,7 @@ returns-in-Clash c =
     let a = c.args in
     λ ends rs last len b words left.
     let s = (state_of (words_of a.plan.now) ends a.noted.now rs last len b) in
-    end_clash s a.cursor a.entry.now a.log.now words left a.x _ _ _ _ _ _ _ _ c.enum_told-in-Clash-1.given.1 c.copy-in-Clash.ensures
+    end_clash s a.cursor a.entry.now a.log.now words left a.x _ _ _ _ _ _ _ _ c.in-Clash.is c.copy-in-Clash.ensures
     (taken_over_lem s a.cursor a.entry.now a.log.now words left a.x _ _ _ c.note_up_to-c-in-Clash.ensures answer.Conflict)
 
 pub returns-in-Stopped : goal.returns-in-Stopped
@@ -33,4 +33,4 @@ returns-in-Stopped c =
     let a = c.args in
     λ ends rs last len b words left.
     let s = (state_of (words_of a.plan.now) ends a.noted.now rs last len b) in
-    end_stopped s a.cursor a.entry.now a.log.now words left a.x _ _ _ _ _ _ _ c.found-1.given.1 c.restore.ensures refl
+    end_stopped s a.cursor a.entry.now a.log.now words left a.x _ _ _ _ _ _ _ c.in-Stopped.is c.restore.ensures refl

@@ -4,4 +4,4 @@ use borrow.Author.Rules.{rules}
 use Rattle.lent.proofs.page.answer_of.Goals as goal
 
 pub returns-in-Bytes : goal.returns-in-Bytes
-returns-in-Bytes c = sym (ap page_answer c.printed-1.given.1)
+returns-in-Bytes c = sym (ap page_answer c.in-Bytes.is)

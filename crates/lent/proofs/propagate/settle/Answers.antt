@@ -16,7 +16,7 @@ returns-in-Fine c =
     let a = c.args in
     let e = c.try_out-crossed.ensures in
     λ rs last len b.
-    settle_fine (state_of (words_of a.plan.now) a.edges a.noted.now rs last len b) a.cursor a.proposals.now a.left.now a.lit a.table.now a.list.now a.log.now _ _ _ (judge_told_lem _ _ _ _ _ _ _ e.1 c.judge-found.ensures ∙ (λ i. judge_words (words_of a.plan.now) a.edges (e.0 i) a.table.now a.proposals.now a.left.now)) _ _ _ _ _ c.enum_told-1.given.1 c.hand_on-handed.ensures (noted_judged (state_of (words_of a.plan.now) a.edges a.noted.now rs last len b) a.cursor a.lit 0 _ _ _ _ _ _ _ c.note-told.ensures.0)
+    settle_fine (state_of (words_of a.plan.now) a.edges a.noted.now rs last len b) a.cursor a.proposals.now a.left.now a.lit a.table.now a.list.now a.log.now _ _ _ (judge_told_lem _ _ _ _ _ _ _ e.1 c.judge-found.ensures ∙ (λ i. judge_words (words_of a.plan.now) a.edges (e.0 i) a.table.now a.proposals.now a.left.now)) _ _ _ _ _ c.in-Fine.is c.hand_on-handed.ensures (noted_judged (state_of (words_of a.plan.now) a.edges a.noted.now rs last len b) a.cursor a.lit 0 _ _ _ _ _ _ _ c.note-told.ensures.0)
 
 pub returns-in-Clash : goal.returns-in-Clash
 unfolding called_of state_after pick with_noted with_judged refuse tried_out
@@ -24,7 +24,7 @@ returns-in-Clash c =
     let a = c.args in
     let e = c.try_out-crossed.ensures in
     λ rs last len b.
-    settle_clash (state_of (words_of a.plan.now) a.edges a.noted.now rs last len b) a.cursor a.proposals.now a.left.now a.lit a.table.now a.list.now a.log.now _ _ _ (judge_told_lem _ _ _ _ _ _ _ e.1 c.judge-found.ensures ∙ (λ i. judge_words (words_of a.plan.now) a.edges (e.0 i) a.table.now a.proposals.now a.left.now)) _ _ _ c.found-1.given.1 (noted_judged (state_of (words_of a.plan.now) a.edges a.noted.now rs last len b) a.cursor a.lit _ _ _ _ _ _ _ _ c.note-told-in-Clash.ensures.0)
+    settle_clash (state_of (words_of a.plan.now) a.edges a.noted.now rs last len b) a.cursor a.proposals.now a.left.now a.lit a.table.now a.list.now a.log.now _ _ _ (judge_told_lem _ _ _ _ _ _ _ e.1 c.judge-found.ensures ∙ (λ i. judge_words (words_of a.plan.now) a.edges (e.0 i) a.table.now a.proposals.now a.left.now)) _ _ _ c.in-Clash.is (noted_judged (state_of (words_of a.plan.now) a.edges a.noted.now rs last len b) a.cursor a.lit _ _ _ _ _ _ _ _ c.note-told-in-Clash.ensures.0)
 
 pub returns-in-Stopped : goal.returns-in-Stopped
 unfolding called_of state_after pick with_noted with_judged refuse tried_out
@@ -32,4 +32,4 @@ returns-in-Stopped c =
     let a = c.args in
     let e = c.try_out-crossed.ensures in
     λ rs last len b.
-    settle_stopped (state_of (words_of a.plan.now) a.edges a.noted.now rs last len b) a.cursor a.proposals.now a.left.now a.lit a.table.now a.list.now a.log.now _ _ _ (judge_told_lem _ _ _ _ _ _ _ e.1 c.judge-found.ensures ∙ (λ i. judge_words (words_of a.plan.now) a.edges (e.0 i) a.table.now a.proposals.now a.left.now)) _ _ c.found-in-Stopped-1.given.1 refl
+    settle_stopped (state_of (words_of a.plan.now) a.edges a.noted.now rs last len b) a.cursor a.proposals.now a.left.now a.lit a.table.now a.list.now a.log.now _ _ _ (judge_told_lem _ _ _ _ _ _ _ e.1 c.judge-found.ensures ∙ (λ i. judge_words (words_of a.plan.now) a.edges (e.0 i) a.table.now a.proposals.now a.left.now)) _ _ c.in-Stopped.is refl

@@ -4,7 +4,7 @@ use borrow.Author.Rules.{rules}
 use Rattle.lent.proofs.run.answer_of.Goals as goal
 
 pub returns-in-Past : goal.returns-in-Past
-returns-in-Past c = sym (ap run_answer c.listed-1.given.1)
+returns-in-Past c = sym (ap run_answer c.in-Past.is)
 
 pub returns-in-Missing : goal.returns-in-Missing
-returns-in-Missing c = sym (ap run_answer c.enum_told-1.given.1)
+returns-in-Missing c = sym (ap run_answer c.in-Missing.is)

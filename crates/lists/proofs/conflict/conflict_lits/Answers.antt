@@ -8,36 +8,36 @@ use Rattle.lists.proofs.conflict.conflict_lits.Goals as goal
 
 pub returns-in-Going : goal.returns-in-Going
 unfolding conflict_lits missing
-returns-in-Going c = conflict_arm _ _ _ _ _ _ _ _ c.enum_told-1.given.1 refl
+returns-in-Going c = conflict_arm _ _ _ _ _ _ _ _ c.in-Going.is refl
 
 pub returns-in-DisconnectedInside : goal.returns-in-DisconnectedInside
 unfolding conflict_lits missing
-returns-in-DisconnectedInside c = conflict_arm _ _ _ _ _ _ _ _ c.verdict-1.given.1 (c.and_word.ensures ∙ ap₂ and_word c.edge_lit.ensures c.inside-r.ensures)
+returns-in-DisconnectedInside c = conflict_arm _ _ _ _ _ _ _ _ c.in-DisconnectedInside.is (c.and_word.ensures ∙ ap₂ and_word c.edge_lit.ensures c.inside-r.ensures)
 
 pub returns-in-Over : goal.returns-in-Over
 unfolding conflict_lits missing
-returns-in-Over c = conflict_arm _ _ _ _ _ _ _ _ c.verdict-in-Over-1.given.1 (c.and_lit.ensures ∙ ap₂ and_lit c.upper_bound_lit.ensures c.decided-r.ensures)
+returns-in-Over c = conflict_arm _ _ _ _ _ _ _ _ c.in-Over.is (c.and_lit.ensures ∙ ap₂ and_lit c.upper_bound_lit.ensures c.decided-r.ensures)
 
 pub returns-in-Under : goal.returns-in-Under
 unfolding conflict_lits missing
-returns-in-Under c = conflict_arm _ _ _ _ _ _ _ _ c.verdict-in-Under-1.given.1 (c.and_lit-in-Under.ensures ∙ ap₂ and_lit c.lower_bound_lit.ensures c.potential-r.ensures)
+returns-in-Under c = conflict_arm _ _ _ _ _ _ _ _ c.in-Under.is (c.and_lit-in-Under.ensures ∙ ap₂ and_lit c.lower_bound_lit.ensures c.potential-r.ensures)
 
 pub returns-in-Crowded : goal.returns-in-Crowded
 unfolding conflict_lits missing
-returns-in-Crowded c = conflict_arm _ _ _ _ _ _ _ _ c.verdict-in-Crowded-1.given.1 (spans_of _ _ _ _ _ c.potential-r-in-Crowded.ensures c.spans.ensures)
+returns-in-Crowded c = conflict_arm _ _ _ _ _ _ _ _ c.in-Crowded.is (spans_of _ _ _ _ _ c.potential-r-in-Crowded.ensures c.spans.ensures)
 
 pub returns-in-Apart : goal.returns-in-Apart
 unfolding conflict_lits missing
-returns-in-Apart c = conflict_arm _ _ _ _ _ _ _ _ c.verdict-in-Apart-1.given.1 c.apart.ensures
+returns-in-Apart c = conflict_arm _ _ _ _ _ _ _ _ c.in-Apart.is c.apart.ensures
 
 pub returns-in-Crossing : goal.returns-in-Crossing
 unfolding conflict_lits missing
-returns-in-Crossing c = conflict_arm _ _ _ _ _ _ _ _ c.verdict-in-Crossing-1.given.1 c.crossing.ensures
+returns-in-Crossing c = conflict_arm _ _ _ _ _ _ _ _ c.in-Crossing.is c.crossing.ensures
 
 pub returns-in-ZeroSize : goal.returns-in-ZeroSize
 unfolding conflict_lits missing
-returns-in-ZeroSize c = conflict_arm _ _ _ _ _ _ _ _ c.enum_told-in-ZeroSize-1.given.1 refl
+returns-in-ZeroSize c = conflict_arm _ _ _ _ _ _ _ _ c.in-ZeroSize.is refl
 
 pub returns-in-Unfit : goal.returns-in-Unfit
 unfolding conflict_lits missing
-returns-in-Unfit c = conflict_arm _ _ _ _ _ _ _ _ c.enum_told-in-Unfit-1.given.1 refl
+returns-in-Unfit c = conflict_arm _ _ _ _ _ _ _ _ c.in-Unfit.is refl

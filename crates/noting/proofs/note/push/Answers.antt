@@ -11,10 +11,10 @@ pub shape_of-log-in-Moved : goal.shape_of-log-in-Moved
 shape_of-log-in-Moved c = ap length c.push-p.ensures.1 ∙ push_length _ _ _
 
 pub returns-in-Moved : goal.returns-in-Moved
-returns-in-Moved c = let p = c.push-p in (moved_to_lem _ _ _ (sym c.p-1.given.1 ∙ p.ensures.0), p.ensures.1)
+returns-in-Moved c = let p = c.push-p in (moved_to_lem _ _ _ (sym c.in-Moved.is ∙ p.ensures.0), p.ensures.1)
 
 pub shape_of-log-in-Full : goal.shape_of-log-in-Full
 shape_of-log-in-Full c = ap length c.push-p.ensures.1 ∙ push_length _ _ _
 
 pub returns-in-Full : goal.returns-in-Full
-returns-in-Full c = let p = c.push-p in (stays _ _ (sym c.enum_told-1.given.1 ∙ p.ensures.0), p.ensures.1)
+returns-in-Full c = let p = c.push-p in (stays _ _ (sym c.in-Full.is ∙ p.ensures.0), p.ensures.1)

@@ -51,7 +51,7 @@ returns-then-not-is_admitted c =
     let e = c.line_end-e in
     let t = c.read_line-line in
     let input = c.args.input.now in
-    sym (refused_line input l.at e.result t.result l.first l.called (omega arith) e.ensures t.ensures (sym c.is_admitted.ensures ∙ not-true _ c.if-not-is_admitted.true))
+    sym (refused_line input l.at e.result t.result l.first l.called (omega arith) e.ensures t.ensures (sym c.is_admitted.ensures ∙ c.if-not-is_admitted.true))
     ∙ l.invariant
     ∙ sym (pick_yes _ _ (le-leb _ _ c.if-input-gt1048576.false))
 
@@ -71,7 +71,7 @@ loop-at-preserved c =
     let t = c.read_line-line in
     let input = c.args.input.now in
     ap (λ (b : Bool). in_order false b (lines_of (drop (e.result + 1) input))) c.called_by-called.ensures
-    ∙ sym (admitted_line input l.at e.result t.result l.first l.called (omega arith) e.ensures t.ensures (sym c.is_admitted.ensures ∙ not-false _ c.if-not-is_admitted.false))
+    ∙ sym (admitted_line input l.at e.result t.result l.first l.called (omega arith) e.ensures t.ensures (sym c.is_admitted.ensures ∙ c.if-not-is_admitted.false))
     ∙ l.invariant
 
 pub returns : goal.returns

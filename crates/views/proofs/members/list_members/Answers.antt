@@ -7,7 +7,7 @@ use Rattle.plan.specs.Words.{words_of}
 use Rattle.views.proofs.members.list_members.Goals as goal
 
 pub returns-in-Past : goal.returns-in-Past
-returns-in-Past c = members_past (words_of c.args.plan.now) c.args.edges c.args.noted.now c.args.region _ c.num_vertices.ensures c.num_edges.ensures _ _ c.region_vertices-listed.ensures _ c.listed-1.given.1
+returns-in-Past c = members_past (words_of c.args.plan.now) c.args.edges c.args.noted.now c.args.region _ c.num_vertices.ensures c.num_edges.ensures _ _ c.region_vertices-listed.ensures _ c.in-Past.is
 
 pub returns-in-Missing : goal.returns-in-Missing
-returns-in-Missing c = (members_missing (words_of c.args.plan.now) c.args.edges c.args.noted.now c.args.region _ c.num_vertices.ensures c.num_edges.ensures _ _ c.region_vertices-listed.ensures c.enum_told-1.given.1, λ (e : false ≡ true). absurd (false≢true e))
+returns-in-Missing c = (members_missing (words_of c.args.plan.now) c.args.edges c.args.noted.now c.args.region _ c.num_vertices.ensures c.num_edges.ensures _ _ c.region_vertices-listed.ensures c.in-Missing.is, λ (e : false ≡ true). absurd (false≢true e))
