@@ -48,6 +48,8 @@ class Function:
         self.new_place = dict(zip([p[0] for p in table["places"]], table["places_by_name"]))
         self.loops = {flat(old): (new, names, changed) for ((old, new), names), changed in zip(table["loops"], table["changed"])}
         self.table = table
+        self.variables = {n for _, names in table["loops"] for n in names}
+        self.arms = {p[0]: a for p, a in zip(table["places"], table["arms"]) if a}
 
     def chain(self, place):
         found = []
@@ -56,15 +58,44 @@ class Function:
             place = self.places[place][1]
         return found
 
-    def field(self, place, ups, name):
-        """The field of c today for the field `name` of the place that is `ups` before `place`."""
+    def path(self, place, ups, fields):
+        """The fields behind c today for `fields` of the place that is `ups` before `place`."""
         chain = self.chain(place)
         order = sorted(range(len(chain)), key=lambda i: abs(i - ups))
+        base, rest = flat(fields[0]), fields[1:]
+        for i in order:     # what an arm of a match binds
+            arm = self.arms.get(chain[i])
+            for new, old, inner in (arm[2] if arm else []):
+                if flat(old) == base and inner and rest[:len(inner)] == inner:
+                    return [arm[0], new, *rest[len(inner):]]
         for i in order:
             old, new = self.places[chain[i]][2]
-            if old and flat(old) == flat(name):
-                return new
-        return {"type-inv": "type_inv"}.get(name, name)
+            if old and flat(old) == base:
+                arm = self.arms.get(chain[i])
+                own = [e[0] for e in (arm[2] if arm else []) if flat(e[1]) == base and not e[2] and e[0].endswith("-own")]
+                if own and rest and rest[0] == "rest":
+                    return [new, own[0], *rest]
+                if len(rest) > 1 and rest[0] == "new" and rest[1] in "01":
+                    n = 0
+                    while n + 1 < len(rest) and rest[n + 1] == "1":
+                        n += 1
+                    names = self.table["params"].get(self.places[chain[i]][3]) or []
+                    if n < len(names):
+                        at = n + 2 if n + 1 < len(rest) and rest[n + 1] == "0" else n + 1
+                        return [new, "new", names[n], *rest[at:]]
+                if rest and rest[0] == "new" and len(rest) > 1:
+                    rest = ["new", rest[1].replace("-", "_"), *rest[2:]]
+                elif rest and rest[0].replace("-", "_") in self.variables:
+                    rest = [rest[0].replace("-", "_"), *rest[1:]]
+                return [new, *rest]
+        if base in ("args", "ranges") and rest:
+            rest = [rest[0].replace("-", "_"), *rest[1:]]
+        if base in ("args", "ranges") and rest:
+            for olds, news in self.table["args"]:
+                if olds.split(".")[1:] == [base + " ", rest[0]]:
+                    rest = [news.split(".")[-1], *rest[1:]]
+                    break
+        return [{"type-inv": "type_inv"}.get(fields[0], fields[0]), *rest]
 
 
 def turn_paths(body, var, fn, place):
@@ -85,9 +116,10 @@ def turn_paths(body, var, fn, place):
             n = ups + m.group(1).count(".before")
             if m.group(2) is None:
                 return var if a == var and not m.group(1) else var + "{-" + str(n) + "-}"
-            return var + "." + fn.field(place, n, m.group(2)[1:])
-        body = re.sub(r"(?<![\w.'₀-₉-])" + re.escape(a) + r"((?:\.before)*)(?![\w'₀-₉-])(\.[\w'₀-₉-]+)?", turn, body)
-    return body
+            return var + "." + ".".join(fn.path(place, n, m.group(2)[1:].split(".")))
+        body = re.sub(r"(?<![\w.'₀-₉-])" + re.escape(a) + r"((?:\.before)*)(?![\w'₀-₉-])((?:\.[\w'₀-₉-]+)+)?", turn, body)
+    body = re.sub(r"\bnot-(true|false) _ (" + re.escape(var) + r"\.[\w.'-]+\.\1)(?![\w.'-])", r"\2", body)
+    return body.replace(".type-inv", ".type_inv")
 
 
 def invariant(name, lines, fn, kind):

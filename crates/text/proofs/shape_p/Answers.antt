@@ -21,10 +21,6 @@ returns-then-not-is_within c =
     (pick_yes _ _ (le-leb _ _ c.if-n-lt2.false)
     ∙ pick_no _ _ (sym c.is_within.ensures ∙ c.if-not-is_within.true))
 
--- LEFT
-cast-t8 : tie.Need-overflow-cast-t8
-cast-t8 c = search rules
-
 pub returns : goal.returns
 unfolding shape_p
 returns c =

@@ -26,18 +26,16 @@ returns-then-not-is_within-2 c =
     ∙ pick_yes _ _ (sym c.is_within.ensures ∙ c.if-not-is_within.false)
     ∙ pick_no _ _ (sym c.is_within-2.ensures ∙ c.if-not-is_within-2.true))
 
--- LEFT
-cast-t7 : tie.Need-overflow-cast-t7
-cast-t7 c =
-    let f = c.before.before.before.before.before.args.s.a in
-    let h = within_size 4095 f (sym c.before.before.before.is_Within.ensures ∙ not-false _ c.before.before.if2.false) in
+pub overflow_cast-result : goal.overflow_cast-result
+overflow_cast-result c =
+    let f = c.args.s.a in
+    let h = within_size 4095 f (sym c.is_within.ensures ∙ c.if-not-is_within.false) in
     record { fits = omega arith }
 
--- LEFT
-cast-t8 : tie.Need-overflow-cast-t8
-cast-t8 c =
-    let f = c.before.before.before.before.before.args.s.b in
-    let h = within_size 4 f (sym c.before.is-within2.ensures ∙ not-false _ c.if3.false) in
+pub overflow_cast-result-2 : goal.overflow_cast-result-2
+overflow_cast-result-2 c =
+    let f = c.args.s.b in
+    let h = within_size 4 f (sym c.is_within-2.ensures ∙ c.if-not-is_within-2.false) in
     record { fits = omega arith }
 
 pub returns : goal.returns

@@ -33,7 +33,7 @@ returns-then-refusal-eq0 c =
     let l : ltb (length c.args.state.now) 133440 ≡ false = le-ltb _ _ c.if-state-lt133440.false in (
       sym (pick_yes _ _ z ∙ pick_no _ _ l),
       accepted_after _ _ _ _ _ (not_refused c.args.vertices.now c.args.n c.args.edges.now c.args.m c.args.state.now z l)
-          (λ i. (built c.args.vertices.now c.args.n c.args.edges.now c.args.m ((c.option.ensures ∙ ap (λ (o : ℤ). is_on o) (to_z-of_z c.ranges.same_size)) i) ((c.option-then-refusal-eq0.ensures ∙ ap (λ (o : ℤ). is_on o) (to_z-of_z c.ranges.extra-walls)) i)).state)
+          (λ i. (built c.args.vertices.now c.args.n c.args.edges.now c.args.m ((c.option.ensures ∙ ap (λ (o : ℤ). is_on o) (to_z-of_z c.ranges.same_size)) i) ((c.option-then-refusal-eq0.ensures ∙ ap (λ (o : ℤ). is_on o) (to_z-of_z c.ranges.extra_walls)) i)).state)
           c.build.ensures,
     )
 

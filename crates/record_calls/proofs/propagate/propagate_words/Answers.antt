@@ -10,7 +10,7 @@ use Rattle.record_calls.proofs.propagate.propagate_words.Goals as goal
 pub returns-then-reaches : goal.returns-then-reaches
 returns-then-reaches c =
     (c.propagate.ensures)
-    ∙ (λ i. propagated (c.args.s) (c.args.cursor) (to_z-of_z (c.ranges.lit) i) (to_z-of_z (c.ranges.num-pending-propagations) i) (c.args.table.now) (c.args.list.now) (c.args.words.now))
+    ∙ (λ i. propagated (c.args.s) (c.args.cursor) (to_z-of_z (c.ranges.lit) i) (to_z-of_z (c.ranges.num_pending_propagations) i) (c.args.table.now) (c.args.list.now) (c.args.words.now))
     ∙ sym (pick_yes _ _ (sym (c.reaches.ensures) ∙ (c.if-reaches.true)))
 
 pub returns : goal.returns
