@@ -75,19 +75,24 @@ class Function:
                 own = [e[0] for e in (arm[2] if arm else []) if flat(e[1]) == base and not e[2] and e[0].endswith("-own")]
                 if own and rest and rest[0] == "rest":
                     return [new, own[0], *rest]
-                if len(rest) > 1 and rest[0] == "new" and rest[1] in "01":
+                if len(rest) > 1 and rest[0] in ("new", "auto") and rest[1] in "01":
                     n = 0
                     while n + 1 < len(rest) and rest[n + 1] == "1":
                         n += 1
                     names = self.table["params"].get(self.places[chain[i]][3]) or []
                     if n < len(names):
                         at = n + 2 if n + 1 < len(rest) and rest[n + 1] == "0" else n + 1
-                        return [new, "new", names[n], *rest[at:]]
+                        return [new, rest[0], names[n], *rest[at:]]
                 if rest and rest[0] == "new" and len(rest) > 1:
                     rest = ["new", rest[1].replace("-", "_"), *rest[2:]]
                 elif rest and rest[0].replace("-", "_") in self.variables:
                     rest = [rest[0].replace("-", "_"), *rest[1:]]
                 return [new, *rest]
+        if base[-1:].isdigit() and base not in ("args", "ranges"):     # a callee named as a field of the record was counted
+            for i in order:
+                old, new = self.places[chain[i]][2]
+                if old and flat(old) == base.rstrip("0123456789"):
+                    return self.path(place, i, [old, *rest])
         if base in ("args", "ranges") and rest:
             rest = [rest[0].replace("-", "_"), *rest[1:]]
         if base in ("args", "ranges") and rest:
@@ -100,25 +105,39 @@ class Function:
 
 def turn_paths(body, var, fn, place):
     """Every path of `var`, and of a name that a `let` binds to one, by today's names."""
-    aliases = {var: 0}
-    while True:
-        m = None
-        for a, ups in list(aliases.items()):
-            m = re.search(r"(?:^|(?<=\s)|(?<=\())let ([\w₀-₉'-]+) = " + re.escape(a) + r"((?:\.before)*) in\s*", body)
-            if m:
-                aliases[m.group(1)] = ups + m.group(2).count(".before")
-                body = body[:m.start()] + body[m.end():]
+    word = r"[\w'₀-₉-]+"
+    aliases = {var: (0, [])}     # a name, how many places before the goal's it is, and the fields that follow
+    changed = True
+    while changed:
+        changed = False
+        for a, (ups, fields) in list(aliases.items()):
+            for m in re.finditer(r"(?:^|(?<=\s)|(?<=\())let (" + word + r") = " + re.escape(a) + r"((?:\.before)*)((?:\." + word + r")*) in(?=\s)", body):
+                if m.group(1) in aliases:
+                    continue
+                more = [f for f in m.group(3).split(".") if f]
+                if fields and m.group(2):
+                    continue
+                aliases[m.group(1)] = (ups + m.group(2).count(".before"), fields + more)
+                if not fields and not more:      # a place: its paths begin at `var` today
+                    body = body[:m.start()] + re.sub(r"^\s+", "", body[m.end():])
+                changed = True
                 break
-        if not m:
-            break
-    for a, ups in sorted(aliases.items(), key=lambda x: -len(x[0])):
+            if changed:
+                break
+    for a, (ups, fields) in sorted(aliases.items(), key=lambda x: -len(x[0])):
         def turn(m):
             n = ups + m.group(1).count(".before")
-            if m.group(2) is None:
+            more = [f for f in (m.group(2) or "").split(".") if f]
+            if not fields and not more:
                 return var if a == var and not m.group(1) else var + "{-" + str(n) + "-}"
-            return var + "." + ".".join(fn.path(place, n, m.group(2)[1:].split(".")))
-        body = re.sub(r"(?<![\w.'₀-₉-])" + re.escape(a) + r"((?:\.before)*)(?![\w'₀-₉-])((?:\.[\w'₀-₉-]+)+)?", turn, body)
-    body = re.sub(r"\bnot-(true|false) _ (" + re.escape(var) + r"\.[\w.'-]+\.\1)(?![\w.'-])", r"\2", body)
+            if not fields:
+                return var + "." + ".".join(fn.path(place, n, more))
+            if not more or m.group(1):
+                return m.group(0)
+            head, whole = fn.path(place, n, fields), fn.path(place, n, fields + more)
+            return a + "." + ".".join(whole[len(head):]) if whole[:len(head)] == head else var + "." + ".".join(whole)
+        body = re.sub(r"(?<![\w.'₀-₉-])" + re.escape(a) + r"((?:\.before)*)(?![\w'₀-₉-])((?:\." + word + r")+)?", turn, body)
+    body = re.sub(r"\bnot-(true|false) _ (" + word + r"(?:\." + word + r")*\.\1)(?![\w.'-])", r"\2", body)
     return body.replace(".type-inv", ".type_inv")
 
 

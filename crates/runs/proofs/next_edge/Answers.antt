@@ -37,5 +37,5 @@ pub returns : goal.returns
 returns c =
     let a = c.args in
     let l = c.loop-g in
-    let z : l.g ≡ a.num-edges = omega arith in
+    let z : l.g ≡ a.num_edges = omega arith in
     sym (ap (lowest (onward (graph a.edges.now a.state.now true) (far_of a.far.now) a.p)) (sym z) ∙ l.invariant.1 ∙ z)

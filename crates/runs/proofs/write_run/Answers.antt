@@ -62,4 +62,4 @@ returns c =
     let p = c.requires in
     let e = graph a.edges.now a.state.now true in
     going_done _ _ _ _ _ _ _ _ _ _ (omega arith) c.loop-i.invariant
-    ∙ ap (λ (j : ℕ). written (walked e a.num-edges (far_of a.far.now) j a.from) (out_of a.buffer.now 0)) p.6
+    ∙ ap (λ (j : ℕ). written (walked e a.num_edges (far_of a.far.now) j a.from) (out_of a.buffer.now 0)) p.6

@@ -30,7 +30,7 @@ loop-i-preserved c =
     let a = c.args in
     let w = c.write_tabbed-p in (
       omega arith,
-      run_step a.numbers.now a.buf.now a.at l.buf w.new.1.0 l.p w.result l.i (omega arith) (omega arith) w.ensures.0 w.ensures.1 l.invariant.1,
+      run_step a.numbers.now a.buf.now a.at l.buf w.new.buf l.p w.result l.i (omega arith) (omega arith) w.ensures.0 w.ensures.1 l.invariant.1,
     )
 
 pub shape_of-buf : goal.shape_of-buf

@@ -12,7 +12,7 @@ use Rattle.text_writer.proofs.write_answer.Goals.{Else-not-fits, Else-not-has_ro
 
 -- what the two tests showed
 two : (c : Else-not-fits) → c.args.at + 2 ≤ length c.args.buf.now
-two c = leb-true _ _ (sym c.fits2.ensures ∙ c.if-not-fits.false)
+two c = leb-true _ _ (sym c.fits.ensures ∙ c.if-not-fits.false)
 
 room : (c : Else-not-has_room) → c.args.at + (length (tabbed c.args.numbers.now) + 2) ≤ length c.args.buf.now
 room c =
@@ -24,7 +24,7 @@ pub returns-then-not-fits : goal.returns-then-not-fits
 returns-then-not-fits c =
     let a = c.args in
     let line = answer_line a.letter a.numbers.now in
-    let short : length a.buf.now < a.at + 2 = leb-false _ _ (sym c.fits2.ensures ∙ c.if-not-fits.true) in
+    let short : length a.buf.now < a.at + 2 = leb-false _ _ (sym c.fits.ensures ∙ c.if-not-fits.true) in
     let told = refused a.buf.now line a.at (omega (arith, answer_long a.letter a.numbers.now)) in
     (sym told.0, sym told.1)
 
@@ -54,7 +54,7 @@ write_all_tabbed-p-requires c = simp length-set (omega (arith, room (goal.at.wri
 pub bounds-buf-p : goal.bounds-buf-p
 bounds-buf-p c =
     let w = c.write_all_tabbed-p in
-    omega (arith, w.ensures.0, room (goal.at.bounds-buf-p c).Else-not-has_room, w.auto.1.0, length-set c.args.buf.now c.args.at c.args.letter)
+    omega (arith, w.ensures.0, room (goal.at.bounds-buf-p c).Else-not-has_room, w.auto.buf, length-set c.args.buf.now c.args.at c.args.letter)
 
 pub overflow_add-result : goal.overflow_add-result
 overflow_add-result c =
@@ -62,7 +62,7 @@ overflow_add-result c =
     omega (arith, w.ensures.0, room (goal.at.overflow_add-result c).Else-not-has_room)
 
 pub shape_of-buf : goal.shape_of-buf
-shape_of-buf c = simp length-set (c.write_all_tabbed-p.auto.1.0 ∙ simp length-set)
+shape_of-buf c = simp length-set (c.write_all_tabbed-p.auto.buf ∙ simp length-set)
 
 pub returns : goal.returns
 returns c =
@@ -74,5 +74,5 @@ returns c =
     let told = fitted a.buf.now (answer_line a.letter ns) a.at (omega arith) in
     let e : w.result + 1 ≡ a.at + length (answer_line a.letter ns) = omega (arith, w.ensures.0) in (
       ap Next e ∙ sym told.0,
-      answer_put a.buf.now a.letter ns a.at w.result w.new.1.0 h w.ensures.1 w.ensures.0 ∙ sym told.1,
+      answer_put a.buf.now a.letter ns a.at w.result w.new.buf h w.ensures.1 w.ensures.0 ∙ sym told.1,
     )

@@ -13,14 +13,14 @@ use Rattle.text_writer.proofs.write_number.Goals.{Else-not-fits}
 pub returns-then-not-fits : goal.returns-then-not-fits
 returns-then-not-fits c =
     let a = c.args in
-    let told = refused a.buf.now (digits a.n) a.at (leb-false _ _ (sym (ap (λ (k : ℕ). leb (a.at + k) (length a.buf.now)) c.count_digits-k.ensures) ∙ sym c.fits2.ensures ∙ c.if-not-fits.true)) in
+    let told = refused a.buf.now (digits a.n) a.at (leb-false _ _ (sym (ap (λ (k : ℕ). leb (a.at + k) (length a.buf.now)) c.count_digits-k.ensures) ∙ sym c.fits.ensures ∙ c.if-not-fits.true)) in
     (sym told.0, sym told.1)
 
 -- what the test showed
 room : (c : Else-not-fits) → c.args.at + length (digits c.args.n) ≤ length c.args.buf.now
 room c =
     let a = c.args in
-    leb-true _ _ (sym (ap (λ (k : ℕ). leb (a.at + k) (length a.buf.now)) c.count_digits-k.ensures) ∙ sym c.fits2.ensures ∙ c.if-not-fits.false)
+    leb-true _ _ (sym (ap (λ (k : ℕ). leb (a.at + k) (length a.buf.now)) c.count_digits-k.ensures) ∙ sym c.fits.ensures ∙ c.if-not-fits.false)
 
 pub write_digits-requires : goal.write_digits-requires
 write_digits-requires c = room (goal.at.write_digits-requires c).Else-not-fits

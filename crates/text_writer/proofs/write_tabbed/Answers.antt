@@ -16,7 +16,7 @@ pub write_digits-requires : goal.write_digits-requires
 write_digits-requires c = simp length-set (omega (arith, tabbed_long c.args.n))
 
 pub shape_of-buf : goal.shape_of-buf
-shape_of-buf c = c.write_digits.auto.1.0 ∙ simp length-set
+shape_of-buf c = c.write_digits.auto.buf ∙ simp length-set
 
 pub returns : goal.returns
 unfolding tabbed_one

@@ -54,7 +54,7 @@ shown c =
     let e = c.line_end-e in
     let z = c.obey-o.new in
     line_shown c.args.input.now l.shown.told l.at e.result (desk l.o.state l.o.cursor l.table l.log) l.invariant.4 (omega arith) e.ensures
-    (held c.obey-o.result z.1.1.0 z.1.1.1.0 z.1.1.1.1.1.0) l.out c.obey-o.ensures l.invariant.3
+    (held c.obey-o.result z.table z.log z.out) l.out c.obey-o.ensures l.invariant.3
 
 few : (c : After-obey-o) → c.obey-o.result.printed ≤ 65536
 few c =
@@ -62,7 +62,7 @@ few c =
     let e = c.line_end-e in
     let z = c.obey-o.new in
     line_few c.args.input.now l.shown.told l.at e.result (desk l.o.state l.o.cursor l.table l.log) l.invariant.4 (omega arith) e.ensures
-    (held c.obey-o.result z.1.1.0 z.1.1.1.0 z.1.1.1.1.1.0) l.out c.obey-o.ensures l.invariant.3
+    (held c.obey-o.result z.table z.log z.out) l.out c.obey-o.ensures l.invariant.3
 
 left : (c : After-obey-o) →
     Left c.args.input.now (c.loop-at.shown.told + c.obey-o.result.printed) (c.line_end-e.result + 1) (desk c.obey-o.result.state c.obey-o.result.cursor c.obey-o.new.table c.obey-o.new.log)
@@ -71,7 +71,7 @@ left c =
     let e = c.line_end-e in
     let z = c.obey-o.new in
     line_left c.args.input.now l.shown.told l.at e.result (desk l.o.state l.o.cursor l.table l.log) l.invariant.4 (omega arith) e.ensures
-    (held c.obey-o.result z.1.1.0 z.1.1.1.0 z.1.1.1.1.1.0) l.out c.obey-o.ensures l.invariant.3
+    (held c.obey-o.result z.table z.log z.out) l.out c.obey-o.ensures l.invariant.3
 
 pub show-shown-requires : goal.show-shown-requires
 show-shown-requires c =
@@ -92,7 +92,7 @@ loop-at-preserved c =
       search rules,
       search rules,
       search rules,
-      subst (λ (k : ℕ). Left c.args.input.now k (c.line_end-e.result + 1) (desk o.result.state o.result.cursor o.new.1.1.0 o.new.1.1.1.0))
+      subst (λ (k : ℕ). Left c.args.input.now k (c.line_end-e.result + 1) (desk o.result.state o.result.cursor o.new.table o.new.log))
           (sym c.show-shown.ensures) (left (goal.at.loop-at-preserved c).After-obey-o),
     )
 

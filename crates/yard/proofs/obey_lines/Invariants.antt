@@ -21,7 +21,7 @@ shown c =
     let e = c.line_end-e in
     let z = c.obey-o.new in
     line_shown c.args.input.now l.shown.told l.at e.result (desk l.o.state l.o.cursor l.table l.log) l.invariant.4 (omega arith) e.ensures
-    (held c.obey-o.result z.1.1.0 z.1.1.1.0 z.1.1.1.1.1.0) l.out c.obey-o.ensures l.invariant.3
+    (held c.obey-o.result z.table z.log z.out) l.out c.obey-o.ensures l.invariant.3
 
 abbrev pub invariant-loop-at : goal.invariant-loop-at
 invariant-loop-at l = (length l.input ≤ 1048577) × (length l.table ≡ 4096) × (length l.log ≡ 4352) × (length l.out ≡ 65536) × Left l.input l.shown.told l.at (desk l.o.state l.o.cursor l.table l.log)

@@ -18,8 +18,8 @@ shown c =
     let a = c.args in
     let p = c.requires in
     let k = c.print_refusal-n in
-    refusal_shown a.input.now a.started k.result k.new.1.0 p.start p.number
-    (shows (answer_line 69 (a.started.refusal ∷ [])) _ k.new.1.0 k.result (omega (arith, k.ensures.1)) k.ensures.0)
+    refusal_shown a.input.now a.started k.result k.new.out p.start p.number
+    (shows (answer_line 69 (a.started.refusal ∷ [])) _ k.new.out k.result (omega (arith, k.ensures.1)) k.ensures.0)
 
 pub show-requires : goal.show-requires
 show-requires c =

@@ -19,7 +19,7 @@ unfolding uncrossed overfull raises
 shape_of-proposals-then-goes_on-2 c =
     let a = c.args in
     let p = a.proposals.now in
-    let w = words (words_of a.plan.now) a.t2 a.noted.now a.view.now in
+    let w = words (words_of a.plan.now) a.edges a.noted.now a.view.now in
     ran_length _ _ _ _
     (step2_done _ _ _ _ _ _ _ _ _
     (sym c.goes_on.ensures ∙ c.if-goes_on.true)
@@ -35,7 +35,7 @@ unfolding uncrossed overfull raises
 returns-then-goes_on-2 c =
     let a = c.args in
     let p = a.proposals.now in
-    let w = words (words_of a.plan.now) a.t2 a.noted.now a.view.now in
+    let w = words (words_of a.plan.now) a.edges a.noted.now a.view.now in
     step2_done _ _ _ _ _ _ _ _ _
     (sym c.goes_on.ensures ∙ c.if-goes_on.true)
     (sym c.goes_on-then-goes_on.ensures ∙ c.if-goes_on-2.true)
@@ -50,7 +50,7 @@ unfolding uncrossed overfull raises
 returns-then-goes_on c =
     let a = c.args in
     let p = a.proposals.now in
-    let w = words (words_of a.plan.now) a.t2 a.noted.now a.view.now in
+    let w = words (words_of a.plan.now) a.edges a.noted.now a.view.now in
     step2_over _ _ _ _ [] [] _ _ _
     (sym c.goes_on.ensures ∙ c.if-goes_on.true)
     (sym c.goes_on-then-goes_on.ensures ∙ c.if-goes_on-2.false)

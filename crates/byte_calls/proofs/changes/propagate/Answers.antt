@@ -26,7 +26,7 @@ returns c =
     let f = c.ranges in
     let n = c.notify.ensures in
     let y = propagated_read a.state.now a.table.now a.list.now a.log.now a.cursor.now
-    (to_z-of_z f.lit) (to_z-of_z f.num-pending-propagations) in
+    (to_z-of_z f.lit) (to_z-of_z f.num_pending_propagations) in
     let list = a.list.now in
     let log = a.log.now in
     let cursor = a.cursor.now in (

@@ -9,5 +9,5 @@ pub returns : goal.returns
 returns c =
     let a = c.args in
     λ rs b r.
-    begin_by (state_of (words_of a.plan.now) a.edges a.noted.now rs a.left.now a.last-len b) a.cursor a.table.now a.log.now a.list.now _ _ _ _ _ _ _ r refl c.save-entry.ensures c.no_handed-handed.ensures c.no_words-proposals.ensures c.go_through-x.ensures
-    (c.finish.ensures a.edges rs a.left.now a.last-len b _ _)
+    begin_by (state_of (words_of a.plan.now) a.edges a.noted.now rs a.left.now a.last_len b) a.cursor a.table.now a.log.now a.list.now _ _ _ _ _ _ _ r refl c.save-entry.ensures c.no_handed-handed.ensures c.no_words-proposals.ensures c.go_through-x.ensures
+    (c.finish.ensures a.edges rs a.left.now a.last_len b _ _)

@@ -18,14 +18,14 @@ returns-then-in_range c =
     let a = c.args in
     of_parts _
     (λ rs last len b.
-    is_settled (state_of (words_of a.plan.now) a.t2 a.noted.now rs last len b) a.cursor a.proposals.now a.left.now _ _ a.table.now a.list.now a.log.now _ (c.propagate_refusal-n.ensures ∙ ap (propagate_refusal (words_of a.plan.now) a.t2 a.noted.now a.table.now (length a.list.now) a.log.now a.cursor) (to_z-of_z c.ranges.lit)) _ _ (c.lit_number-l.ensures ∙ ap lit_number (to_z-of_z c.ranges.lit)) c.if-n-eq0.true (sym (c.in_range.ensures ∙ ap (in_range (pos 0)) (to_z-of_z c.ranges.num_pending_propagations)) ∙ c.if-in_range.true) (c.settle.ensures rs last len b))
+    is_settled (state_of (words_of a.plan.now) a.edges a.noted.now rs last len b) a.cursor a.proposals.now a.left.now _ _ a.table.now a.list.now a.log.now _ (c.propagate_refusal-n.ensures ∙ ap (propagate_refusal (words_of a.plan.now) a.edges a.noted.now a.table.now (length a.list.now) a.log.now a.cursor) (to_z-of_z c.ranges.lit)) _ _ (c.lit_number-l.ensures ∙ ap lit_number (to_z-of_z c.ranges.lit)) c.if-n-eq0.true (sym (c.in_range.ensures ∙ ap (in_range (pos 0)) (to_z-of_z c.ranges.num_pending_propagations)) ∙ c.if-in_range.true) (c.settle.ensures rs last len b))
 
 pub returns-then-n-eq0 : goal.returns-then-n-eq0
 returns-then-n-eq0 c =
     let a = c.args in
     of_parts _
     (λ rs last len b.
-    is_added (state_of (words_of a.plan.now) a.t2 a.noted.now rs last len b) a.cursor a.proposals.now a.left.now _ _ a.table.now a.list.now a.log.now _ (c.propagate_refusal-n.ensures ∙ ap (propagate_refusal (words_of a.plan.now) a.t2 a.noted.now a.table.now (length a.list.now) a.log.now a.cursor) (to_z-of_z c.ranges.lit)) _ _ (c.lit_number-l.ensures ∙ ap lit_number (to_z-of_z c.ranges.lit)) c.if-n-eq0.true (sym (c.in_range.ensures ∙ ap (in_range (pos 0)) (to_z-of_z c.ranges.num_pending_propagations)) ∙ c.if-in_range.false) (c.add.ensures a.t2 rs last len b _ _ _ _))
+    is_added (state_of (words_of a.plan.now) a.edges a.noted.now rs last len b) a.cursor a.proposals.now a.left.now _ _ a.table.now a.list.now a.log.now _ (c.propagate_refusal-n.ensures ∙ ap (propagate_refusal (words_of a.plan.now) a.edges a.noted.now a.table.now (length a.list.now) a.log.now a.cursor) (to_z-of_z c.ranges.lit)) _ _ (c.lit_number-l.ensures ∙ ap lit_number (to_z-of_z c.ranges.lit)) c.if-n-eq0.true (sym (c.in_range.ensures ∙ ap (in_range (pos 0)) (to_z-of_z c.ranges.num_pending_propagations)) ∙ c.if-in_range.false) (c.add.ensures a.edges rs last len b _ _ _ _))
 
 pub returns : goal.returns
 unfolding called_of state_after pick with_noted with_judged refuse tried_out
@@ -33,4 +33,4 @@ returns c =
     let a = c.args in
     of_parts _
     (λ rs last len b.
-    is_refused (state_of (words_of a.plan.now) a.t2 a.noted.now rs last len b) a.cursor a.proposals.now a.left.now _ _ a.table.now a.list.now a.log.now _ (c.propagate_refusal-n.ensures ∙ ap (propagate_refusal (words_of a.plan.now) a.t2 a.noted.now a.table.now (length a.list.now) a.log.now a.cursor) (to_z-of_z c.ranges.lit)) c.if-n-eq0.false)
+    is_refused (state_of (words_of a.plan.now) a.edges a.noted.now rs last len b) a.cursor a.proposals.now a.left.now _ _ a.table.now a.list.now a.log.now _ (c.propagate_refusal-n.ensures ∙ ap (propagate_refusal (words_of a.plan.now) a.edges a.noted.now a.table.now (length a.list.now) a.log.now a.cursor) (to_z-of_z c.ranges.lit)) c.if-n-eq0.false)

@@ -16,7 +16,7 @@ returns-then-n-eq0 c =
     let a = c.args in (
       of_parts _
           (λ rs last len b.
-          is_undone (state_of (words_of a.plan.now) a.t2 a.noted.now rs last len b) a.cursor _ a.log.now _ (c.undo_refusal-n.ensures ∙ ap (undo_refusal (words_of a.plan.now) a.t2 a.noted.now a.log.now a.cursor) (to_z-of_z c.ranges.lit)) _ _ c.if-n-eq0.true c.undo-c.ensures),
+          is_undone (state_of (words_of a.plan.now) a.edges a.noted.now rs last len b) a.cursor _ a.log.now _ (c.undo_refusal-n.ensures ∙ ap (undo_refusal (words_of a.plan.now) a.edges a.noted.now a.log.now a.cursor) (to_z-of_z c.ranges.lit)) _ _ c.if-n-eq0.true c.undo-c.ensures),
       (refl, refl),
     )
 
@@ -26,6 +26,6 @@ returns c =
     let a = c.args in (
       of_parts _
           (λ rs last len b.
-          undo_refused (state_of (words_of a.plan.now) a.t2 a.noted.now rs last len b) a.cursor _ a.log.now _ (c.undo_refusal-n.ensures ∙ ap (undo_refusal (words_of a.plan.now) a.t2 a.noted.now a.log.now a.cursor) (to_z-of_z c.ranges.lit)) c.if-n-eq0.false),
+          undo_refused (state_of (words_of a.plan.now) a.edges a.noted.now rs last len b) a.cursor _ a.log.now _ (c.undo_refusal-n.ensures ∙ ap (undo_refusal (words_of a.plan.now) a.edges a.noted.now a.log.now a.cursor) (to_z-of_z c.ranges.lit)) c.if-n-eq0.false),
       (refl, refl),
     )

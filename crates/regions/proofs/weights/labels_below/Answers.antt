@@ -20,7 +20,7 @@ pub returns-then-words-first : goal.returns-then-words-first
 unfolding labels_below pick
 returns-then-words-first c =
     let a = c.args in
-    let k : length a.words.now < a.first + a.num-vertices = omega arith in
+    let k : length a.words.now < a.first + a.num_vertices = omega arith in
     simp (le-ltb _ _ c.if-num_vertices-gt64.false, lt-ltb _ _ k)
 
 pub overflow_sub-words : goal.overflow_sub-words
@@ -30,7 +30,7 @@ pub returns-then-words-first-2 : goal.returns-then-words-first-2
 unfolding labels_below pick
 returns-then-words-first-2 c =
     let a = c.args in
-    let k : length a.words.now < a.first + a.num-vertices = omega arith in
+    let k : length a.words.now < a.first + a.num_vertices = omega arith in
     simp (le-ltb _ _ c.if-num_vertices-gt64.false, lt-ltb _ _ k)
 
 pub loop-v-init : goal.loop-v-init
@@ -56,12 +56,12 @@ pub returns-in-loop-v : goal.returns-in-loop-v
 unfolding labels_below pick
 returns-in-loop-v c =
     let a = c.args in
-    let k : a.first + a.num-vertices ≤ length a.words.now = omega arith in
+    let k : a.first + a.num_vertices ≤ length a.words.now = omega arith in
     simp (le-ltb _ _ c.if-num_vertices-gt64.false, le-ltb _ _ k) (sym (every_not _ _ _ c.loop-v-test.true (ltb_read_no _ _ _ c.wide.ensures c.if-wide-num_vertices.false)))
 
 pub returns : goal.returns
 unfolding labels_below pick
 returns c =
     let a = c.args in
-    let k : a.first + a.num-vertices ≤ length a.words.now = omega arith in
+    let k : a.first + a.num_vertices ≤ length a.words.now = omega arith in
     simp (le-ltb _ _ c.if-num_vertices-gt64.false, le-ltb _ _ k) (sym (every_done _ _ _ c.loop-v.invariant.1 c.loop-v.invariant.0 c.loop-v-test.false))
