@@ -56,7 +56,7 @@ best_same : (t u : ℕ → ℕ → Bool) (P : ℕ → Type 0) → ((c a : ℕ) �
 unfolding best
 best_same t u P h a [] x e = refl
 best_same t u P h a (c ∷ cs) x (more y e) =
-    ap (λ (z : Bool). best t (pick z c a) cs) (h c a y x) ∙ best_same t u P h _ cs (pick_ind P _ _ _ (λ _. y) (λ _. x)) e
+    ap (λ (z : Bool). best t (pick z c a) cs) (h c a y x) ∙ best_same t u P h (pick (u c a) c a) cs (pick_ind P _ _ _ (λ _. y) (λ _. x)) e
 
 module _ (d : Plan) (k : Proper d) (s t : State) (w x : View) (e : SameState d s t) (v : SameView d w x) (r : InRange d x) where
   ha : (g : ℕ) → g < d.edges → left d g < d.vertices

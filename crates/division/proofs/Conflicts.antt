@@ -96,7 +96,7 @@ module _ (d : Plan) (s : State) (σ : ℕ → Bool) (k : Proper d) (b : Bounded 
   crowd c [] h n a x = zero-le
   crowd c (p ∷ ps) (more hp h) (more m n) (Spaced.more u a) x =
       let f = first p ps hp x in
-      omega (arith, f.0, total_parts (within d (graph_of d σ) p) c d.weight d.vertices m, crowd _ ps h (rests c p ps hp h n u f.1 f.2) a f.2)
+      omega (arith, f.0, total_parts (within d (graph_of d σ) p) c d.weight d.vertices m, crowd (λ i. c i && not (within d (graph_of d σ) p i)) ps h (rests c p ps hp h n u f.1 f.2) a f.2)
 
   crowded_none : (r : ℕ) (ps : List ℕ) → r < d.vertices → Every (Near d s r) ps → Spaced s ps → potential_weight d s r < sum_lower s ps →
       Every (Holds σ) (conflict_list d s (Conflict.crowded r ps)) → ⊥

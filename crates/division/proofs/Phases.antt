@@ -93,7 +93,7 @@ every_mem {P} (more p e) m = ⊎_elim (λ z. subst P (sym z) p) (λ z. every_mem
 pub best_has : (P : ℕ → Type 0) (t : ℕ → ℕ → Bool) (a : ℕ) (cs : List ℕ) → P a → Every P cs → P (best t a cs)
 unfolding best
 best_has P t a [] x e = x
-best_has P t a (c ∷ cs) x (more y e) = best_has P t _ cs (pick_ind P _ _ _ (λ _. y) (λ _. x)) e
+best_has P t a (c ∷ cs) x (more y e) = best_has P t (pick (t c a) c a) cs (pick_ind P _ _ _ (λ _. y) (λ _. x)) e
 
 module _ (f : ℕ → ℕ) where
   pub best_max_first : (a : ℕ) (cs : List ℕ) → f a ≤ f (best (λ c b. ltb (f b) (f c)) a cs)

@@ -18,7 +18,8 @@ room : (c : Else-not-has_room) → c.args.at + (length (tabbed c.args.numbers.no
 room c =
     let a = c.args in
     let h : length (tabbed a.numbers.now) ≤ length a.buf.now - a.at - 2 = leb-true _ _ (sym c.has_room.ensures ∙ c.if-not-has_room.false) in
-    omega (arith, two c{-2-})
+    let two : a.at + 2 ≤ length a.buf.now = leb-true _ _ (sym c.fits.ensures ∙ c.if-not-fits.false) in
+    omega arith
 
 pub returns-then-not-fits : goal.returns-then-not-fits
 returns-then-not-fits c =
