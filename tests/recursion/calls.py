@@ -1,23 +1,40 @@
-"""Which function calls which, read from the MIR of the program yard and of the library host: none may call itself."""
+"""Which function calls which, read from the code that Rattle's own compiler makes, with nothing inlined, of the program
+yard and of the library host: none may call itself. The compiler says so too, by the stack that the calls take at most."""
 import graphlib
+import os
 import re
+import subprocess
 import sys
+import tempfile
 
-CALL = re.compile(r'\(call \(direct \(fnRef "([^"]*)"\)\)')
+sys.dont_write_bytecode = True
+sys.path.insert(0, os.path.join(os.getcwd(), 'tools'))
+import kit  # noqa: E402
+
+FUNCTION = re.compile(r'^[0-9a-f]+ <(.+)>:$')
+# a call, or a jump to another function in the place of a last call
+CALL = re.compile(r'\t(call|jmp)q?\s+0x[0-9a-f]+ <(.+?)(\+0x[0-9a-f]+)?>$')
+UNNAMED = re.compile(r'\tcallq?\s+\*')
+# a call of a function of C stands as a place that the linker fills
+FOREIGN = re.compile(r'\tR_X86_64_(?:PLT32|GOTPCRELX?|REX_GOTPCRELX)\t(\w+)')
+STACK = re.compile(r'^built: backend=rattle .* stack-bytes=(\d+)(\+?) ', re.M)
 
 
-def calls(mir):
-    """The functions that each function calls, call by call. A function that is named is called there, but for the one
-    that the program begins with, named at the end: else it might be called from where no name shows it."""
-    program = mir[mir.index('program ('):]
-    graph = {}
-    for part in program.split('(fn-def "')[1:]:
-        name, body = part.split('"', 1)
-        graph[name] = CALL.findall(body)
-    made = sum(map(len, graph.values()))
-    if program.count('(call ') != made or program.count('(fnRef ') != made + 1:
-        raise ValueError('a call that is not of a function by its name')
-    return graph
+def calls(code):
+    """The functions that each function calls, call by call, and how many calls of each are of a function without a name."""
+    graph, unnamed, name = {}, {}, None
+    for line in code.splitlines():
+        if start := FUNCTION.match(line):
+            name = start.group(1)
+            graph[name], unnamed[name] = [], 0
+        elif (call := CALL.search(line)) and not (call.group(1) == 'jmp' and (call.group(3) or call.group(2) == name)):
+            # (a function that jumps to its own start has a loop there)
+            graph[name].append(call.group(2))
+        elif UNNAMED.search(line):
+            unnamed[name] += 1
+        elif foreign := FOREIGN.search(line):
+            graph[name].append('C: ' + foreign.group(1))
+    return graph, unnamed
 
 
 def circle(graph):
@@ -33,7 +50,7 @@ def chains(graph):
     """The longest chain of calls below each function, itself first."""
     longest = {}
     for name in graphlib.TopologicalSorter(graph).static_order():
-        longest[name] = [name] + max((longest[called] for called in graph[name]), key=len, default=[])
+        longest[name] = [name] + max((longest[called] for called in graph.get(name, [])), key=len, default=[])
     return longest
 
 
@@ -47,12 +64,27 @@ def below(graph, name):
     return found
 
 
-def program(bodies):
-    """The MIR, but for all that is no call, of these functions, each with those that it calls."""
-    text = ''
-    for name, called in bodies.items():
-        text += f'(lcons (fn-def "{name}" ' + ''.join(f'(call (direct (fnRef "{c}")) lnil)' for c in called)
-    return f'program {text} (fnRef "main")'
+def code(bodies):
+    """The listing, but for all that is no call, of these functions, each with those that it calls."""
+    return ''.join(f'0 <{name}>:\n' + ''.join(f'  0:\tcallq\t0x0 <{c}>\n' for c in called)
+                   for name, called in bodies.items())
+
+
+def built(crate, room):
+    """The listing of the crate's code, and what the compiler says of the stack: its bytes, and + where a function may
+    call itself."""
+    made = os.path.join(room, crate)
+    kept = ['--incremental', 'out/incremental', '--toolchain', f'{kit.KIT}/toolchain']
+    words = ['build', *kit.words(crate), *kept, '--backend', 'rattle', '--opt-level', '0', '-o', made]
+    ran = subprocess.run([kit.RATTLE, *words], cwd=f'crates/{crate}', text=True, stdout=subprocess.PIPE,
+                         stderr=subprocess.STDOUT)
+    said = STACK.search(ran.stdout)
+    if ran.returncode or not said:
+        print('\n'.join(ran.stdout.splitlines()[-20:]))
+        return None, None
+    listed = subprocess.run(['llvm-objdump', '-dr', '--no-show-raw-insn', made], text=True, check=True,
+                            executable=f'{kit.KIT}/toolchain/bin/clang', stdout=subprocess.PIPE)
+    return listed.stdout, said.groups()
 
 
 passed, failed = 0, 0
@@ -67,28 +99,33 @@ def check(what, holds):
 
 
 # what is to be found is found
-check('a function that calls itself', circle(calls(program({'main': ['f'], 'f': ['f']}))))
-check('three around', circle(calls(program({'main': ['f'], 'f': ['g'], 'g': ['h'], 'h': ['g', 'f']}))))
-tree = calls(program({'main': ['f', 'g', 'f'], 'f': ['h'], 'g': ['f', 'h'], 'h': []}))
+check('a function that calls itself', circle(calls(code({'main': ['f'], 'f': ['f']}))[0]))
+check('three around', circle(calls(code({'main': ['f'], 'f': ['g'], 'g': ['h'], 'h': ['g', 'f']}))[0]))
+tree, none = calls(code({'main': ['f', 'g', 'f'], 'f': ['h'], 'g': ['f', 'h'], 'h': []}))
 check('none around, the longest chain', not circle(tree) and chains(tree)['main'] == ['main', 'g', 'f', 'h'])
-try:
-    calls(program({'main': ['f'], 'f': []}).replace('(direct (fnRef "f"))', '(place 1)'))
-    check('a call of a function that has no name there', False)
-except ValueError:
-    check('a call of a function that has no name there', True)
+check('no call of a function that has no name there', not any(none.values()))
+check('a call of a function that has no name there', calls('0 <f>:\n  0:\tcallq\t*%rax\n')[1] == {'f': 1})
+check('a last call, and a loop', calls('0 <f>:\n  0:\tjmp\t0x9 <g>\n 2:\tjmp\t0x1 <f+0x1>\n')[0] == {'f': ['g']})
 
-for path, crate, printer in (
-    (sys.argv[1], 'yard', 'text_writer::write_answer'),
-    (sys.argv[2], 'host', 'pages::print_page'),
-):
-    graph = calls(open(path, encoding='utf-8').read())
+for crate, printer in (('yard', 'text_writer::write_answer'), ('host', 'pages::print_page')):
+    with tempfile.TemporaryDirectory() as room:
+        listing, stack = built(crate, room)
+    check(f'{crate}: built by the compiler that lists calls', listing)
+    if not listing:
+        continue
+    graph, unnamed = calls(listing)
     check(f'{crate}: digits are written below {printer}', 'text_writer::write_digits' in below(graph, printer))
     around = circle(graph)
     check(f'{crate}: these call each other around: ' + ' > '.join(around or []), not around)
+    check(f'{crate}: a function may call itself, by what the compiler says of the stack', not stack[1])
+    # what a library of the kit calls without a name, the compiler follows
+    named = [name for name, count in unnamed.items() if count and name.split('::')[0].strip('<') in kit.CRATES]
+    check(f'{crate}: these call a function that has no name there: ' + ' '.join(named), not named)
     if not around:
         longest = chains(graph)
         made = sum(map(len, graph.values()))
-        print(f'{crate}: {len(graph)} functions with {made} calls, and none calls itself; the longest chains of calls,')
+        print(f'{crate}: {len(graph)} functions with {made} calls, and none calls itself; the calls take {stack[0]} bytes of'
+              ' stack at most; the longest chains of calls,')
         for what, chain in (('of all', max(longest.values(), key=len)), ('that prints', longest.get(printer, []))):
             print(f'  {what}, {len(chain)} functions:', ' > '.join(chain))
 print(f'{passed} passed, {failed} failed')
