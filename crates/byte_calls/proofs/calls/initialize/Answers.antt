@@ -12,7 +12,7 @@ pub returns-then-too_short : goal.returns-then-too_short
 returns-then-too_short c =
     let a = c.args in
     let t = sym c.too_short.ensures ∙ c.if-too_short.true in
-    (begun_short a.state.now a.table.now a.list.now a.log.now a.cursor.now t, initialize_leaves (too_short a.state.now a.cursor.now) a.state.now a.table.now a.list.now a.log.now a.cursor.now _ (λ i. omega (arith, c.slice_known-1.given i)) (short_state (initialized_in a.state.now a.table.now a.list.now a.log.now a.cursor.now).outcome _ _ t))
+    record { cursor_after = begun_short a.state.now a.table.now a.list.now a.log.now a.cursor.now t; leaves = initialize_leaves (too_short a.state.now a.cursor.now) a.state.now a.table.now a.list.now a.log.now a.cursor.now _ (λ i. omega (arith, c.slice_known-1.given i)) (short_state (initialized_in a.state.now a.table.now a.list.now a.log.now a.cursor.now).outcome _ _ t) }
 
 pub initialize-requires : goal.initialize-requires
 initialize-requires c = short_is _ _ (sym c.too_short.ensures ∙ c.if-too_short.false)
@@ -21,8 +21,5 @@ pub returns : goal.returns
 returns c =
     let a = c.args in
     let g = c.initialize in
-    let t = sym c.too_short.ensures ∙ c.if-too_short.false in (
-      begun_long a.state.now a.table.now a.list.now a.log.now a.cursor.now _ t
-          (left_back (cursor_in a.cursor.now) _ a.list.now a.log.now a.cursor.now _ _ _ _ _ (g.ensures.0)),
-      initialize_leaves (too_short a.state.now a.cursor.now) a.state.now a.table.now a.list.now a.log.now a.cursor.now _ (λ i. omega (arith, c.slice_known-1.given i)) (long_state (initialized_in a.state.now a.table.now a.list.now a.log.now a.cursor.now).outcome _ _ _ t (g.ensures.1)),
-    )
+    let t = sym c.too_short.ensures ∙ c.if-too_short.false in record { cursor_after = begun_long a.state.now a.table.now a.list.now a.log.now a.cursor.now _ t
+          (left_back (cursor_in a.cursor.now) _ a.list.now a.log.now a.cursor.now _ _ _ _ _ (g.ensures.0)); leaves = initialize_leaves (too_short a.state.now a.cursor.now) a.state.now a.table.now a.list.now a.log.now a.cursor.now _ (λ i. omega (arith, c.slice_known-1.given i)) (long_state (initialized_in a.state.now a.table.now a.list.now a.log.now a.cursor.now).outcome _ _ _ t (g.ensures.1)) }

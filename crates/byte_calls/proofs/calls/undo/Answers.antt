@@ -16,10 +16,10 @@ use borrow.Author.Rules.{rules}
 use Rattle.byte_calls.proofs.calls.undo.Goals as goal
 
 pub returns-then-too_short : goal.returns-then-too_short
-returns-then-too_short c = (short_back c.args.state.now c.args.log.now c.args.cursor.now _ (sym c.too_short.ensures ∙ c.if-too_short.true), undo_leaves (too_short c.args.state.now c.args.cursor.now) c.args.state.now c.args.log.now c.args.cursor.now c.args.lit _ (λ i. omega (arith, c.slice_known-1.given i)) (short_state (undone_in c.args.state.now c.args.log.now c.args.cursor.now c.args.lit) _ _ (sym c.too_short.ensures ∙ c.if-too_short.true)))
+returns-then-too_short c = record { cursor_after = short_back c.args.state.now c.args.log.now c.args.cursor.now _ (sym c.too_short.ensures ∙ c.if-too_short.true); leaves = undo_leaves (too_short c.args.state.now c.args.cursor.now) c.args.state.now c.args.log.now c.args.cursor.now c.args.lit _ (λ i. omega (arith, c.slice_known-1.given i)) (short_state (undone_in c.args.state.now c.args.log.now c.args.cursor.now c.args.lit) _ _ (sym c.too_short.ensures ∙ c.if-too_short.true)) }
 
 pub undo-requires : goal.undo-requires
 undo-requires c = short_is _ _ (sym c.too_short.ensures ∙ c.if-too_short.false)
 
 pub returns : goal.returns
-returns c = (long_back c.args.state.now c.args.log.now c.args.cursor.now _ _ (sym c.too_short.ensures ∙ c.if-too_short.false) (undo_back _ _ _ _ (c.undo.ensures.0 ∙ ap (λ (y : Outcome). back_by y c.args.cursor.now) (λ i. undone_in c.args.state.now c.args.log.now c.args.cursor.now (to_z-of_z c.ranges.lit i)))), undo_leaves (too_short c.args.state.now c.args.cursor.now) c.args.state.now c.args.log.now c.args.cursor.now c.args.lit _ (λ i. omega (arith, c.slice_known-1.given i)) (long_state (undone_in c.args.state.now c.args.log.now c.args.cursor.now c.args.lit) _ _ _ (sym c.too_short.ensures ∙ c.if-too_short.false) (undo_after _ _ _ _ (λ i. undone_in c.args.state.now c.args.log.now c.args.cursor.now (to_z-of_z c.ranges.lit i)) c.undo.ensures.1)))
+returns c = record { cursor_after = long_back c.args.state.now c.args.log.now c.args.cursor.now _ _ (sym c.too_short.ensures ∙ c.if-too_short.false) (undo_back _ _ _ _ (c.undo.ensures.0 ∙ ap (λ (y : Outcome). back_by y c.args.cursor.now) (λ i. undone_in c.args.state.now c.args.log.now c.args.cursor.now (to_z-of_z c.ranges.lit i)))); leaves = undo_leaves (too_short c.args.state.now c.args.cursor.now) c.args.state.now c.args.log.now c.args.cursor.now c.args.lit _ (λ i. omega (arith, c.slice_known-1.given i)) (long_state (undone_in c.args.state.now c.args.log.now c.args.cursor.now c.args.lit) _ _ _ (sym c.too_short.ensures ∙ c.if-too_short.false) (undo_after _ _ _ _ (λ i. undone_in c.args.state.now c.args.log.now c.args.cursor.now (to_z-of_z c.ranges.lit i)) c.undo.ensures.1)) }
