@@ -14,6 +14,6 @@ returns c =
     let log = a.log.now in
     let cursor = a.cursor.now in
     let lit = to_z-of_z c.ranges.lit in (
-      back_handed _ _ _ _ (to_z-of_z {w = w32} {z = f.result} (record { sfits = f.type_inv })) (f.ensures.0 ∙ ap (host_undone state log cursor) lit),
-      leaves_handed (too_short state cursor) _ _ _ _ (ap (undone_in state log cursor) lit) f.ensures.1,
+      back_handed _ _ _ _ (to_z-of_z {w = w32} {z = f.result} (record { sfits = f.type_inv })) (f.ensures.cursor_after ∙ ap (host_undone state log cursor) lit),
+      leaves_handed (too_short state cursor) _ _ _ _ (ap (undone_in state log cursor) lit) f.ensures.leaves,
     )

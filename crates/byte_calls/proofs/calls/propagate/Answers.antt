@@ -26,4 +26,4 @@ propagate-requires c = short_is _ _ (sym c.too_short.ensures ∙ c.if-too_short.
 
 pub returns : goal.returns
 returns c =
-    record { cursor_after = long_left c.args.state.now c.args.table.now c.args.list.now c.args.log.now c.args.cursor.now _ _ _ (sym c.too_short.ensures ∙ c.if-too_short.false) (left_back (cursor_in c.args.cursor.now) _ c.args.list.now c.args.log.now c.args.cursor.now _ _ _ _ _ (c.propagate.ensures.0 ∙ ap (λ (y : Called). left_of (cursor_in c.args.cursor.now) y c.args.list.now c.args.log.now c.args.cursor.now) (λ i. propagated_in c.args.state.now c.args.table.now c.args.list.now c.args.log.now c.args.cursor.now (to_z-of_z c.ranges.lit i) (to_z-of_z c.ranges.num_pending_propagations i)))); leaves = propagate_leaves (too_short c.args.state.now c.args.cursor.now) c.args.state.now c.args.table.now c.args.list.now c.args.log.now c.args.cursor.now c.args.lit c.args.num_pending_propagations _ (λ i. omega (arith, c.slice_known-1.given i)) (long_state (propagated_in c.args.state.now c.args.table.now c.args.list.now c.args.log.now c.args.cursor.now c.args.lit c.args.num_pending_propagations).outcome _ _ _ (sym c.too_short.ensures ∙ c.if-too_short.false) (after_is _ _ _ _ (λ i. propagated_in c.args.state.now c.args.table.now c.args.list.now c.args.log.now c.args.cursor.now (to_z-of_z c.ranges.lit i) (to_z-of_z c.ranges.num_pending_propagations i)) c.propagate.ensures.1)) }
+    record { cursor_after = long_left c.args.state.now c.args.table.now c.args.list.now c.args.log.now c.args.cursor.now _ _ _ (sym c.too_short.ensures ∙ c.if-too_short.false) (left_back (cursor_in c.args.cursor.now) _ c.args.list.now c.args.log.now c.args.cursor.now _ _ _ _ _ (c.propagate.ensures.cursor_after ∙ ap (λ (y : Called). left_of (cursor_in c.args.cursor.now) y c.args.list.now c.args.log.now c.args.cursor.now) (λ i. propagated_in c.args.state.now c.args.table.now c.args.list.now c.args.log.now c.args.cursor.now (to_z-of_z c.ranges.lit i) (to_z-of_z c.ranges.num_pending_propagations i)))); leaves = propagate_leaves (too_short c.args.state.now c.args.cursor.now) c.args.state.now c.args.table.now c.args.list.now c.args.log.now c.args.cursor.now c.args.lit c.args.num_pending_propagations _ (λ i. omega (arith, c.slice_known-1.given i)) (long_state (propagated_in c.args.state.now c.args.table.now c.args.list.now c.args.log.now c.args.cursor.now c.args.lit c.args.num_pending_propagations).outcome _ _ _ (sym c.too_short.ensures ∙ c.if-too_short.false) (after_is _ _ _ _ (λ i. propagated_in c.args.state.now c.args.table.now c.args.list.now c.args.log.now c.args.cursor.now (to_z-of_z c.ranges.lit i) (to_z-of_z c.ranges.num_pending_propagations i)) c.propagate.ensures.after_of)) }

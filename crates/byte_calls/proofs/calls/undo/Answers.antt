@@ -22,4 +22,4 @@ pub undo-requires : goal.undo-requires
 undo-requires c = short_is _ _ (sym c.too_short.ensures ∙ c.if-too_short.false)
 
 pub returns : goal.returns
-returns c = record { cursor_after = long_back c.args.state.now c.args.log.now c.args.cursor.now _ _ (sym c.too_short.ensures ∙ c.if-too_short.false) (undo_back _ _ _ _ (c.undo.ensures.0 ∙ ap (λ (y : Outcome). back_by y c.args.cursor.now) (λ i. undone_in c.args.state.now c.args.log.now c.args.cursor.now (to_z-of_z c.ranges.lit i)))); leaves = undo_leaves (too_short c.args.state.now c.args.cursor.now) c.args.state.now c.args.log.now c.args.cursor.now c.args.lit _ (λ i. omega (arith, c.slice_known-1.given i)) (long_state (undone_in c.args.state.now c.args.log.now c.args.cursor.now c.args.lit) _ _ _ (sym c.too_short.ensures ∙ c.if-too_short.false) (undo_after _ _ _ _ (λ i. undone_in c.args.state.now c.args.log.now c.args.cursor.now (to_z-of_z c.ranges.lit i)) c.undo.ensures.1)) }
+returns c = record { cursor_after = long_back c.args.state.now c.args.log.now c.args.cursor.now _ _ (sym c.too_short.ensures ∙ c.if-too_short.false) (undo_back _ _ _ _ (c.undo.ensures.cursor_after ∙ ap (λ (y : Outcome). back_by y c.args.cursor.now) (λ i. undone_in c.args.state.now c.args.log.now c.args.cursor.now (to_z-of_z c.ranges.lit i)))); leaves = undo_leaves (too_short c.args.state.now c.args.cursor.now) c.args.state.now c.args.log.now c.args.cursor.now c.args.lit _ (λ i. omega (arith, c.slice_known-1.given i)) (long_state (undone_in c.args.state.now c.args.log.now c.args.cursor.now c.args.lit) _ _ _ (sym c.too_short.ensures ∙ c.if-too_short.false) (undo_after _ _ _ _ (λ i. undone_in c.args.state.now c.args.log.now c.args.cursor.now (to_z-of_z c.ranges.lit i)) c.undo.ensures.after_of)) }

@@ -20,4 +20,4 @@ returns-then-is_refused c =
 
 pub returns : goal.returns
 returns c =
-    let t : is_refused c.args.done.answer ≡ false = sym c.is_refused.ensures ∙ c.if-is_refused.false in record { cursor_after = is_kept c.args.done.answer c.args.before c.args.done.cursor c.args.lits.now c.args.records.now c.args.list.now c.args.log.now c.args.cursor.now _ _ _ _ (code_back c.args.done.answer _ c.code_of-2.ensures) t (c.store_list.ensures ∙ ap (λ (k : ℕ). put_list c.args.lits.now k c.args.list.now) c.given_by.ensures) c.store_log.ensures c.store_cursor.ensures; state_unchanged = (λ (n : is_refused c.args.done.answer ≡ true). absurd (true≢false (sym n ∙ t))); state_after = (λ (n : is_refused c.args.done.answer ≡ false) l. c.store_state.ensures.0 l); bytes_kept = c.store_state.ensures.1 }
+    let t : is_refused c.args.done.answer ≡ false = sym c.is_refused.ensures ∙ c.if-is_refused.false in record { cursor_after = is_kept c.args.done.answer c.args.before c.args.done.cursor c.args.lits.now c.args.records.now c.args.list.now c.args.log.now c.args.cursor.now _ _ _ _ (code_back c.args.done.answer _ c.code_of-2.ensures) t (c.store_list.ensures ∙ ap (λ (k : ℕ). put_list c.args.lits.now k c.args.list.now) c.given_by.ensures) c.store_log.ensures c.store_cursor.ensures; state_unchanged = (λ (n : is_refused c.args.done.answer ≡ true). absurd (true≢false (sym n ∙ t))); state_after = (λ (n : is_refused c.args.done.answer ≡ false) l. c.store_state.ensures.state_after l); bytes_kept = c.store_state.ensures.bytes_kept }
