@@ -159,7 +159,7 @@ module _ (vs : List ℤ) (n : ℕ) (es : List ℤ) (m : ℕ) (a b : ℤ) (before
     runs_between = of_start RunsBetween (claims.runs_between vs n es m (is_on a) (is_on b) accepted);
     crossed_conflicts = of_start CrossedConflicts (claims.crossed_conflicts vs n es m (is_on a) (is_on b) accepted);
     pages = of_start Pages (claims.pages vs n es m (is_on a) (is_on b) accepted);
-    nothing-standing-proposed =
+    nothing_standing_proposed =
         of_start NothingStandingProposed (claims.nothing_standing_proposed vs n es m (is_on a) (is_on b) accepted);
     condition_1 = first_condition;
     condition_2 = second_condition;
