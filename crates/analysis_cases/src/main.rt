@@ -14,18 +14,27 @@ use builder::input::{EdgeNumbers, VertexNumbers};
 use edge_table::Edges;
 use noting::Noted;
 use reasons::{Proposals, Verdict};
+use std::io::Read;
 use text::Line;
 use text_writer::Written;
 use undo_log::Cursor;
 use walks::Listed;
 
-fn put(s: &[u8]) {
-    io::write_all(1, s);
+// A write that fails leaves its bytes out: the file stdout shows it.
+fn put(rt: &impl Print, s: &[u8]) {
+    let _ = rt.write_all(s);
+}
+
+// Room for a line of an answer.
+fn buffer() -> [u8; 4096]
+    ensures { 4096 ≡ length result }
+{
+    [0; 4096]
 }
 
 // A line of an answer: its letter and its numbers.
-fn put_line(letter: u8, numbers: &[u32]) {
-    let mut bytes = io::buffer();
+fn put_line(rt: &impl Print, letter: u8, numbers: &[u32]) {
+    let mut bytes = buffer();
     let mut end = 0;
     let written = text_writer::write_answer(letter, numbers, &mut bytes, 0);
     match written {
@@ -36,27 +45,27 @@ fn put_line(letter: u8, numbers: &[u32]) {
     }
     if 0 < end {
         if end <= 4096 {
-            put(&bytes[0..end]);
+            put(rt, &bytes[0..end]);
             return;
         }
     }
-    put(b"no room for a line\n");
+    put(rt, b"no room for a line\n");
 }
 
-fn put_refusal(number: u32) {
+fn put_refusal(rt: &impl Print, number: u32) {
     let numbers = [number; 1];
-    put_line(b'E', &numbers[0..1]);
+    put_line(rt, b'E', &numbers[0..1]);
 }
 
 // A line with a list that was written to `numbers` up to `end`.
-fn put_listed(letter: u8, numbers: &[u32], end: Listed) {
+fn put_listed(rt: &impl Print, letter: u8, numbers: &[u32], end: Listed) {
     match end {
         Listed::Past(n) => {
             if n <= numbers.len() {
-                put_line(letter, &numbers[0..n]);
+                put_line(rt, letter, &numbers[0..n]);
             }
         }
-        Listed::Missing => put(b"no list\n"),
+        Listed::Missing => put(rt, b"no list\n"),
     }
 }
 
@@ -261,7 +270,7 @@ fn note_all(
 }
 
 // The list of a conflict.
-fn put_conflict(plan: &[u8], edges: Edges, noted: &Noted, verdict: Verdict) {
+fn put_conflict(rt: &impl Print, plan: &[u8], edges: Edges, noted: &Noted, verdict: Verdict) {
     let mut view = [0u32; 512];
     views::compute::compute_view(plan, edges, noted, &mut view);
     let mut chosen = [0u8; 64];
@@ -273,20 +282,28 @@ fn put_conflict(plan: &[u8], edges: Edges, noted: &Noted, verdict: Verdict) {
     let end = lists::conflict::conflict_lits(
         plan, edges, noted, verdict, &chosen, count, &mut out, 0,
     );
-    put_listed(b'X', &out, end);
+    put_listed(rt, b'X', &out, end);
 }
 
-fn put_verdict(plan: &[u8], edges: Edges, noted: &Noted, verdict: Verdict) {
+fn put_verdict(rt: &impl Print, plan: &[u8], edges: Edges, noted: &Noted, verdict: Verdict) {
     match verdict {
-        Verdict::Going => put(b"C\n"),
-        Verdict::ZeroSize => put_refusal(13),
-        Verdict::Unfit => put(b"unfit\n"),
-        _ => put_conflict(plan, edges, noted, verdict),
+        Verdict::Going => put(rt, b"C\n"),
+        Verdict::ZeroSize => put_refusal(rt, 13),
+        Verdict::Unfit => put(rt, b"unfit\n"),
+        _ => put_conflict(rt, plan, edges, noted, verdict),
     }
 }
 
 // The line of the proposal of the literal at place p, if there is one.
-fn put_proposal(plan: &[u8], edges: Edges, noted: &Noted, first: u64, second: u64, p: usize) {
+fn put_proposal(
+    rt: &impl Print,
+    plan: &[u8],
+    edges: Edges,
+    noted: &Noted,
+    first: u64,
+    second: u64,
+    p: usize,
+) {
     if first == 0 {
         return;
     }
@@ -294,13 +311,14 @@ fn put_proposal(plan: &[u8], edges: Edges, noted: &Noted, first: u64, second: u6
     let mut out = [0u32; 512];
     out[0] = (plan::unique_lit(plan, p) % 65536) as u32;
     let end = lists::reason_lits(plan, edges, noted, reason, &mut out, 1);
-    put_listed(b'P', &out, end);
+    put_listed(rt, b'P', &out, end);
 }
 
-fn put_proposals(plan: &[u8], edges: Edges, noted: &Noted, proposals: &Proposals) {
+fn put_proposals(rt: &impl Print, plan: &[u8], edges: Edges, noted: &Noted, proposals: &Proposals) {
     let mut p = 0;
     while p < 4352 {
         put_proposal(
+            rt,
             plan,
             edges,
             noted,
@@ -312,15 +330,15 @@ fn put_proposals(plan: &[u8], edges: Edges, noted: &Noted, proposals: &Proposals
     }
 }
 
-fn show_analysis(plan: &[u8], edges: Edges, lits: &[i32; 2176], count: usize) {
+fn show_analysis(rt: &impl Print, plan: &[u8], edges: Edges, lits: &[i32; 2176], count: usize) {
     let mut noted = [0u32; 384];
     let mut log = [0u64; 4352];
     note_all(plan, lits, count, &mut noted, &mut log);
     let mut proposals = [0u64; 8772];
     let crossed = noting::note::crossed(plan, &noted);
     let verdict = analysis::analyze::analyze(plan, edges, &noted, crossed, &mut proposals);
-    put_verdict(plan, edges, &noted, verdict);
-    put_proposals(plan, edges, &noted, &proposals);
+    put_verdict(rt, plan, edges, &noted, verdict);
+    put_proposals(rt, plan, edges, &noted, &proposals);
 }
 
 fn build<'a>(vertices: &'a VertexNumbers, edges: &'a EdgeNumbers, c: Counts) -> PlanWords {
@@ -332,6 +350,7 @@ fn build<'a>(vertices: &'a VertexNumbers, edges: &'a EdgeNumbers, c: Counts) -> 
 }
 
 fn show_answer<'a>(
+    rt: &impl Print,
     vertices: &'a VertexNumbers,
     edges: &'a EdgeNumbers,
     lits: &'a [i32; 2176],
@@ -342,10 +361,10 @@ fn show_answer<'a>(
         let built = build(vertices, edges, c);
         let words = built.words;
         let plan = plan::bytes::bytes_of(&words);
-        show_analysis(&plan.bytes, edge_table(edges), lits, c.noted);
+        show_analysis(rt, &plan.bytes, edge_table(edges), lits, c.noted);
         return;
     }
-    put_refusal(refused as u32);
+    put_refusal(rt, refused as u32);
 }
 
 fn no_vertices() -> VertexNumbers {
@@ -369,7 +388,7 @@ fn ends_block(line: &[u8]) -> bool {
 }
 
 // Answers the block that starts at `from`, and says where the next one starts.
-fn show_block(input: &[u8], from: usize) -> usize
+fn show_block(rt: &impl Print, input: &[u8], from: usize) -> usize
     requires { (from < length input.now) × (length input.now ≤ 1048576) }
     ensures { from < result }
 {
@@ -393,16 +412,16 @@ fn show_block(input: &[u8], from: usize) -> usize
         }
         c = take_line(line, c, &mut vertices, &mut edges, &mut lits);
     }
-    show_answer(&vertices, &edges, &lits, c);
+    show_answer(rt, &vertices, &edges, &lits, c);
     at
 }
 
-fn show_blocks(input: &[u8])
+fn show_blocks(rt: &impl Print, input: &[u8])
     requires { length input.now ≤ 1048576 }
 {
     let mut at = 0;
     while at < input.len() {
-        at = show_block(input, at);
+        at = show_block(rt, input, at);
     }
 }
 
@@ -413,8 +432,22 @@ fn input_buffer() -> [u8; 1048576]
     [0; 1048576]
 }
 
-fn main() {
+// Reads until `buf` is full, the input ends or a read fails, and says how many bytes it put at the start of `buf`.
+fn read_full(reader: &mut impl Read, buf: &mut [u8]) -> usize
+    ensures { result ≤ length buf.new }
+{
+    let mut done = 0;
+    while done < buf.len() {
+        match reader.read(&mut buf[done..]) {
+            Ok(0) | Err(_) => break,
+            Ok(n) => done += n,
+        }
+    }
+    done
+}
+
+fn main(rt: HostRuntime) {
     let mut buf = input_buffer();
-    let n = io::read_full(0, &mut buf);
-    show_blocks(&buf[0..n]);
+    let n = read_full(&mut rt.stdin(), &mut buf);
+    show_blocks(&rt, &buf[0..n]);
 }

@@ -18,7 +18,7 @@ use Rattle.sat.specs.Literal.{negate}
 use Rattle.sat.proofs.Literal.{variable_negate}
 use Rattle.division.specs.Plan.{Plan, Proper}
 use Rattle.division.specs.Reasons.{Reason}
-use Rattle.division.specs.Analysis.{Verdict, going, conflict, zero_size, Proposal, Each, also}
+use Rattle.division.specs.Analysis.{Verdict, going, conflict, zero_size, Proposal, Each, nothing, also}
 use Rattle.division.specs.Noting.{In}
 use Rattle.division.specs.Runs.{analysis}
 use Rattle.calls.specs.Table.{code_of, coded, true_in, unset_in, knows, entered}
@@ -40,6 +40,7 @@ use Rattle.calls.proofs.Truths.{nothing_standing_proposed, recorded_stood}
 
 pub each_at : {P : ℕ → Reason → Type 0} {ps : List Proposal} {p : Proposal} → Each P ps → Memᴰ p ps →
     P p.lit p.why
+each_at nothing m = elim m [ ]
 each_at {P} (also x e) (Memᴰ.head q) = subst (λ (z : Proposal). P z.lit z.why) (sym q) x
 each_at (also x e) (Memᴰ.tail m) = each_at e m
 
@@ -81,7 +82,7 @@ module _ (d : Plan) (p : Proposal) where
   steps_keep (Steps.ends o e f q) h m = Memᴰ.append_right o.records m
   steps_keep (Steps.halts n e) h m = absurd (not_halted e h)
 
-  next_records : {a b : Going} {l : ℕ} {ls : List ℕ} → Steps d a (l ∷ ls) b → halted b.judgement ≡ false →
+  next_records : {a : Going} {l : ℕ} {ls : List ℕ} {b : Going} → Steps d a (l ∷ ls) b → halted b.judgement ≡ false →
       ProposedAt (l ∷ a.world.standing) → Recorded b.world
   unfolding join_by
   next_records {a} {l = l} (Steps.more o e f q s) h m =

@@ -2,7 +2,7 @@
 // The answers are printed as `yard` prints them, and the file stdout has the document's.
 #![tactic(auto)]
 
-ghost use Rattle.std.specs.Prelude.{◌<◌};
+ghost use Rattle.std.specs.Prelude.{◌≡◌, ◌<◌, length};
 
 use builder::build::GraphDivisionOptions;
 use builder::input::VertexNumbers;
@@ -10,13 +10,21 @@ use graph_division::{Answer, Built, GraphDivision};
 use held_log::{Held, UndoLog};
 use text_writer::Written;
 
-fn put(s: &[u8]) {
-    io::write_all(1, s);
+// A write that fails leaves its bytes out: the file stdout shows it.
+fn put(rt: &impl Print, s: &[u8]) {
+    let _ = rt.write_all(s);
+}
+
+// Room for a line of an answer.
+fn buffer() -> [u8; 4096]
+    ensures { 4096 ≡ length result }
+{
+    [0; 4096]
 }
 
 // A line of an answer: its letter and its numbers.
-fn put_line(letter: u8, numbers: &[u32]) {
-    let mut bytes = io::buffer();
+fn put_line(rt: &impl Print, letter: u8, numbers: &[u32]) {
+    let mut bytes = buffer();
     let mut end = 0;
     let written = text_writer::write_answer(letter, numbers, &mut bytes, 0);
     match written {
@@ -27,36 +35,36 @@ fn put_line(letter: u8, numbers: &[u32]) {
     }
     if 0 < end {
         if end <= 4096 {
-            put(&bytes[0..end]);
+            put(rt, &bytes[0..end]);
             return;
         }
     }
-    put(b"no room for a line\n");
+    put(rt, b"no room for a line\n");
 }
 
-fn put_first(letter: u8, list: &[u32], n: usize) {
+fn put_first(rt: &impl Print, letter: u8, list: &[u32], n: usize) {
     if n <= list.len() {
-        put_line(letter, &list[0..n]);
+        put_line(rt, letter, &list[0..n]);
         return;
     }
-    put(b"no list\n");
+    put(rt, b"no list\n");
 }
 
-fn put_refusal(number: u32) {
+fn put_refusal(rt: &impl Print, number: u32) {
     let numbers = [number; 1];
-    put_line(b'E', &numbers[0..1]);
+    put_line(rt, b'E', &numbers[0..1]);
 }
 
-fn put_answer(a: Answer, list: &[u32]) {
+fn put_answer(rt: &impl Print, a: Answer, list: &[u32]) {
     match a {
-        Answer::Consistent { handed } => put_first(b'C', list, handed),
-        Answer::Conflict => put_first(b'X', list, 0),
-        Answer::Noted => put_first(b'L', list, 0),
-        Answer::Undone => put_first(b'C', list, 0),
-        Answer::Reason { len } => put_first(b'R', list, len),
-        Answer::Run { len } => put_first(b'R', list, len),
-        Answer::Page { len } => put_first(b'R', list, len),
-        Answer::Refused { number } => put_refusal(number),
+        Answer::Consistent { handed } => put_first(rt, b'C', list, handed),
+        Answer::Conflict => put_first(rt, b'X', list, 0),
+        Answer::Noted => put_first(rt, b'L', list, 0),
+        Answer::Undone => put_first(rt, b'C', list, 0),
+        Answer::Reason { len } => put_first(rt, b'R', list, len),
+        Answer::Run { len } => put_first(rt, b'R', list, len),
+        Answer::Page { len } => put_first(rt, b'R', list, len),
+        Answer::Refused { number } => put_refusal(rt, number),
     }
 }
 
@@ -88,66 +96,66 @@ fn enter(table: &mut [u8], variable: usize, code: u8) {
     }
 }
 
-fn begin(s: GraphDivision, table: &mut [u8]) -> Held {
+fn begin(rt: &impl Print, s: GraphDivision, table: &mut [u8]) -> Held {
     let mut list = [0u32; 6];
     let h = held_log::initialize(s, UndoLog::new(), table, &mut list);
     let a = h.answer;
-    put_answer(a, &list);
+    put_answer(rt, a, &list);
     h
 }
 
-fn notify(h: Held, table: &mut [u8], lit: i32) -> Held {
+fn notify(rt: &impl Print, h: Held, table: &mut [u8], lit: i32) -> Held {
     let mut list = [0u32; 6];
     let after = held_log::propagate(h.state, h.log, table, &mut list, lit, 0);
     let a = after.answer;
-    put_answer(a, &list);
+    put_answer(rt, a, &list);
     after
 }
 
-fn take_back(h: Held, lit: i32) -> Held {
+fn take_back(rt: &impl Print, h: Held, lit: i32) -> Held {
     let list = [0u32; 1];
     let after = held_log::undo(h.state, h.log, lit);
     let a = after.answer;
-    put_answer(a, &list);
+    put_answer(rt, a, &list);
     after
 }
 
-fn ask_reason(h: Held, lit: i32) {
+fn ask_reason(rt: &impl Print, h: Held, lit: i32) {
     let mut buffer = [0u32; 9];
     let a = held_log::calc_reason(h.state, h.log, lit, &mut buffer);
-    put_answer(a, &buffer);
+    put_answer(rt, a, &buffer);
 }
 
-fn ask_last(h: Held) {
+fn ask_last(rt: &impl Print, h: Held) {
     let mut buffer = [0u32; 9];
     let a = held_log::calc_last(h.state, h.log, &mut buffer);
-    put_answer(a, &buffer);
+    put_answer(rt, a, &buffer);
 }
 
 // I, N 0, N 4, R -, U 4, U 0, N 5, R 0. A variable is set at the current level before its literal is notified, and unset
 // when it is taken back.
-fn session(s: GraphDivision) {
+fn session(rt: &impl Print, s: GraphDivision) {
     let mut table = [0u8; 3];
-    let begun = begin(s, &mut table);
+    let begun = begin(rt, s, &mut table);
     enter(&mut table, 0, 3);
-    let first = notify(begun, &mut table, 0);
+    let first = notify(rt, begun, &mut table, 0);
     enter(&mut table, 2, 3);
-    let second = notify(first, &mut table, 4);
-    ask_last(second);
-    let back = take_back(second, 4);
+    let second = notify(rt, first, &mut table, 4);
+    ask_last(rt, second);
+    let back = take_back(rt, second, 4);
     enter(&mut table, 2, 0);
-    let empty = take_back(back, 0);
+    let empty = take_back(rt, back, 0);
     enter(&mut table, 0, 0);
     enter(&mut table, 2, 4);
-    let third = notify(empty, &mut table, 5);
-    ask_reason(third, 0);
+    let third = notify(rt, empty, &mut table, 5);
+    ask_reason(rt, third, 0);
 }
 
-fn main() {
+fn main(rt: HostRuntime) {
     let built = case_g();
     if built.refusal == 0 {
-        session(built.state);
+        session(&rt, built.state);
         return;
     }
-    put_refusal(built.refusal as u32);
+    put_refusal(&rt, built.refusal as u32);
 }

@@ -1,9 +1,9 @@
 -- The least of three numbers is no more than each of them.
-use Prim.Native.Nat.{ℕ, ◌<◌, ◌≤◌}
+use Prim.Native.Nat.{ℕ, ◌≤◌}
 use native.Mathlib.Omega.{arith}
-use mathlib.Core.Path.{◌≡◌, refl}
-use mathlib.Core.Bool.{Bool, true, false, not}
-use lib.Dec.{T, ltb, leb}
+use mathlib.Core.Path.{◌≡◌}
+use mathlib.Core.Bool.{true}
+use lib.Dec.{ltb, leb}
 use borrow.Author.Tests.{ltb-true, ltb-false, leb-true}
 use Rattle.base.proofs.Loop.{pick_ind}
 use Rattle.base.proofs.Tests.{and_left, and_right}
@@ -25,21 +25,6 @@ unfolding least
 least_first a b c h k = pick_ind (λ m. m ≡ a) (ltb b a) _ _
     (λ e. absurd (omega (arith, ltb-true b a e)))
     (λ e. pick_ind (λ m. m ≡ a) (ltb c a) c a (λ f. absurd (omega (arith, ltb-true c a f))) (λ f. omega arith))
-
-pub T_true : (t : Bool) → T t → t ≡ true
-T_true true h = refl
-T_true false h = absurd h
-
-pub T_false : (t : Bool) → T (not t) → t ≡ false
-T_false true h = absurd h
-T_false false h = refl
-
--- a test as a branch of the code gives it
-pub holds_lt : (a b : ℕ) → T (ltb a b) → a < b
-holds_lt a b h = ltb-true a b (T_true (ltb a b) h)
-
-pub fails_le : (a b : ℕ) → T (not (ltb a b)) → b ≤ a
-fails_le a b h = ltb-false a b (T_false (ltb a b) h)
 
 pub newest_there : (used len : ℕ) → has_newest used len ≡ true → (1 ≤ used) × (used ≤ len)
 unfolding has_newest

@@ -15,7 +15,7 @@ use Rattle.undo_log.specs.declared.Popped.{Popped}
 use Rattle.undo_log.specs.declared.Popped.TheVariants.{Taken, Nothing}
 use Rattle.undo_log.specs.Log.{word_of, record_of, push_words, push_answer, pop_answer, moved_to}
 use Rattle.undo_log.proofs.Words.{InRange, word_back}
-use Rattle.lent_log.specs.Records.{no_record, Pushing, push_record, has_newest, Popping, newest, pop_record}
+use Rattle.lent_log.specs.Records.{no_record, Pushing, push_record, has_newest, Popping, pop_record}
 
 pub word_at : (log : List Record) (i : ℕ) → get_or (map word_of log) i 0 ≡ word_of (get_or log i no_record)
 unfolding word_of

@@ -3,8 +3,6 @@ use mathlib.Core.Path.{◌≡◌, refl, sym, ◌∙◌, ap, ap₂}
 use mathlib.Core.Bool.{Bool, false}
 use mathlib.Core.List.{List, [], ◌∷◌}
 use Prim.Native.Nat.{ℕ}
-use types.Run.{OneOf, miss}
-use denote.Enum.Declared.{tag_of}
 use borrow.Author.Tests.{eq-eqb, ne_eqb}
 use Rattle.base.proofs.Loop.{pick_yes, pick_no}
 use Rattle.plan.specs.Words.{edge_lit_of}
@@ -15,7 +13,6 @@ use Rattle.noting.specs.Words.{lits_of, lower_lit_of, upper_lit_of}
 use Rattle.reasons.specs.Reason.{lits_in}
 use Rattle.reasons.specs.declared.reason.Reason.{Reason}
 use Rattle.reasons.specs.declared.reason.Reason.TheVariants.{NotPropagated, EdgeInSameGroup, EdgeBetweenDifferentGroups, TooLargeIfRegionsAreMerged, RegionAlreadyLarge, RegionAlreadySmall, InconsistentBoundsIfRegionsAreMerged, BoundPropagationWithinRegion, AdjacentSameSizeRegions}
-use Rattle.reasons.specs.contracts.reason.Reason.{the_type}
 use Rattle.walks.specs.declared.Listed.{Listed}
 use Rattle.walks.specs.declared.Listed.TheVariants.{Past, Missing}
 use Rattle.walks.specs.declared.Shape.{Shape}
@@ -109,7 +106,7 @@ module _ (ws : List ℕ) (es : List (List ℕ)) (noted : List ℕ) where
       e₅ ∙ ap (and_opt ub) (e₄ ∙ ap (and_opt lb) (e₃ ∙ ap (and_opt ua) (e₂ ∙ ap (and_opt la) e₁))) ∙ sym (ap (λ (q : Reason). same_size ws es noted q o) h)
 
   -- another kind of reason has none of these lists
-  pub mismatch_other : (r : Reason) (o : Out) → OneOf (0 ∷ 1 ∷ 2 ∷ 3 ∷ 4 ∷ 5 ∷ 7 ∷ 8 ∷ []) (tag_of the_type r) → missing o ≡ mismatch ws es noted r o
+  pub mismatch_other : (r : Reason) (o : Out) → ((g a b : ℕ) (flip : Bool) → r ≡ InconsistentBoundsIfRegionsAreMerged g a b flip → ⊥) → missing o ≡ mismatch ws es noted r o
   unfolding mismatch
   mismatch_other NotPropagated o k = refl
   mismatch_other (EdgeInSameGroup g) o k = refl
@@ -117,11 +114,11 @@ module _ (ws : List ℕ) (es : List (List ℕ)) (noted : List ℕ) where
   mismatch_other (TooLargeIfRegionsAreMerged g l) o k = refl
   mismatch_other (RegionAlreadyLarge v) o k = refl
   mismatch_other (RegionAlreadySmall v) o k = refl
-  mismatch_other (InconsistentBoundsIfRegionsAreMerged g a b flip) o k = absurd (miss (0 ∷ 1 ∷ 2 ∷ 3 ∷ 4 ∷ 5 ∷ 7 ∷ 8 ∷ []) 6 tt k)
+  mismatch_other (InconsistentBoundsIfRegionsAreMerged g a b flip) o k = absurd (k g a b flip refl)
   mismatch_other (BoundPropagationWithinRegion l k u) o z = refl
   mismatch_other (AdjacentSameSizeRegions a la ua b lb ub u) o k = refl
 
-  pub same_other : (r : Reason) (o : Out) → OneOf (0 ∷ 1 ∷ 2 ∷ 3 ∷ 4 ∷ 5 ∷ 6 ∷ 7 ∷ []) (tag_of the_type r) → missing o ≡ same_size ws es noted r o
+  pub same_other : (r : Reason) (o : Out) → ((a : ℕ) (la ua : OptLit) (b : ℕ) (lb ub : OptLit) (u : ℕ) → r ≡ AdjacentSameSizeRegions a la ua b lb ub u → ⊥) → missing o ≡ same_size ws es noted r o
   unfolding same_size
   same_other NotPropagated o k = refl
   same_other (EdgeInSameGroup g) o k = refl
@@ -131,7 +128,7 @@ module _ (ws : List ℕ) (es : List (List ℕ)) (noted : List ℕ) where
   same_other (RegionAlreadySmall v) o k = refl
   same_other (InconsistentBoundsIfRegionsAreMerged g a b flip) o k = refl
   same_other (BoundPropagationWithinRegion l k u) o z = refl
-  same_other (AdjacentSameSizeRegions a la ua b lb ub u) o k = absurd (miss (0 ∷ 1 ∷ 2 ∷ 3 ∷ 4 ∷ 5 ∷ 6 ∷ 7 ∷ []) 8 tt k)
+  same_other (AdjacentSameSizeRegions a la ua b lb ub u) o k = absurd (k a la ua b lb ub u refl)
 
   -- the arms
   pub arm : (r q : Reason) (o : Out) (b : Answer) → r ≡ q → b ≡ reason_lits ws es noted q o → b ≡ reason_lits ws es noted r o

@@ -88,7 +88,7 @@ applied_alike ws a b e l p =
 undone_alike : (ws a b : List ℕ) (rs : List Record) → Alike ws a b → Alike ws (undone rs a) (undone rs b)
 unfolding undone restored
 undone_alike ws a b [] p = p
-undone_alike ws a b (r ∷ rs) p = two (Alike ws) (eqb r.kind 0) p (undone_alike ws _ _ rs (applied_alike ws a b _ r.lit p))
+undone_alike ws a b (r ∷ rs) p = two (Alike ws) (eqb r.kind 0) p (undone_alike ws (restored r a) (restored r b) rs (applied_alike ws a b _ r.lit p))
 
 pub undo_twins : (ws : List ℕ) (x y : Noting) → Twins ws x y → Twins ws (undo x) (undo y)
 unfolding undo

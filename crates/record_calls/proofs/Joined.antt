@@ -255,7 +255,7 @@ module _ (s : GraphDivision) (c : Cursor) (log : List Record) (blank : List ℕ)
             let a = propagate_accepted s.plan ends s.noted part c len t (length list) lit ok in
             let b = propagate_accepted s.plan ends s.noted whole c len t (length list) lit (sym (refusal_same e) ∙ ok) in
             let p = proper_plan e in
-            let k = a.1.is_Known in
+            let k = a.1.is_known in
             let ra = room s.plan ends p s.noted part c a.0.state.passes a.0.state.long l k a.2 in
             let rb = room s.plan ends p s.noted whole c b.0.state.passes b.0.state.long l k b.2 in
             let o = occurrences_known s.plan (l / 2) k in

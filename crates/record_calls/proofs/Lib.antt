@@ -1,4 +1,3 @@
-pub mod Scratch
 pub mod Loaded
 pub mod Pushed
 pub mod Reached

@@ -7,7 +7,7 @@ ghost use Rattle.graph_division.specs.Initialize.{initialized};
 ghost use Rattle.record_calls.specs.Reach.{reaches};
 ghost use Rattle.record_calls.specs.Checked.{checked_initialized};
 
-use crate::{reaches, refuse};
+use crate::{all_fit, reaches, refuse};
 use graph_division::{GraphDivision, Outcome};
 use lent_log::{load, push_run};
 use undo_log::{Cursor, Record};
@@ -43,6 +43,7 @@ pub fn initialize(
     let c = *cursor;
     load(log, c.used, &mut words);
     let out = initialize_words(s, table, list, &mut words, log.len(), c);
+    all_fit(&words);
     push_run(&words, out.cursor.used, log, cursor);
     cursor.standing = out.cursor.standing;
     out

@@ -9,7 +9,7 @@ pub mod initialize;
 pub mod propagate;
 pub mod undo;
 
-ghost use Rattle.std.specs.Prelude.{◌≡◌};
+ghost use Rattle.std.specs.Prelude.{◌≡◌, ℕ, ◌<◌, ◌^◌, slice_index};
 ghost use Rattle.plan.specs.Check.{plan_bad};
 ghost use Rattle.noting.specs.Buffers.{log_short};
 ghost use Rattle.graph_division.specs.Calls.{refuse};
@@ -64,3 +64,8 @@ pub(crate) fn refuse(s: GraphDivision, cursor: Cursor) -> Outcome
         answer: Answer::Refused { number: 7 },
     }
 }
+
+// Does nothing: what is lent as a slice is known to hold words of 64 bits, which is not known of an array of them.
+pub(crate) fn all_fit(words: &[u64])
+    ensures { (i : ℕ) → slice_index words.now i < 2 ^ 64 }
+{}

@@ -6,7 +6,7 @@ ghost use Rattle.graph_division.specs.Calls.{called, refuse, propagated};
 ghost use Rattle.record_calls.specs.Reach.{reaches};
 ghost use Rattle.record_calls.specs.Checked.{checked_propagated};
 
-use crate::{reaches, refuse};
+use crate::{all_fit, reaches, refuse};
 use graph_division::{GraphDivision, Outcome};
 use lent_log::{load, push_run};
 use undo_log::{Cursor, Record};
@@ -63,6 +63,7 @@ pub fn propagate(
         lit,
         num_pending_propagations,
     );
+    all_fit(&words);
     push_run(&words, out.cursor.used, log, cursor);
     cursor.standing = out.cursor.standing;
     out

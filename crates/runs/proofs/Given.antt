@@ -6,6 +6,7 @@ use Prim.Native.Nat.{ℕ, ◌+◌, ◌<◌, zero-le}
 use native.Mathlib.Omega.{arith}
 use mathlib.Core.Path.{◌≡◌, refl, sym, ◌∙◌, ap, subst}
 use mathlib.Core.Bool.{true, false}
+use mathlib.Core.Logic.{◌⊎◌, inl, inr}
 use mathlib.Core.List.{List, [], ◌∷◌}
 use lib.Dec.{eqb, ltb}
 use lib.ListN.{length, get_or}
@@ -30,15 +31,22 @@ tails q = cc
 none_some : {x : List ℕ} {k : List (List ℕ)} → [] ≡ x ∷ k → ⊥
 none_some q = let z : ◌≡◌ {A = ℕ} 0 _ = ap length q in omega arith
 
+-- one list comes first by its first element, or by what follows it
+first_parts : (x y : ℕ) (l m : List ℕ) → First (x ∷ l) (y ∷ m) → (x < y) ⊎ ((x ≡ y) × First l m)
+first_parts x y l m (run.less a) = inl a
+first_parts x y l m (run.same a) = inr (refl, a)
+
 -- of two lists of one length that both come first
 both_first : (l m : List ℕ) → length l ≡ length m → First l m → First m l → l ≡ m
 both_first [] [] h a b = refl
 both_first [] (y ∷ m) h a b = absurd (omega arith)
 both_first (x ∷ l) [] h a b = absurd (omega arith)
-both_first (x ∷ l) (y ∷ m) h (run.less a) (run.less b) = absurd (omega arith)
-both_first (x ∷ l) (y ∷ m) h (run.less a) (run.same b) = absurd (omega arith)
-both_first (x ∷ l) (y ∷ m) h (run.same a) (run.less b) = absurd (omega arith)
-both_first (x ∷ l) (y ∷ m) h (run.same a) (run.same b) = ap (λ (k : List ℕ). x ∷ k) (both_first l m (omega arith) a b)
+both_first (x ∷ l) (y ∷ m) h a b =
+    elim (first_parts x y l m a) [
+      inl s ↦ elim (first_parts y x m l b) [ inl t ↦ absurd (omega arith) | inr t ↦ absurd (omega (arith, t.0)) ]
+    | inr s ↦ elim (first_parts y x m l b) [
+        inl t ↦ absurd (omega (arith, s.0))
+      | inr t ↦ let e : l ≡ m = both_first l m (omega arith) s.1 t.1 in λ i. s.0 i ∷ e i ] ]
 
 pub best_one : {e : Graph} {edges p q : ℕ} (l m : List ℕ) → Best e edges p q l → Best e edges p q m → l ≡ m
 best_one {e} l m a b =

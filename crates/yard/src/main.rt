@@ -12,6 +12,7 @@ use crate::output::{Shown, has_failed, nothing, show};
 use desk::print::print_refusal;
 use desk::start::{Started, start};
 use desk::{Obeyed, obey};
+use std::io::{self, Read};
 use undo_log::Cursor;
 
 // Room for the longest input and a byte more, which tells that there is more.
@@ -33,24 +34,31 @@ fn no_log() -> [u64; 4352]
     [0u64; 4352]
 }
 
+// Room for what a line prints.
+fn large_buffer() -> [u8; 65536]
+    ensures { 65536 ≡ length result }
+{
+    [0; 65536]
+}
+
 // A refusal is all that is printed.
-fn refuse(input: &[u8], started: Started) -> Shown
+fn refuse(rt: &impl Print, input: &[u8], started: Started) -> Shown
     requires { Refusing started input.now }
     ensures { AllTold result input.now }
 {
-    let mut out = io::large_buffer();
+    let mut out = large_buffer();
     let n = print_refusal(started.refusal as u32, &mut out);
-    show(input, nothing(), &out, n)
+    show(rt, input, nothing(), &out, n)
 }
 
 // Obeys the calls' lines. The table has every variable that a line can name, the log room for every plan.
-fn obey_lines(input: &[u8], started: Started) -> Shown
+fn obey_lines(rt: &impl Print, input: &[u8], started: Started) -> Shown
     requires { Obeying started input.now }
     ensures { AllTold result input.now }
 {
     let mut table = no_table();
     let mut log = no_log();
-    let mut out = io::large_buffer();
+    let mut out = large_buffer();
     let state = started.state;
     let cursor = Cursor {
         used: 0,
@@ -69,42 +77,57 @@ fn obey_lines(input: &[u8], started: Started) -> Shown
         let c = o.cursor;
         o = obey(s, c, &mut table, &mut log, &input[at..e], &mut out);
         let n = o.printed;
-        shown = show(input, shown, &out, n);
+        shown = show(rt, input, shown, &out, n);
         at = e + 1;
     }
     shown
 }
 
 // After a refusal of the plan or of the input's shape the program ends.
-fn answer(input: &[u8]) -> Shown
+fn answer(rt: &impl Print, input: &[u8]) -> Shown
     requires { length input.now ≤ 1048577 }
     ensures { AllTold result input.now }
 {
     let started = start(input);
     let number = started.refusal;
     if number == 0 {
-        return obey_lines(input, started);
+        return obey_lines(rt, input, started);
     }
-    refuse(input, started)
+    refuse(rt, input, started)
+}
+
+// Reads until `buf` is full, the input ends or a read fails, and says how many bytes it put at the start of `buf`.
+fn read_full(reader: &mut impl Read, buf: &mut [u8]) -> usize
+    ensures { result ≤ length buf.new }
+{
+    let mut done = 0;
+    while done < buf.len() {
+        match reader.read(&mut buf[done..]) {
+            Ok(0) | Err(_) => break,
+            Ok(n) => done += n,
+        }
+    }
+    done
 }
 
 // Whether the input ended where reading stopped: one more read gives no byte and does not fail.
-fn has_ended() -> bool {
-    let mut more = io::buffer();
-    libc::read(0, &mut more) == 0
+fn has_ended(reader: &mut impl Read) -> bool {
+    let mut more = [0u8; 4096];
+    matches!(reader.read(&mut more), Ok(0))
 }
 
-fn main() {
+fn main(rt: HostRuntime) -> io::Result<()> {
+    let mut stdin = rt.stdin();
     let mut buf = input_buffer();
-    let n = io::read_full(0, &mut buf);
+    let n = read_full(&mut stdin, &mut buf);
     if n < 1048577 {
-        if !has_ended() {
-            io::write_all(2, b"yard: standard input cannot be read\n");
-            return;
+        if !has_ended(&mut stdin) {
+            return eprintln!(rt; "yard: standard input cannot be read");
         }
     }
-    let shown = answer(&buf[0..n]);
+    let shown = answer(&rt, &buf[0..n]);
     if has_failed(shown) {
-        io::write_all(2, b"yard: standard output cannot be written\n");
+        eprintln!(rt; "yard: standard output cannot be written")?;
     }
+    Ok(())
 }

@@ -19,7 +19,7 @@ pub(crate) fn nothing() -> Shown
 }
 
 // Writes the first n bytes of `out`, unless a write failed before. They are the session's next n, after those that were given before.
-pub(crate) fn show(input: &[u8], shown: Shown, out: &[u8], n: usize) -> Shown
+pub(crate) fn show(rt: &impl Print, input: &[u8], shown: Shown, out: &[u8], n: usize) -> Shown
     requires { (n ≤ length out.now) × (take n out.now ≡ take n (drop shown.told (session input.now))) × (shown.told + n ≤ 1099511627776) }
     ensures { result.told ≡ shown.told + n }
 {
@@ -30,10 +30,10 @@ pub(crate) fn show(input: &[u8], shown: Shown, out: &[u8], n: usize) -> Shown
             failed: true,
         };
     }
-    let written = io::write_all(1, &out[0..n]);
+    let written = rt.write_all(&out[0..n]);
     Shown {
         told: told,
-        failed: !written,
+        failed: written.is_err(),
     }
 }
 

@@ -8,4 +8,4 @@ use Rattle.analysis.proofs.dom_place.Goals as goal
 
 pub returns : goal.returns
 unfolding dom_place_of
-returns c = c.place_for_lem.ensures ∙ ap₂ (place_for (words_of c.args.plan.now)) c.dom_index.ensures c.dom_lit.ensures
+returns c = c.place_for.ensures ∙ ap₂ (place_for (words_of c.args.plan.now)) c.dom_index.ensures c.dom_lit.ensures

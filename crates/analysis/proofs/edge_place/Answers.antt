@@ -8,4 +8,4 @@ use Rattle.analysis.proofs.edge_place.Goals as goal
 
 pub returns : goal.returns
 unfolding edge_place_of
-returns c = c.place_for_lem.ensures ∙ ap₂ (place_for (words_of c.args.plan.now)) c.edge_index.ensures c.edge_lit.ensures
+returns c = c.place_for.ensures ∙ ap₂ (place_for (words_of c.args.plan.now)) c.edge_index.ensures c.edge_lit.ensures

@@ -11,5 +11,5 @@ pub returns : goal.returns
 unfolding place_of_lit
 returns c =
     ap₂ (λ (k s : ℕ). 2 * (k % 2147483648) + s)
-    (c.IsPlace-in.ensures ∙ ap (place_in (words_of c.args.plan.now)) c.variable.ensures)
+    (c.place_in-k.ensures ∙ ap (place_in (words_of c.args.plan.now)) c.variable.ensures)
     c.sign.ensures

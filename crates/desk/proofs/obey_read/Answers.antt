@@ -21,21 +21,21 @@ unfolding obeyed valued
 returns-in-N c =
     let a = c.args in
     told_line _ (desk a.s a.cursor a.table.now a.log.now) a.out.now _ _ c.in-N.is
-    (told_along _ a.out.now _ _ (λ i. notified (desk a.s a.cursor a.table.now a.log.now) (to_z-of_z {w = w32} {z = c.in-N.lit} (sfits_of (c.known_told-in-N-1.given.0.1)) i) (to_z-of_z {w = w32} {z = c.in-N.pending} (sfits_of (c.known_told-in-N-1.given.1.0.1)) i)) c.notify.ensures)
+    (told_along _ a.out.now _ _ (λ i. notified (desk a.s a.cursor a.table.now a.log.now) (to_z-of_z {w = w32} {z = c.in-N.lit} (sfits_of (c.in-N.known_told-in-N-1-own.given.0.1)) i) (to_z-of_z {w = w32} {z = c.in-N.pending} (sfits_of (c.in-N.known_told-in-N-1-own.given.1.0.1)) i)) c.notify.ensures)
 
 pub returns-in-U : goal.returns-in-U
 unfolding obeyed valued
 returns-in-U c =
     let a = c.args in
     told_line _ (desk a.s a.cursor a.table.now a.log.now) a.out.now _ _ c.in-U.is
-    (told_along _ a.out.now _ _ (λ i. taken_back (desk a.s a.cursor a.table.now a.log.now) (to_z-of_z {w = w32} {z = c.in-U.lit} (sfits_of (c.known_told-in-U-1.given.0.1)) i)) c.take_back.ensures)
+    (told_along _ a.out.now _ _ (λ i. taken_back (desk a.s a.cursor a.table.now a.log.now) (to_z-of_z {w = w32} {z = c.in-U.lit} (sfits_of (c.in-U.known_told-in-U-1-own.given.0.1)) i)) c.take_back.ensures)
 
 pub returns-in-R : goal.returns-in-R
 unfolding obeyed valued
 returns-in-R c =
     let a = c.args in
     told_line _ (desk a.s a.cursor a.table.now a.log.now) a.out.now _ _ c.in-R.is
-    (asked _ a.s a.cursor a.table.now a.log.now a.out.now _ _ _ _ c.stay-in-R.ensures (λ i. reason_asked a.s a.cursor a.log.now (to_z-of_z {w = w32} {z = c.in-R.lit} (sfits_of (c.known_told-in-R-1.given.0.1)) i)) c.ask_reason.ensures)
+    (asked _ a.s a.cursor a.table.now a.log.now a.out.now _ _ _ _ c.stay-in-R.ensures (λ i. reason_asked a.s a.cursor a.log.now (to_z-of_z {w = w32} {z = c.in-R.lit} (sfits_of (c.in-R.known_told-in-R-1-own.given.0.1)) i)) c.ask_reason.ensures)
 
 pub returns-in-RLast : goal.returns-in-RLast
 unfolding obeyed valued

@@ -2,7 +2,6 @@ use mathlib.Core.Path.{sym, ap, ◌∙◌}
 use native.Mathlib.Omega.{arith}
 use lib.ListN.{get_or-eq_default}
 use Rattle.undo_log.specs.Log.{record_of}
-use borrow.Author.Rules.{rules}
 use Rattle.lent_log.proofs.get.Goals as goal
 
 pub returns : goal.returns

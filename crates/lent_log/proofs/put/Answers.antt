@@ -1,7 +1,6 @@
 use mathlib.Core.Path.{sym, ap}
 use lib.ListN.{set}
 use lib.Seq.{set_out}
-use borrow.Author.Rules.{rules}
 use Rattle.lent_log.proofs.put.Goals as goal
 
 pub returns-then-at-words : goal.returns-then-at-words

@@ -8,4 +8,4 @@ returns-in-InconsistentBoundsIfRegionsAreMerged c = mismatch_by _ _ _ _ _ _ _ _ 
 
 pub returns : goal.returns
 unfolding missing
-returns c = mismatch_other _ _ _ _ _ c.in_default.keys2
+returns c = mismatch_other _ _ _ _ _ c.in_default.not-InconsistentBoundsIfRegionsAreMerged

@@ -8,4 +8,4 @@ returns-in-AdjacentSameSizeRegions c = same_by _ _ _ _ _ _ _ _ _ _ _ _ _ _ _ _ _
 
 pub returns : goal.returns
 unfolding missing
-returns c = same_other _ _ _ _ _ c.in_default.keys2
+returns c = same_other _ _ _ _ _ c.in_default.not-AdjacentSameSizeRegions

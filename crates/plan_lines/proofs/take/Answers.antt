@@ -20,8 +20,7 @@ pub returns-in-P : goal.returns-in-P
 unfolding taken
 returns-in-P c =
     let a = c.args in
-    let w = to_z-of_z {w = w32} (sfits_of (c.known_told-in-P-1.given.0.1)) in
-    let r = c.read-in-P-1.given.0 in
+    let w = to_z-of_z {w = w32} (sfits_of (c.in-P.known_told-in-P-1-own.given.0.1)) in
     (λ i. drafted (c.with_vertex.ensures i) ((c.put_vertex.ensures ∙ ap (λ (x : ℤ). vertex_put a.line.now x c.in-P.sizes c.in-P.count a.c.vertices a.vertices.now) w) i) a.edges.now)
     ∙ sym (ap (λ (r : Line). taken a.line.now r (drafted a.c a.vertices.now a.edges.now)) c.in-P.is)
 
@@ -29,7 +28,7 @@ pub returns-in-G : goal.returns-in-G
 unfolding taken
 returns-in-G c =
     let a = c.args in
-    let k = c.known_told-in-G-1.given in
+    let k = c.in-G.known_told-in-G-1-own.given in
     let u = to_z-of_z {w = w32} (sfits_of k.0.1) in
     let v = to_z-of_z {w = w32} (sfits_of k.1.0.1) in
     let l = to_z-of_z {w = w32} (sfits_of k.1.1.0.1) in

@@ -14,7 +14,7 @@ use Rattle.plan.specs.Words.{words_of}
 use Rattle.recorded.proofs.record.Given as goal
 
 abbrev pub invariant-loop-p : goal.invariant-loop-p
-invariant-loop-p l = (l.p ≤ l.n) × (l.t.at ≡ iter (λ l.p l. set l l.p (newest l.proposals l.p (get_or l l.p (holding NotPropagated)))) l.p l.initial.t.at)
+invariant-loop-p l = (l.p ≤ l.n) × (l.t.at ≡ iter (λ p xs. set xs p (newest l.proposals p (get_or xs p (holding NotPropagated)))) l.p l.initial.t.at)
 
 abbrev pub decreases-loop-p : goal.decreases-loop-p
 decreases-loop-p l = l.n - l.p

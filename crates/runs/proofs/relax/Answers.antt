@@ -29,14 +29,6 @@ returns-then-far-p-ne1 c =
     let t = new e a.g a.p a.r a.far.now c.if-far-r-ne1.false c.if-far-p-ne1.true in
     (relaxed_yes e a.g a.p a.r a.far.now _ _ _ t c.count_undecided.ensures refl c.store.ensures, changed)
 
--- LEFT
-element-copy-out-is-less : tie.Need-element-copy-out-is-smaller
-element-copy-out-is-less c = search rules
-
--- LEFT
-element-copy-out-is-less-2 : tie.Need-element-copy-out-is-smaller-2
-element-copy-out-is-less-2 c = search rules
-
 pub returns-then-is_less : goal.returns-then-is_less
 unfolding is_undecided
 returns-then-is_less c =

@@ -9,7 +9,7 @@ use Rattle.analysis.proofs.step2.raises.Goals as goal
 pub returns-then-lower_bound-weight : goal.returns-then-lower_bound-weight
 returns-then-lower_bound-weight c =
     ap (ran Going) c.put.ensures
-    ∙ raises_some _ _ _ _ _ _ _ _ (omega arith) (omega arith) c.decided_weight_lem.ensures c.lit_at_least-lit.ensures c.packed.ensures
+    ∙ raises_some _ _ _ _ _ _ _ _ (omega arith) (omega arith) c.decided_weight-weight.ensures c.lit_at_least-lit.ensures c.packed.ensures
 
 pub returns-else-lower_bound-weight : goal.returns-else-lower_bound-weight
 returns-else-lower_bound-weight c = raises_met _ _ _ _ _ (omega arith) (omega arith)

@@ -15,7 +15,7 @@ returns-then-weight-lower_bound c = cuts_under _ _ _ _ _ (omega arith) (omega ar
 pub returns-then-weight-upper_bound : goal.returns-then-weight-upper_bound
 returns-then-weight-upper_bound c =
     ap (ran Going) c.put.ensures
-    ∙ cuts_some _ _ _ _ _ _ _ _ _ (omega arith) (omega arith) (omega arith) c.potential_weight_lem.ensures c.lit_at_least-lit.ensures c.negation.ensures c.packed.ensures
+    ∙ cuts_some _ _ _ _ _ _ _ _ _ (omega arith) (omega arith) (omega arith) c.potential_weight-weight.ensures c.lit_at_least-lit.ensures c.negation.ensures c.packed.ensures
 
 pub returns-else-weight-upper_bound : goal.returns-else-weight-upper_bound
 returns-else-weight-upper_bound c = cuts_met _ _ _ _ _ (omega arith) (omega arith) (omega arith)

@@ -30,10 +30,10 @@ pub loop-r-smaller : goal.loop-r-smaller
 loop-r-smaller c = omega arith
 
 pub loop-r-preserved : goal.loop-r-preserved
-loop-r-preserved c = (omega arith, λ a. ran_more _ (meets_first_follows _ _ _) _ _ _ _ _ (c.loop-r.invariant.1 a) (goes_going _ _ _ _ (sym c.goes_on.ensures ∙ c.if-goes_on.true) (c.meets_first_lem.ensures a)))
+loop-r-preserved c = (omega arith, λ a. ran_more _ (meets_first_follows _ _ _) _ _ _ _ _ (c.loop-r.invariant.1 a) (goes_going _ _ _ _ (sym c.goes_on.ensures ∙ c.if-goes_on.true) (c.meets_first-found.ensures a)))
 
 pub returns-in-loop-r : goal.returns-in-loop-r
-returns-in-loop-r c = λ a. ran_halt _ _ _ _ _ _ (sym c.goes_on.ensures ∙ c.if-goes_on.false) (omega arith) (ran_more _ (meets_first_follows _ _ _) _ _ _ _ _ (c.loop-r.invariant.1 a) (c.meets_first_lem.ensures a))
+returns-in-loop-r c = λ a. ran_halt _ _ _ _ _ _ (sym c.goes_on.ensures ∙ c.if-goes_on.false) (omega arith) (ran_more _ (meets_first_follows _ _ _) _ _ _ _ _ (c.loop-r.invariant.1 a) (c.meets_first-found.ensures a))
 
 pub returns : goal.returns
 returns c = λ a. ran_done _ _ _ _ _ (c.loop-r.invariant.1 a) (omega arith) (omega arith)

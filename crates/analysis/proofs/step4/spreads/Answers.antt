@@ -8,4 +8,4 @@ use Rattle.analysis.proofs.step4.spreads.Goals as goal
 
 pub returns : goal.returns
 unfolding spreads
-returns c = ran_after _ (spreads_high_follows _ _ _ _) _ _ _ _ _ c.spreads_low_lem.ensures c.spreads_high_lem.ensures
+returns c = ran_after _ (spreads_high_follows _ _ _ _) _ _ _ _ _ c.spreads_low.ensures c.spreads_high.ensures

@@ -13,7 +13,7 @@ use Rattle.plan.specs.Words.{words_of}
 use Rattle.analysis.proofs.step5.parts_at.Given as goal
 
 abbrev pub invariant-loop-g : goal.invariant-loop-g
-invariant-loop-g l = (l.g ≤ l.n) × (ran Going l.proposals ≡ ran_of (iter (guarded (λ l.g. iter (guarded (on parted (words (words_of l.plan) l.edges l.noted l.view) l.u l.g)) l.g)) l.g begun) l.initial.proposals)
+invariant-loop-g l = (l.g ≤ l.n) × (ran Going l.proposals ≡ ran_of (iter (guarded (λ g. iter (guarded (on parted (words (words_of l.plan) l.edges l.noted l.view) l.u g)) g)) l.g begun) l.initial.proposals)
 
 abbrev pub decreases-loop-g : goal.decreases-loop-g
 decreases-loop-g l = l.n - l.g

@@ -8,7 +8,7 @@ use Rattle.analysis.proofs.step5.same_size.Goals as goal
 
 pub returns-then-forks : goal.returns-then-forks
 unfolding across forks
-returns-then-forks c = same_are _ _ _ _ _ _ _ _ _ _ (sym c.forks.ensures ∙ c.if-forks.true) c.region_across-a.ensures c.region_across-b.ensures c.decided_weight_lem.ensures c.one_size.ensures
+returns-then-forks c = same_are _ _ _ _ _ _ _ _ _ _ (sym c.forks.ensures ∙ c.if-forks.true) c.region_across-a.ensures c.region_across-b.ensures c.decided_weight.ensures c.one_size.ensures
 
 pub returns : goal.returns
 unfolding across forks

@@ -11,7 +11,7 @@ use Rattle.base.proofs.Loop.{iter_zero, iter_more, iter_done}
 use Rattle.builder.proofs.build.copy_index.Given as goal
 
 abbrev pub invariant-loop-i : goal.invariant-loop-i
-invariant-loop-i l = (l.i ≤ 10881) × (l.plan ≡ iter (λ l.i l. set l (4360 + l.i) (get_or l.index l.i 0)) l.i l.initial.plan)
+invariant-loop-i l = (l.i ≤ 10881) × (l.plan ≡ iter (λ i xs. set xs (4360 + i) (get_or l.index i 0)) l.i l.initial.plan)
 
 abbrev pub decreases-loop-i : goal.decreases-loop-i
 decreases-loop-i l = 10881 - l.i

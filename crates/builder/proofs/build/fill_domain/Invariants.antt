@@ -12,7 +12,7 @@ use Rattle.builder.specs.Input.{weight_at, len_at, size_at, lit_at, edge_lit_at}
 use Rattle.builder.proofs.build.fill_domain.Given as goal
 
 abbrev pub invariant-loop-j : goal.invariant-loop-j
-invariant-loop-j l = (l.j ≤ l.len) × (l.plan ≡ iter (λ i l. set l (136 + 32 * l.v + i) (to_nat (size_at l.vertices l.v i))) l.j l.initial.plan)
+invariant-loop-j l = (l.j ≤ l.len) × (l.plan ≡ iter (λ i xs. set xs (136 + 32 * l.v + i) (to_nat (size_at l.vertices l.v i))) l.j l.initial.plan)
 
 abbrev pub decreases-loop-j : goal.decreases-loop-j
 decreases-loop-j l = l.len - l.j

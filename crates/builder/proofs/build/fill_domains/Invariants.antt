@@ -12,7 +12,7 @@ use Rattle.builder.specs.Build.{rows}
 use Rattle.builder.proofs.build.fill_domains.Given as goal
 
 abbrev pub invariant-loop-v : goal.invariant-loop-v
-invariant-loop-v l = (l.v ≤ l.n) × (l.plan ≡ iter (λ l.v l. filled (136 + 32 * l.v) (len_at l.vertices l.v) (λ j. to_nat (size_at l.vertices l.v j)) l) l.v l.initial.plan)
+invariant-loop-v l = (l.v ≤ l.n) × (l.plan ≡ iter (λ v xs. filled (136 + 32 * v) (len_at l.vertices v) (λ j. to_nat (size_at l.vertices v j)) xs) l.v l.initial.plan)
 
 abbrev pub decreases-loop-v : goal.decreases-loop-v
 decreases-loop-v l = l.n - l.v

@@ -12,7 +12,7 @@ use Rattle.builder.specs.Input.{weight_at, len_at, size_at, lit_at, edge_lit_at}
 use Rattle.builder.proofs.build.fill_lens.Given as goal
 
 abbrev pub invariant-loop-v : goal.invariant-loop-v
-invariant-loop-v l = (l.v ≤ l.n) × (l.plan ≡ iter (λ i l. set l (72 + i) (len_at l.vertices i)) l.v l.initial.plan)
+invariant-loop-v l = (l.v ≤ l.n) × (l.plan ≡ iter (λ i xs. set xs (72 + i) (len_at l.vertices i)) l.v l.initial.plan)
 
 abbrev pub decreases-loop-v : goal.decreases-loop-v
 decreases-loop-v l = l.n - l.v

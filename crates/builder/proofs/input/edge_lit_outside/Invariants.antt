@@ -12,7 +12,7 @@ use Rattle.builder.specs.Input.{weight_at, sizes_at, lit_at, edge_lit_at, left_a
 use Rattle.builder.proofs.input.edge_lit_outside.Given as goal
 
 abbrev pub invariant-loop-g : goal.invariant-loop-g
-invariant-loop-g l = (l.g ≤ l.m) × (some (λ l.g. not (in_range (pos 8191) (edge_lit_at l.edges l.g))) l.g ≡ false)
+invariant-loop-g l = (l.g ≤ l.m) × (some (λ g. not (in_range (pos 8191) (edge_lit_at l.edges g))) l.g ≡ false)
 
 abbrev pub decreases-loop-g : goal.decreases-loop-g
 decreases-loop-g l = l.m - l.g

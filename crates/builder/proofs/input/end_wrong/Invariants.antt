@@ -12,7 +12,7 @@ use Rattle.builder.specs.Input.{weight_at, sizes_at, lit_at, edge_lit_at, left_a
 use Rattle.builder.proofs.input.end_wrong.Given as goal
 
 abbrev pub invariant-loop-g : goal.invariant-loop-g
-invariant-loop-g l = (l.g ≤ l.m) × (some (λ l.g. not (is_vertex l.n (left_at l.edges l.g) && is_vertex l.n (right_at l.edges l.g))) l.g ≡ false)
+invariant-loop-g l = (l.g ≤ l.m) × (some (λ g. not (is_vertex l.n (left_at l.edges g) && is_vertex l.n (right_at l.edges g))) l.g ≡ false)
 
 abbrev pub decreases-loop-g : goal.decreases-loop-g
 decreases-loop-g l = l.m - l.g

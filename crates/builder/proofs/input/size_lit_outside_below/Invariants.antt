@@ -12,7 +12,7 @@ use Rattle.builder.specs.Input.{weight_at, sizes_at, lit_at, edge_lit_at, left_a
 use Rattle.builder.proofs.input.size_lit_outside_below.Given as goal
 
 abbrev pub invariant-loop-j : goal.invariant-loop-j
-invariant-loop-j l = (l.j ≤ l.count) × (some (λ l.j. not (in_range (pos 8191) (lit_at l.vertices l.v l.j))) l.j ≡ false)
+invariant-loop-j l = (l.j ≤ l.count) × (some (λ j. not (in_range (pos 8191) (lit_at l.vertices l.v j))) l.j ≡ false)
 
 abbrev pub decreases-loop-j : goal.decreases-loop-j
 decreases-loop-j l = l.count - l.j

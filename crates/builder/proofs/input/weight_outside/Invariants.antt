@@ -12,7 +12,7 @@ use Rattle.builder.specs.Input.{weight_at, sizes_at, lit_at, edge_lit_at, left_a
 use Rattle.builder.proofs.input.weight_outside.Given as goal
 
 abbrev pub invariant-loop-v : goal.invariant-loop-v
-invariant-loop-v l = (l.v ≤ l.n) × (some (λ l.v. not (in_range (pos 1000000) (weight_at l.vertices l.v))) l.v ≡ false)
+invariant-loop-v l = (l.v ≤ l.n) × (some (λ v. not (in_range (pos 1000000) (weight_at l.vertices v))) l.v ≡ false)
 
 abbrev pub decreases-loop-v : goal.decreases-loop-v
 decreases-loop-v l = l.n - l.v

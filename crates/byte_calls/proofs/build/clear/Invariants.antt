@@ -11,7 +11,7 @@ use Rattle.base.proofs.Loop.{iter_zero, iter_more, iter_done}
 use Rattle.byte_calls.proofs.build.clear.Given as goal
 
 abbrev pub invariant-loop-i : goal.invariant-loop-i
-invariant-loop-i l = (l.i ≤ 70684) × (l.state ≡ filled 62756 l.i (λ l.i. 0) l.initial.state) × (length l.state ≡ length l.initial.state)
+invariant-loop-i l = (l.i ≤ 70684) × (l.state ≡ filled 62756 l.i (λ i. 0) l.initial.state) × (length l.state ≡ length l.initial.state)
 
 abbrev pub decreases-loop-i : goal.decreases-loop-i
 decreases-loop-i l = 70684 - l.i

@@ -16,7 +16,7 @@ use Rattle.byte_calls.proofs.changes.finish.Goals as goal
 pub returns-then-is_refused : goal.returns-then-is_refused
 returns-then-is_refused c =
     let t : is_refused c.args.done.answer ≡ true = sym c.is_refused.ensures ∙ c.if-is_refused.true in
-    (is_left c.args.done.answer c.args.before c.args.done.cursor c.args.lits.now c.args.records.now c.args.list.now c.args.log.now c.args.cursor.now _ (code_back c.args.done.answer _ c.code_of_lem.ensures) t, ((λ (n : is_refused c.args.done.answer ≡ true). refl), ((λ (n : is_refused c.args.done.answer ≡ false) l. absurd (true≢false (sym t ∙ n))), kept_same _)))
+    (is_left c.args.done.answer c.args.before c.args.done.cursor c.args.lits.now c.args.records.now c.args.list.now c.args.log.now c.args.cursor.now _ (code_back c.args.done.answer _ c.code_of.ensures) t, ((λ (n : is_refused c.args.done.answer ≡ true). refl), ((λ (n : is_refused c.args.done.answer ≡ false) l. absurd (true≢false (sym t ∙ n))), kept_same _)))
 
 pub returns : goal.returns
 returns c =

@@ -15,7 +15,7 @@ returns-then-is_refused c =
     let p = c.requires in
     let e = c.undo-done.ensures.0 (state_in a.state.now) (parts_in a.state.now (plan_here a.state.now p.0) p.2 p.3) ∙ ap (λ (z : ℤ). undone (state_in a.state.now) a.before z a.records.now) (to_z-of_z c.ranges.lit) in
     let r = sym c.is_refused.ensures ∙ c.if-is_refused.true in
-    (undo_left _ _ _ _ _ e a.state.now refl _ _ c.code_of_lem.ensures r, state_same _ _ _ _ _ e a.state.now refl r)
+    (undo_left _ _ _ _ _ e a.state.now refl _ _ c.code_of.ensures r, state_same _ _ _ _ _ e a.state.now refl r)
 
 pub returns : goal.returns
 returns c =

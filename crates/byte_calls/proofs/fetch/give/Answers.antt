@@ -13,4 +13,4 @@ use Rattle.byte_calls.proofs.fetch.give.Goals as goal
 
 pub returns : goal.returns
 unfolding given_in
-returns c = λ i. back (code_back c.args.answer _ c.code_of_lem.ensures i) ((c.store_list.ensures ∙ ap (λ (k : ℕ). put_list c.args.out.now k c.args.buffer.now) c.given_by.ensures) i)
+returns c = λ i. back (code_back c.args.answer _ c.code_of.ensures i) ((c.store_list.ensures ∙ ap (λ (k : ℕ). put_list c.args.out.now k c.args.buffer.now) c.given_by.ensures) i)

@@ -15,5 +15,5 @@ unfolding page_in
 returns c =
     let d = c.decode-before.ensures in
     let p = parts_in c.args.state.now (plan_here c.args.state.now c.requires.0) c.read_edges-edges.ensures (noted_decoded _ _ _ d) in
-    page_back_lem _ _ _ _ c.code_of_lem.ensures (c.page-answer.ensures (state_in c.args.state.now) p
+    page_back_lem _ _ _ _ c.code_of.ensures (c.page-answer.ensures (state_in c.args.state.now) p
     ∙ page_read _ _ (cursor_decoded _ _ _ d) (records_in_lem _ _ _ d c.room_of-k.ensures))

@@ -20,7 +20,7 @@ pub loop-p-smaller : goal.loop-p-smaller
 loop-p-smaller c = omega arith
 
 pub loop-p-preserved : goal.loop-p-preserved
-loop-p-preserved c = (omega arith, iter_more _ _ _ _ _ c.loop-p.invariant.1 c.note_at_lem.ensures, omega arith)
+loop-p-preserved c = (omega arith, iter_more _ _ _ _ _ c.loop-p.invariant.1 c.note_at-c.ensures, omega arith)
 
 pub shape_of-log : goal.shape_of-log
 shape_of-log c = c.loop-p.invariant.2

@@ -13,8 +13,8 @@ returns-then-n-eq0 c =
     (to_z-of_z c.ranges.from) (to_z-of_z c.ranges.to)
     c.num_edges-num_edges.ensures
     c.num_vertices-num_vertices.ensures
-    c.vertex_given_lem.ensures
-    c.vertex_given-q.ensures c.best_run-listed.ensures c.answer_of_lem.ensures)
+    c.vertex_given-p.ensures
+    c.vertex_given-q.ensures c.best_run-listed.ensures c.answer_of.ensures)
 
 pub returns : goal.returns
 returns c =

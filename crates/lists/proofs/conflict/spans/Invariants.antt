@@ -11,7 +11,7 @@ use Rattle.lists.proofs.Spans.{chosen_few, span_keeps, span_step, spans_done}
 use Rattle.lists.proofs.conflict.spans.Given as goal
 
 abbrev pub invariant-loop-i : goal.invariant-loop-i
-invariant-loop-i l = (l.i ≤ l.n) × (answer_of l.a l.out ≡ iter (λ l.i x. span_after l.noted (get_or l.chosen l.i 0) x) l.i (answer_of l.initial.a l.initial.out)) × (length l.out ≡ length l.initial.out)
+invariant-loop-i l = (l.i ≤ l.n) × (answer_of l.a l.out ≡ iter (λ i x. span_after l.noted (get_or l.chosen i 0) x) l.i (answer_of l.initial.a l.initial.out)) × (length l.out ≡ length l.initial.out)
 
 abbrev pub decreases-loop-i : goal.decreases-loop-i
 decreases-loop-i l = l.n - l.i

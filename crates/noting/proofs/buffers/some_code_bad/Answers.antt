@@ -13,6 +13,7 @@ use Rattle.base.proofs.Some.{some_zero, some_found}
 use Rattle.base.proofs.Tests.{or_next}
 use Rattle.noting.specs.Buffers.{code_bad}
 use Rattle.noting.proofs.buffers.some_code_bad.Goals as goal
+use Rattle.noting.proofs.buffers.some_code_bad.Goals.{then-table-i-gt4, else-table-i-gt4}
 
 pub loop-i-init : goal.loop-i-init
 loop-i-init c = (omega arith, sym (some_zero _))
@@ -44,7 +45,9 @@ loop-i-preserved c =
     let l = c.loop-i in
     let t = c.args.table.now in (
       omega arith,
-      ⊎_elim (λ x. x.1 ∙ bad_entry t l.i x.0.taken) (λ x. x.1 ∙ fine_entry t l.i l.bad x.0.left l.invariant.1) c.if-table-i-gt4.branch,
+      elim c.if-table-i-gt4.branch [
+        then-table-i-gt4 w ↦ w.bad-is ∙ bad_entry t l.i w.if-table-i-gt4.true
+      | else-table-i-gt4 w ↦ w.bad-is ∙ fine_entry t l.i l.bad w.if-table-i-gt4.false l.invariant.1 ],
     )
 
 pub returns : goal.returns

@@ -17,7 +17,7 @@ returns-then-s-lt2048 c = c.size_effect.ensures ∙ ap (λ (b : Bool). size_effe
 
 pub returns-then-s-lt2176 : goal.returns-then-s-lt2176
 unfolding effect_of
-returns-then-s-lt2176 c = c.edge_effect_lem.ensures ∙ ap (λ (b : Bool). edge_effect b (c.args.s - 2048)) (ap (λ (x : ℕ). eqb x c.args.lit) c.lit.ensures) ∙ sym (pick_no _ _ (le-ltb c.args.s 2048 c.if-s-lt2048.false) ∙ pick_yes _ _ (lt-ltb c.args.s 2176 c.if-s-lt2176.true))
+returns-then-s-lt2176 c = c.edge_effect.ensures ∙ ap (λ (b : Bool). edge_effect b (c.args.s - 2048)) (ap (λ (x : ℕ). eqb x c.args.lit) c.lit.ensures) ∙ sym (pick_no _ _ (le-ltb c.args.s 2048 c.if-s-lt2048.false) ∙ pick_yes _ _ (lt-ltb c.args.s 2176 c.if-s-lt2176.true))
 
 pub returns : goal.returns
 unfolding effect_of

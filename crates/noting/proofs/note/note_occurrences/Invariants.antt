@@ -12,7 +12,7 @@ use Rattle.noting.specs.Note.{Noting, noting, note_slot}
 use Rattle.noting.proofs.note.note_occurrences.Given as goal
 
 abbrev pub invariant-loop-i : goal.invariant-loop-i
-invariant-loop-i l = (l.i ≤ l.n) × (noting l.noted l.log l.cur ≡ iter (λ l.i y. note_slot (words_of l.plan) l.lit (occurrence_at (words_of l.plan) (l.from + l.i)) y) l.i (noting l.initial.noted l.initial.log l.initial.cur))
+invariant-loop-i l = (l.i ≤ l.n) × (noting l.noted l.log l.cur ≡ iter (λ i y. note_slot (words_of l.plan) l.lit (occurrence_at (words_of l.plan) (l.from + i)) y) l.i (noting l.initial.noted l.initial.log l.initial.cur))
 
 abbrev pub decreases-loop-i : goal.decreases-loop-i
 decreases-loop-i l = l.n - l.i

@@ -13,7 +13,7 @@ use Rattle.noting.proofs.Follow.{follow_off, follow_on, follow_all, iter_rest}
 use Rattle.noting.proofs.replay.follow_at.Given as goal
 
 abbrev pub invariant-loop-i : goal.invariant-loop-i
-invariant-loop-i l = (l.i ≤ l.n) × (followed l.noted (place true l.at) ≡ iter (λ l.i y. follow_slot (words_of l.plan) l.log l.used l.lit (occurrence_at (words_of l.plan) (l.from + l.i)) y) l.i (followed l.initial.noted (place true l.after)))
+invariant-loop-i l = (l.i ≤ l.n) × (followed l.noted (place true l.at) ≡ iter (λ i y. follow_slot (words_of l.plan) l.log l.used l.lit (occurrence_at (words_of l.plan) (l.from + i)) y) l.i (followed l.initial.noted (place true l.after)))
 
 abbrev pub decreases-loop-i : goal.decreases-loop-i
 decreases-loop-i l = l.n - l.i

@@ -9,7 +9,7 @@ use Rattle.plan.specs.Check.{slot_count}
 use Rattle.plan.proofs.check.slot_count.Given as goal
 
 abbrev pub invariant-loop-v : goal.invariant-loop-v
-invariant-loop-v l = (l.v ≤ l.vertices) × (l.n ≡ iter (λ l.v l.n. l.n + pred (domain_len_of (words_of l.plan) l.v)) l.v l.initial.n) × (l.n ≤ 128 + 31 * l.v)
+invariant-loop-v l = (l.v ≤ l.vertices) × (l.n ≡ iter (λ v n. n + pred (domain_len_of (words_of l.plan) v)) l.v l.initial.n) × (l.n ≤ 128 + 31 * l.v)
 
 abbrev pub decreases-loop-v : goal.decreases-loop-v
 decreases-loop-v l = l.vertices - l.v

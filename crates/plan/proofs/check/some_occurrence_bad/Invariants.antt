@@ -14,7 +14,7 @@ use Rattle.plan.specs.Words.{words_of}
 use Rattle.plan.proofs.check.some_occurrence_bad.Given as goal
 
 abbrev pub invariant-loop-i : goal.invariant-loop-i
-invariant-loop-i l = (l.i ≤ l.n) × (some (λ l.i. occurrence_bad (words_of l.plan) l.k (l.from + l.i)) l.i ≡ false)
+invariant-loop-i l = (l.i ≤ l.n) × (some (λ i. occurrence_bad (words_of l.plan) l.k (l.from + i)) l.i ≡ false)
 
 abbrev pub decreases-loop-i : goal.decreases-loop-i
 decreases-loop-i l = l.n - l.i

@@ -18,7 +18,7 @@ returns-in-EdgeBetweenDifferentGroups c = third_as _ _ _ _ _ _ _ c.word-in-EdgeB
 
 pub returns-in-TooLargeIfRegionsAreMerged : goal.returns-in-TooLargeIfRegionsAreMerged
 unfolding first_word_of
-returns-in-TooLargeIfRegionsAreMerged c = last_as _ _ _ _ _ _ _ c.word-in-TooLargeIfRegionsAreMerged.ensures c.lit_word_lem.ensures ∙ sym (ap first_word_of c.in-TooLargeIfRegionsAreMerged.is)
+returns-in-TooLargeIfRegionsAreMerged c = last_as _ _ _ _ _ _ _ c.word-in-TooLargeIfRegionsAreMerged.ensures c.lit_word.ensures ∙ sym (ap first_word_of c.in-TooLargeIfRegionsAreMerged.is)
 
 pub returns-in-RegionAlreadyLarge : goal.returns-in-RegionAlreadyLarge
 unfolding first_word_of

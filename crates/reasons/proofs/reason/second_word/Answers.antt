@@ -38,4 +38,4 @@ returns-in-BoundPropagationWithinRegion c = sym (ap second_word_of c.in-BoundPro
 
 pub returns-in-AdjacentSameSizeRegions : goal.returns-in-AdjacentSameSizeRegions
 unfolding second_word_of
-returns-in-AdjacentSameSizeRegions c = lits_as _ _ _ _ _ c.packed_lits.ensures c.lit_word_lem.ensures c.lit_word-in-AdjacentSameSizeRegions.ensures c.lit_word-in-AdjacentSameSizeRegions-2.ensures c.lit_word-in-AdjacentSameSizeRegions-3.ensures ∙ sym (ap second_word_of c.in-AdjacentSameSizeRegions.is)
+returns-in-AdjacentSameSizeRegions c = lits_as _ _ _ _ _ c.packed_lits.ensures c.lit_word.ensures c.lit_word-in-AdjacentSameSizeRegions.ensures c.lit_word-in-AdjacentSameSizeRegions-2.ensures c.lit_word-in-AdjacentSameSizeRegions-3.ensures ∙ sym (ap second_word_of c.in-AdjacentSameSizeRegions.is)

@@ -7,6 +7,7 @@ use Rattle.noting.specs.Words.{state_of}
 use Rattle.views.specs.Members.{lesser}
 use Rattle.views.proofs.Ties.{Choosing, choose_begins, choose_next, choose_ends, chosen_yes, chosen_no}
 use Rattle.views.proofs.members.lowest_upper.Goals as goal
+use Rattle.views.proofs.members.lowest_upper.Goals.{then-upper_bound, else-upper_bound}
 
 pub loop-i-init : goal.loop-i-init
 loop-i-init c = choose_begins _ _ _
@@ -26,7 +27,9 @@ loop-i-smaller c = omega arith
 pub loop-i-preserved : goal.loop-i-preserved
 loop-i-preserved c =
     choose_next _ _ _ _ _ _ _ c.loop-i.invariant c.loop-i-test.true c.vertex-c.ensures
-    (⊎_elim (λ x. chosen_yes _ _ _ _ _ _ _ c.upper_bound.ensures c.upper_bound-in-loop-i.ensures x.0.taken x.1) (λ x. chosen_no _ _ _ _ _ _ _ c.upper_bound.ensures c.upper_bound-in-loop-i.ensures x.0.left x.1) c.if-upper_bound.branch)
+    (elim c.if-upper_bound.branch [
+       then-upper_bound w ↦ chosen_yes _ _ _ _ _ _ _ c.upper_bound.ensures c.upper_bound-in-loop-i.ensures w.if-upper_bound.true w.a-is
+     | else-upper_bound w ↦ chosen_no _ _ _ _ _ _ _ c.upper_bound.ensures c.upper_bound-in-loop-i.ensures w.if-upper_bound.false w.a-is ])
 
 pub returns : goal.returns
 returns c = choose_ends _ _ _ _ _ c.loop-i.invariant (omega arith)

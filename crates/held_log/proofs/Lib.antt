@@ -1,3 +1,0 @@
-pub mod LocalRecords
-pub mod LocalCursor
-pub mod Parts

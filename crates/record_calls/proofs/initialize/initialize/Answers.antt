@@ -1,0 +1,29 @@
+use Rattle.std.proofs.Common.{◌≡◌, map, ℕ, length, List, ◌∙◌, ap, arith}
+use lib.ListN.{replicate, length-replicate}
+use Rattle.base.specs.Iter.{pick}
+use Rattle.undo_log.specs.declared.Cursor.{Cursor}
+use Rattle.undo_log.specs.Log.{word_of, moved_to}
+use Rattle.lent_log.specs.Records.{loaded, Lent}
+use Rattle.graph_division.specs.Calls.{refuse, called}
+use Rattle.graph_division.specs.Initialize.{initialized}
+use Rattle.record_calls.specs.Reach.{reaches}
+use Rattle.record_calls.proofs.Joined.{initialize_joined, initialize_moved}
+use Rattle.record_calls.proofs.initialize.initialize.Goals as goal
+
+pub returns : goal.returns
+returns c =
+    let s = c.args.s in
+    let d = c.args.cursor.now in
+    let log = c.args.log.now in
+    let r = c.initialize_words-out.result in
+    let blank : List ℕ = replicate 4352 0 in
+    let long : length blank ≡ 4352 = length-replicate {A = ℕ} 4352 0 in
+    let n : length c.args.s.noted ≡ 384 = omega arith in
+    let said : called r c.initialize_words-out.new.table c.initialize_words-out.new.list c.initialize_words-out.new.words ≡ pick (reaches s.plan s.edges.ends (length log) d) (initialized s d c.args.table.now (loaded log d.used blank) c.args.list.now) (called (refuse 7 s d) c.args.table.now c.args.list.now (loaded log d.used blank)) =
+    c.initialize_words-out.ensures
+    ∙ (λ i. pick (reaches s.plan s.edges.ends (length log) d) (initialized s d c.args.table.now (c.load.ensures i) c.args.list.now) (called (refuse 7 s d) c.args.table.now c.args.list.now (c.load.ensures i))) in (
+      ap (λ (l : Lent). called r c.initialize_words-out.new.table c.initialize_words-out.new.list (map word_of l.log)) c.push_run.ensures
+          ∙ initialize_joined s d log blank long n c.args.table.now c.args.list.now r c.initialize_words-out.new.table c.initialize_words-out.new.list c.initialize_words-out.new.words said c.all_fit.ensures,
+      ap (λ (e : Cursor). moved_to r.cursor e.used)
+          (ap (λ (l : Lent). l.cursor) c.push_run.ensures ∙ initialize_moved s d log blank long n c.args.table.now c.args.list.now r c.initialize_words-out.new.table c.initialize_words-out.new.list c.initialize_words-out.new.words said),
+    )
