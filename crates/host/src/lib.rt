@@ -1,5 +1,5 @@
 // The C host: the calls of crate byte_calls, exported under C's names. A slice is a pointer and a length in C; include/zuntjev.h has the
-// layout of the bytes. Every call takes any bytes. `rt staticlib` proves this crate once more: it stays thin.
+// layout of the bytes. Every call takes any bytes. It is a static library and stays thin.
 #![tactic(auto)]
 
 ghost use Rattle.std.specs.Prelude.{◌≡◌};
