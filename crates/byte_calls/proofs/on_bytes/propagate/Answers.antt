@@ -13,7 +13,7 @@ use Rattle.graph_division.specs.declared.Outcome.{Outcome}
 use mir.Facts.{to_z-of_z}
 use Rattle.byte_calls.proofs.LastList.{propagate_leaves}
 use borrow.Author.Rules.{rules}
-use Rattle.byte_calls.proofs.calls.propagate.Goals as goal
+use Rattle.byte_calls.proofs.on_bytes.propagate.Goals as goal
 
 pub too_short-requires : goal.too_short-requires
 too_short-requires c = tt

@@ -1,7 +1,7 @@
 use mir.Facts.{to_z-of_z}
 use Rattle.byte_calls.proofs.Numbering.{numbers_read, build_back, built_back}
 use borrow.Author.Rules.{rules}
-use Rattle.byte_calls.proofs.calls.build.Goals as goal
+use Rattle.byte_calls.proofs.on_bytes.build.Goals as goal
 
 pub returns : goal.returns
 returns c =

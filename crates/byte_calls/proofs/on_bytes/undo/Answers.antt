@@ -13,7 +13,7 @@ use Rattle.graph_division.specs.declared.Outcome.{Outcome}
 use mir.Facts.{to_z-of_z}
 use Rattle.byte_calls.proofs.LastList.{undo_leaves}
 use borrow.Author.Rules.{rules}
-use Rattle.byte_calls.proofs.calls.undo.Goals as goal
+use Rattle.byte_calls.proofs.on_bytes.undo.Goals as goal
 
 pub returns-then-too_short : goal.returns-then-too_short
 returns-then-too_short c = record { cursor_after = short_back c.args.state.now c.args.log.now c.args.cursor.now _ (sym c.too_short.ensures ∙ c.if-too_short.true); leaves = undo_leaves (too_short c.args.state.now c.args.cursor.now) c.args.state.now c.args.log.now c.args.cursor.now c.args.lit _ (λ i. omega (arith, c.slice_known-1.given i)) (short_state (undone_in c.args.state.now c.args.log.now c.args.cursor.now c.args.lit) _ _ (sym c.too_short.ensures ∙ c.if-too_short.true)) }

@@ -6,7 +6,7 @@ use native.Mathlib.Omega.{arith}
 use Rattle.byte_calls.proofs.LastList.{initialize_leaves}
 use Rattle.byte_calls.proofs.Initializing.{begun_short, begun_long}
 use borrow.Author.Rules.{rules}
-use Rattle.byte_calls.proofs.calls.initialize.Goals as goal
+use Rattle.byte_calls.proofs.on_bytes.initialize.Goals as goal
 
 pub returns-then-too_short : goal.returns-then-too_short
 returns-then-too_short c =
@@ -21,5 +21,8 @@ pub returns : goal.returns
 returns c =
     let a = c.args in
     let g = c.initialize in
-    let t = sym c.too_short.ensures ∙ c.if-too_short.false in record { cursor_after = begun_long a.state.now a.table.now a.list.now a.log.now a.cursor.now _ t
-          (left_back (cursor_in a.cursor.now) _ a.list.now a.log.now a.cursor.now _ _ _ _ _ (g.ensures.cursor_after)); leaves = initialize_leaves (too_short a.state.now a.cursor.now) a.state.now a.table.now a.list.now a.log.now a.cursor.now _ (λ i. omega (arith, c.slice_known-1.given i)) (long_state (initialized_in a.state.now a.table.now a.list.now a.log.now a.cursor.now).outcome _ _ _ t (g.ensures.after_of)) }
+    let t = sym c.too_short.ensures ∙ c.if-too_short.false in record {
+      cursor_after = begun_long a.state.now a.table.now a.list.now a.log.now a.cursor.now _ t
+          (left_back (cursor_in a.cursor.now) _ a.list.now a.log.now a.cursor.now _ _ _ _ _ (g.ensures.cursor_after));
+      leaves = initialize_leaves (too_short a.state.now a.cursor.now) a.state.now a.table.now a.list.now a.log.now a.cursor.now _ (λ i. omega (arith, c.slice_known-1.given i)) (long_state (initialized_in a.state.now a.table.now a.list.now a.log.now a.cursor.now).outcome _ _ _ t (g.ensures.after_of));
+    }
