@@ -110,9 +110,15 @@ fn read_full(reader: &mut impl Read, buf: &mut [u8]) -> usize
     done
 }
 
+fn buffer() -> [u8; 4096]
+    ensures { 4096 ≡ length result }
+{
+    [0; 4096]
+}
+
 // Whether the input ended where reading stopped: one more read gives no byte and does not fail.
 fn has_ended(reader: &mut impl Read) -> bool {
-    let mut more = [0u8; 4096];
+    let mut more = buffer();
     matches!(reader.read(&mut more), Ok(0))
 }
 
