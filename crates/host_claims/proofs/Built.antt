@@ -99,7 +99,7 @@ module _ (vs : List ℤ) (n : ℕ) (es : List ℤ) (m : ℕ) (a b : ℤ) (before
 
   given_in : Given vs n es m (is_on a) (is_on b) (state_in state).plan (state_in state).edges.ends
   given_in = subst (λ (k : Kept). Given vs n es m (is_on a) (is_on b) k.state.plan k.state.edges.ends) (sym start_fresh)
-      (claims.given-built vs n es m (is_on a) (is_on b) accepted)
+      (claims.given_built vs n es m (is_on a) (is_on b) accepted)
 
   -- what holds of the built state and its plan holds of what the bytes stand for
   of_start : (P : Kept → Plan → Type 0) →
