@@ -257,7 +257,7 @@ module _ (state t list log cursor : List ℕ) (lit pending : ℤ) (hs : Bytes st
     unfolding settled
     settled_back t' list' = settled_by_back _ _ t' list'
 
-  -- `calls::propagate`, accepted or refused
+  -- `on_bytes::propagate`, accepted or refused
   pub propagate_reads_back : ReadsBack c (propagated_in state t list log cursor lit pending) list log cursor
   unfolding propagated_in propagated propagate_refusal
   propagate_reads_back = pick_ind (λ (y : Called). ReadsBack c y list log cursor) (eqb (propagate_refusal s.plan s.edges.ends s.noted t (length (list_in list)) records c lit) 0) _ _
@@ -268,7 +268,7 @@ module _ (state t list log cursor : List ℕ) (lit pending : ℤ) (hs : Bytes st
       (λ _. noted_back (lit_number lit) (number_under lit) r t (list_in list)))
       (λ _. refused_back _ t (list_in list))
 
--- `calls::initialize`, accepted or refused
+-- `on_bytes::initialize`, accepted or refused
 module _ (state t list log cursor : List ℕ) (hs : Bytes state) (hl : Bytes log) (hc : Bytes cursor) (long : 8 ≤ length cursor) where
   abbrev c₁ : Cursor
   c₁ = cursor_in cursor
@@ -330,7 +330,7 @@ module _ (ws : List ℕ) (ends : List (List ℕ)) (k : ProperWords ws ends) wher
   unfolding handed_on
   handed_under n words h u = iter_ind (λ i (x : Handed). Lits n x.out.text) (handed_at ws words) h (2 * variables_of ws) u (λ p x l v. at_under n words p x l v)
 
--- `calls::propagate`, where the plan passes its own test: the literals handed on are read back from the list's bytes
+-- `on_bytes::propagate`, where the plan passes its own test: the literals handed on are read back from the list's bytes
 module _ (state t list log cursor : List ℕ) (lit pending : ℤ) (passes : plan_bad (state_in state).plan (state_in state).edges.ends ≡ false) where
   abbrev Handing : Called → Type 0
   Handing y = Under 65536 y.list × (length y.list ≡ length (list_in list))
@@ -361,7 +361,7 @@ module _ (state t list log cursor : List ℕ) (lit pending : ℤ) (passes : plan
       half_at (put_list (propagated_in state t list log cursor lit pending).list n list) i ≡ get_or (propagated_in state t list log cursor lit pending).list i 0
   handed_reads_back n i h k = list_back (propagated_in state t list log cursor lit pending).list list n given_under.0 (omega (arith, given_under.1, list_room list)) i h k
 
--- `calls::undo`: the log's bytes stay, and are read up to the cursor after it as they were before
+-- `on_bytes::undo`: the log's bytes stay, and are read up to the cursor after it as they were before
 module _ (state log cursor : List ℕ) (lit : ℤ) (hc : Bytes cursor) (long : 8 ≤ length cursor) where
   abbrev UndoBack : Outcome → Type 0
   UndoBack y = (cursor_in (back_by y cursor).cursor ≡ y.cursor) × ((i : ℕ) → i < y.cursor.used → get_or (log_in y.cursor log) i 0 ≡ get_or (log_in (cursor_in cursor) log) i 0)

@@ -1,4 +1,4 @@
--- `calls::build`: its number is `build_code` of specs/Host.antt; here stand the state's bytes after it.
+-- `on_bytes::build`: its number is `build_code` of specs/Host.antt; here stand the state's bytes after it.
 use Rattle.std.specs.Prelude.{Bool, not, ◌||◌, List, ℕ, ltb, eqb, ℤ, pos, length}
 use Rattle.base.specs.Range.{in_range}
 use Rattle.builder.specs.Input.{refusal}

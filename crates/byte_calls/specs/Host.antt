@@ -41,7 +41,7 @@ left_by a c d t lits records list log cursor =
 unfoldable pub left_of : Cursor → Called → List ℕ → List ℕ → List ℕ → Left
 left_of c y list log cursor = left_by y.outcome.answer c y.outcome.cursor y.table y.list y.log list log cursor
 
--- `calls::propagate`
+-- `on_bytes::propagate`
 unfoldable pub propagated_in : List ℕ → List ℕ → List ℕ → List ℕ → List ℕ → ℤ → ℤ → Called
 propagated_in state t list log cursor lit pending = propagated (state_in state) (cursor_in cursor) lit pending t (list_in list) (log_in (cursor_in cursor) log)
 
@@ -50,7 +50,7 @@ host_propagated state t list log cursor lit pending =
     pick (too_short state cursor) (left_with short t list log cursor)
     (left_of (cursor_in cursor) (propagated_in state t list log cursor lit pending) list log cursor)
 
--- `calls::initialize`
+-- `on_bytes::initialize`
 unfoldable pub initialized_in : List ℕ → List ℕ → List ℕ → List ℕ → List ℕ → Called
 initialized_in state t list log cursor = initialized (state_in state) (cursor_in cursor) t (log_in (cursor_in cursor) log) (list_in list)
 
@@ -58,7 +58,7 @@ unfoldable pub host_initialized : List ℕ → List ℕ → List ℕ → List �
 host_initialized state t list log cursor =
     pick (too_short state cursor) (left_with short t list log cursor) (left_of (cursor_in cursor) (initialized_in state t list log cursor) list log cursor)
 
--- `calls::undo`: the number, and the cursor's bytes
+-- `on_bytes::undo`: the number, and the cursor's bytes
 pub record Back : Type 0 where
   pub code : ℤ
   pub cursor : List ℕ
@@ -93,14 +93,14 @@ host_last state log cursor buffer =
     pick (too_short state cursor) (back short buffer)
     (given_in (last_fetched (state_in state) (cursor_in cursor) (log_in (cursor_in cursor) log) (buffer_in buffer)) buffer)
 
--- `calls::run`: the number of edges, and the buffer's bytes, two for each edge's number
+-- `on_bytes::run`: the number of edges, and the buffer's bytes, two for each edge's number
 unfoldable pub host_run : List ℕ → List ℕ → List ℕ → ℤ → ℤ → List ℕ → Back
 host_run state log cursor from to buffer =
     pick (too_short state cursor) (back short buffer)
     (given_in (run_fetched (state_in state) (cursor_in cursor) (log_in (cursor_in cursor) log) from to (buffer_in buffer))
     buffer)
 
--- `calls::page`: the number of bytes, and the buffer with the page at its start
+-- `on_bytes::page`: the number of bytes, and the buffer with the page at its start
 unfoldable pub page_back : Fetched → Back
 page_back y = back (answer_code y.answer) y.buffer
 
@@ -121,6 +121,6 @@ pub record StateAfter (unchanged : Bool) (s : GraphDivision) (before after : Lis
 abbrev pub AfterOf : Bool → Outcome → List ℕ → List ℕ → Type 0
 AfterOf short y before after = StateAfter (short || is_refused y.answer) y.state before after
 
--- `calls::build`: "Building gives the lowest number that applies", 7 for a state that is shorter than its layout the last
+-- `on_bytes::build`: "Building gives the lowest number that applies", 7 for a state that is shorter than its layout the last
 unfoldable pub build_code : List ℤ → ℕ → List ℤ → ℕ → List ℕ → ℤ
 build_code vs n es m state = pick (eqb (refusal vs n es m) 0) (pick (ltb (length state) 133440) short (pos 0)) (neg_ℤ (pos (fitted (refusal vs n es m))))

@@ -4,7 +4,6 @@
 
 mod build;
 mod bytes;
-pub mod calls;
 mod changes;
 pub mod check;
 mod codes;
@@ -12,6 +11,7 @@ mod decode;
 mod fetch;
 mod initialize;
 mod numbers;
+pub mod on_bytes;
 mod page;
 mod run;
 mod store;

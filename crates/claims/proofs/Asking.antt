@@ -53,9 +53,9 @@ module _ (d : Plan) (start : Kept) (a : At d start calls.built) (before : List R
       ∙ ap (λ (l : List ℕ). sets b 0 (written_by y l)) none_handed
 
   -- it changes nothing but the buffer
-  pub asked-quiet :
+  pub asked_quiet :
       let k = after start before in
       let r = reply k (ask x b rest) in
       (r.state ≡ k.state) × (r.cursor ≡ k.cursor) × (r.log ≡ log_for k rest)
   unfolding reply replied_fetched
-  asked-quiet = (refl, refl, refl)
+  asked_quiet = (refl, refl, refl)

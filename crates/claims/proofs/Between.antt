@@ -34,7 +34,7 @@ use Rattle.claims.specs.Conditions.{call_for, outcome_to}
 use Rattle.claims.specs.Runs.{graph_after, NoRun, unknown_from, unknown_to, all_shut, GivesRun, RunsBetween}
 use Rattle.claims.proofs.Replying.{At, after_at}
 use Rattle.claims.proofs.Lists as lists
-use Rattle.claims.proofs.Asking.{asked_answer, answer_is, buffer_is, asked-quiet}
+use Rattle.claims.proofs.Asking.{asked_answer, answer_is, buffer_is, asked_quiet}
 
 -- ---- numbers from outside
 number_is : (v : ℤ) → in_range (pos 63) v ≡ true → v ≡ pos (to_nat v)
@@ -179,5 +179,5 @@ module _ (d : Plan) (start : Kept) (a : At d start calls.built) (pr : Proper d) 
     given = λ before from to b rest room n. given_by before from to b rest room _ refl n;
     refused = λ before from to b rest room. refused_by before from to b rest room _ refl;
     equal = equal_run;
-    quiet = λ before from to b rest. asked-quiet d start a before (run_between from to) b rest;
+    quiet = λ before from to b rest. asked_quiet d start a before (run_between from to) b rest;
   }

@@ -38,11 +38,11 @@ module _ (vs : List ℤ) (n : ℕ) (es : List ℤ) (m : ℕ) (sameSize extraWall
   at_start = record { represents = fresh_represents vs n es m sameSize extraWalls z; plan = refl }
 
   -- the plan is the one that was given, number by number
-  pub given-built :
+  pub given_built :
       let k = built_start vs n es m sameSize extraWalls in
       Given vs n es m sameSize extraWalls k.state.plan k.state.edges.ends
   unfolding built
-  given-built = (new_proper vs n es m sameSize extraWalls z).2
+  given_built = (new_proper vs n es m sameSize extraWalls z).2
 
   pub proper_built : Proper (built_plan vs n es m sameSize extraWalls)
   unfolding built
@@ -97,7 +97,7 @@ module _ (vs : List ℤ) (n : ℕ) (es : List ℤ) (m : ℕ) (sameSize extraWall
 -- "Both options off, on any plan that builds"
 module _ (vs : List ℤ) (n : ℕ) (es : List ℤ) (m : ℕ) (z : (built vs n es m false false).refusal ≡ 0) where
   plain_built : Plain (built_plan vs n es m false false)
-  plain_built = record { sizes = (given-built vs n es m false false z).same_size; walls = (given-built vs n es m false false z).extra_walls }
+  plain_built = record { sizes = (given_built vs n es m false false z).same_size; walls = (given_built vs n es m false false z).extra_walls }
 
   pub condition_3 : Condition3 (built_start vs n es m false false) (built_plan vs n es m false false)
   condition_3 = lists.condition_three _ _ (at_start vs n es m false false z) (proper_built vs n es m false false z) plain_built

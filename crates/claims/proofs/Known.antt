@@ -51,6 +51,7 @@ module _ (d : Plan) (k : Proper d) where
 
   -- every member of a list
   in_every : {P : ℕ → Type 0} (l : List ℕ) → Every P l → (x : ℕ) → In l x → P x
+  in_every [] _ x m = elim m [ ]
   in_every {P} (y ∷ l) (more p e) x (Memᴰ.head q) = subst P (sym q) p
   in_every (y ∷ l) (more p e) x (Memᴰ.tail m) = in_every l e x m
 

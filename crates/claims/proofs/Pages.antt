@@ -28,7 +28,7 @@ use Rattle.claims.specs.Conditions.{counted, reply_to, call_for, outcome_to}
 use Rattle.claims.specs.Pages.{state_after, PageShort, GivesPage, Pages}
 use Rattle.claims.proofs.Replying.{At}
 use Rattle.claims.proofs.Lists as lists
-use Rattle.claims.proofs.Asking.{asked_answer, answer_is, buffer_is, asked-quiet}
+use Rattle.claims.proofs.Asking.{asked_answer, answer_is, buffer_is, asked_quiet}
 
 module _ (d : Plan) (start : Kept) (a : At d start calls.built) (pr : Proper d) where
   module _ (before : List Request) (b rest : List ℕ) where
@@ -122,5 +122,5 @@ module _ (d : Plan) (start : Kept) (a : At d start calls.built) (pr : Proper d) 
     given = given_page;
     refused = refused_page;
     empty = empty_page;
-    quiet = λ before b rest. asked-quiet d start a before page b rest;
+    quiet = λ before b rest. asked_quiet d start a before page b rest;
   }

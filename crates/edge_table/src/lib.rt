@@ -1,5 +1,4 @@
-// The edge table as a field: an array of pairs in a struct of its own, made and taken out by two functions that are proved
-// by hand, because the prover's own walk does not cover a field that is an array of arrays.
+// The edge table as a field: an array of pairs in a struct of its own, made and taken out by two functions.
 #![tactic(auto)]
 
 ghost use Rattle.std.specs.Prelude.{◌≡◌};

@@ -1,6 +1,5 @@
 -- The undo log by value, as the calls' definitions have it: words, one a record, and a cursor.
 use Rattle.std.specs.Prelude.{List, map, ℕ, replicate}
-use Rattle.undo_log.specs.declared.Record.{Record}
 use Rattle.undo_log.specs.Log.{word_of}
 use Rattle.lent_log.specs.Records.{no_record}
 use Rattle.graph_division.specs.declared.Outcome.{Outcome}

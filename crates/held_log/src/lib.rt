@@ -1,4 +1,4 @@
-// The calls for a caller without a walk of its own: the undo log, records and cursor, by value. Each lends the two to the call
+// The calls for a caller that lends nothing: the undo log, records and cursor, by value. Each lends the two to the call
 // on records.
 #![tactic(auto)]
 

@@ -1,5 +1,5 @@
 // The C host: the calls of crate byte_calls, exported under C's names. A slice is a pointer and a length in C; include/zuntjev.h has the
-// layout of the bytes. Every call takes any bytes. `rt staticlib` proves this crate once more: it stays thin.
+// layout of the bytes. Every call takes any bytes. It is a static library and stays thin.
 #![tactic(auto)]
 
 ghost use Rattle.std.specs.Prelude.{◌≡◌};
@@ -25,7 +25,7 @@ pub extern "C" fn zuntjev_build(
     ensures value { result ≡ build_code (numbers_in 4288 vertices.now) n (numbers_in 384 edges.now) m state.old }
     ensures built_in { BuiltIn (numbers_in 4288 vertices.now) n (numbers_in 384 edges.now) m same_size extra_walls state.old state.new }
 {
-    byte_calls::calls::build(vertices, n, edges, m, same_size, extra_walls, state)
+    byte_calls::on_bytes::build(vertices, n, edges, m, same_size, extra_walls, state)
 }
 
 // Notifies, in rising order, the plan's literals that are true in the table on entry, and analyzes once more.
@@ -41,7 +41,7 @@ pub extern "C" fn zuntjev_initialize(
         ≡ host_initialized state.old table.old list.old log.old cursor.old }
     ensures leaves { Leaves (too_short state.old cursor.old) (initialized_in state.old table.old list.old log.old cursor.old).outcome state.old state.new }
 {
-    byte_calls::calls::initialize(state, table, list, log, cursor)
+    byte_calls::on_bytes::initialize(state, table, list, log, cursor)
 }
 
 // Notifies the literal. With a pending number other than 0 it is only noted.
@@ -59,7 +59,7 @@ pub extern "C" fn zuntjev_propagate(
         ≡ host_propagated state.old table.old list.old log.old cursor.old lit num_pending_propagations }
     ensures leaves { Leaves (too_short state.old cursor.old) (propagated_in state.old table.old list.old log.old cursor.old lit num_pending_propagations).outcome state.old state.new }
 {
-    byte_calls::calls::propagate(
+    byte_calls::on_bytes::propagate(
         state,
         table,
         list,
@@ -76,7 +76,7 @@ pub extern "C" fn zuntjev_undo(state: &mut [u8], log: &[u8], cursor: &mut [u8], 
     ensures cursor_after { back result cursor.new ≡ host_undone state.old log.now cursor.old lit }
     ensures leaves { Leaves (too_short state.old cursor.old) (undone_in state.old log.now cursor.old lit) state.old state.new }
 {
-    byte_calls::calls::undo(state, log, cursor, lit)
+    byte_calls::on_bytes::undo(state, log, cursor, lit)
 }
 
 // The literal's reason goes to the buffer.
@@ -90,7 +90,7 @@ pub extern "C" fn zuntjev_calc_reason(
 ) -> i32
     ensures { back result buffer.new ≡ host_reason state.now log.now cursor.now lit buffer.old }
 {
-    byte_calls::calls::calc_reason(state, log, cursor, lit, buffer)
+    byte_calls::on_bytes::calc_reason(state, log, cursor, lit, buffer)
 }
 
 // The list last left goes to the buffer.
@@ -103,7 +103,7 @@ pub extern "C" fn zuntjev_calc_last(
 ) -> i32
     ensures { back result buffer.new ≡ host_last state.now log.now cursor.now buffer.old }
 {
-    byte_calls::calls::calc_last(state, log, cursor, buffer)
+    byte_calls::on_bytes::calc_last(state, log, cursor, buffer)
 }
 
 // The run of edges, connected or undecided, from one vertex to the other goes to the buffer, two bytes for each
@@ -120,7 +120,7 @@ pub extern "C" fn zuntjev_run(
     ensures { back result buffer.new ≡
         host_run state.now log.now cursor.now from to buffer.old }
 {
-    byte_calls::calls::run(state, log, cursor, from, to, buffer)
+    byte_calls::on_bytes::run(state, log, cursor, from, to, buffer)
 }
 
 // The plan's own test, of the state alone: 0, or -7 where its plan is none that zuntjev_build gives. The calls do not make it.
@@ -137,5 +137,5 @@ pub extern "C" fn zuntjev_page(state: &[u8], log: &[u8], cursor: &[u8], buffer: 
     ensures { back result buffer.new ≡
         host_page state.now log.now cursor.now buffer.old }
 {
-    byte_calls::calls::page(state, log, cursor, buffer)
+    byte_calls::on_bytes::page(state, log, cursor, buffer)
 }

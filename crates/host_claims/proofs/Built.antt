@@ -99,7 +99,7 @@ module _ (vs : List ℤ) (n : ℕ) (es : List ℤ) (m : ℕ) (a b : ℤ) (before
 
   given_in : Given vs n es m (is_on a) (is_on b) (state_in state).plan (state_in state).edges.ends
   given_in = subst (λ (k : Kept). Given vs n es m (is_on a) (is_on b) k.state.plan k.state.edges.ends) (sym start_fresh)
-      (claims.given-built vs n es m (is_on a) (is_on b) accepted)
+      (claims.given_built vs n es m (is_on a) (is_on b) accepted)
 
   -- what holds of the built state and its plan holds of what the bytes stand for
   of_start : (P : Kept → Plan → Type 0) →
@@ -159,7 +159,7 @@ module _ (vs : List ℤ) (n : ℕ) (es : List ℤ) (m : ℕ) (a b : ℤ) (before
     runs_between = of_start RunsBetween (claims.runs_between vs n es m (is_on a) (is_on b) accepted);
     crossed_conflicts = of_start CrossedConflicts (claims.crossed_conflicts vs n es m (is_on a) (is_on b) accepted);
     pages = of_start Pages (claims.pages vs n es m (is_on a) (is_on b) accepted);
-    nothing-standing-proposed =
+    nothing_standing_proposed =
         of_start NothingStandingProposed (claims.nothing_standing_proposed vs n es m (is_on a) (is_on b) accepted);
     condition_1 = first_condition;
     condition_2 = second_condition;

@@ -2,11 +2,10 @@
 -- the records' words: so what is said of every list of requests, the conditions of the order among it, holds of calls on records.
 --     made_replies     each call's reply is the flat one's, and so is what is kept after it
 --     runs_in_words    where a list of calls leads
-use mathlib.Core.Path.{◌≡◌, refl, sym, ap, ap₂, ◌∙◌}
+use mathlib.Core.Path.{◌≡◌, refl, ap, ap₂, ◌∙◌}
 use mathlib.Core.Bool.{false}
 use mathlib.Core.List.{List, [], ◌∷◌, ◌++◌, map, map-append}
 use Prim.Native.Nat.{ℕ, zero, suc}
-use lib.IntN.{ℤ}
 use lib.ListN.{take}
 use Rattle.base.proofs.Loop.{pick_ind, pick_no}
 use Rattle.edge_table.specs.declared.EdgeTable.{EdgeTable}
@@ -20,7 +19,7 @@ use Rattle.judge.specs.Judge.{Judged}
 use Rattle.notifications.specs.declared.Progress.{Progress}
 use Rattle.graph_division.specs.declared.GraphDivision.{GraphDivision}
 use Rattle.graph_division.specs.declared.Outcome.{Outcome}
-use Rattle.graph_division.specs.Calls.{Called, Fetched, called, fetched, refuse, with_noted, with_judged, adding, accepting, handing_on, settled_by, settled, propagated, undone}
+use Rattle.graph_division.specs.Calls.{Called, refuse, with_noted, with_judged, adding, accepting, handing_on, settled_by, settled, propagated, undone}
 use Rattle.graph_division.specs.Initialize.{taken_over, taking, ended_by, begun, initialized}
 use Rattle.graph_division.specs.Runs.{Request, initialize, propagate, undo, ask, kept, Reply, replied, replied_called, replied_fetched, asked, reply, after}
 use Rattle.graph_division.specs.Runs as flat

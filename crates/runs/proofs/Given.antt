@@ -43,10 +43,12 @@ both_first [] (y ∷ m) h a b = absurd (omega arith)
 both_first (x ∷ l) [] h a b = absurd (omega arith)
 both_first (x ∷ l) (y ∷ m) h a b =
     elim (first_parts x y l m a) [
-      inl s ↦ elim (first_parts y x m l b) [ inl t ↦ absurd (omega arith) | inr t ↦ absurd (omega (arith, t.0)) ]
-    | inr s ↦ elim (first_parts y x m l b) [
-        inl t ↦ absurd (omega (arith, s.0))
-      | inr t ↦ let e : l ≡ m = both_first l m (omega arith) s.1 t.1 in λ i. s.0 i ∷ e i ] ]
+      | inl s ↦ elim (first_parts y x m l b) [ inl t ↦ absurd (omega arith) | inr t ↦ absurd (omega (arith, t.0)) ]
+      | inr s ↦ elim (first_parts y x m l b) [
+        | inl t ↦ absurd (omega (arith, s.0))
+        | inr t ↦ let e : l ≡ m = both_first l m (omega arith) s.1 t.1 in λ i. s.0 i ∷ e i
+      ]
+    ]
 
 pub best_one : {e : Graph} {edges p q : ℕ} (l m : List ℕ) → Best e edges p q l → Best e edges p q m → l ≡ m
 best_one {e} l m a b =

@@ -5,7 +5,8 @@
 
 mod output;
 
-ghost use Rattle.std.specs.Prelude.{◌≡◌, ◌≤◌, length, replicate};
+ghost use Rattle.std.specs.Prelude.{◌≡◌, ◌≤◌, IsTrue, length, replicate, take};
+ghost use Rattle.std.specs.Io.KnownBytes.{Consumes, IsAtEnd};
 ghost use Rattle.yard.specs.Output.{AllTold, Refusing, Obeying};
 
 use crate::output::{Shown, has_failed, nothing, show};
@@ -97,8 +98,9 @@ fn answer(rt: &impl Print, input: &[u8]) -> Shown
 }
 
 // Reads until `buf` is full, the input ends or a read fails, and says how many bytes it put at the start of `buf`.
-fn read_full(reader: &mut impl Read, buf: &mut [u8]) -> usize
-    ensures { result ≤ length buf.new }
+fn read_full<R: Read>(reader: &mut R, buf: &mut [u8]) -> usize
+    ensures in_bounds { result ≤ length buf.new }
+    ensures bytes { Consumes (R.remaining reader.old) (R.remaining reader.new) (take result buf.new) }
 {
     let mut done = 0;
     while done < buf.len() {
@@ -110,9 +112,17 @@ fn read_full(reader: &mut impl Read, buf: &mut [u8]) -> usize
     done
 }
 
+fn buffer() -> [u8; 4096]
+    ensures { 4096 ≡ length result }
+{
+    [0; 4096]
+}
+
 // Whether the input ended where reading stopped: one more read gives no byte and does not fail.
-fn has_ended(reader: &mut impl Read) -> bool {
-    let mut more = [0u8; 4096];
+fn has_ended<R: Read>(reader: &mut R) -> bool
+    ensures { IsTrue result → IsAtEnd (R.remaining reader.new) }
+{
+    let mut more = buffer();
     matches!(reader.read(&mut more), Ok(0))
 }
 

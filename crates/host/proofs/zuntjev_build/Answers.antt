@@ -10,4 +10,4 @@ returns c =
     let f = c.build in
     let given = c.ranges in
     let number = to_z-of_z {w = w32} {z = f.result} (record { sfits = f.type_inv }) in
-    (number ∙ f.ensures.0, built_handed _ _ _ _ _ _ _ _ _ _ (to_z-of_z given.same_size) (to_z-of_z given.extra_walls) f.ensures.1)
+    record { value = number ∙ f.ensures.value; built_in = built_handed _ _ _ _ _ _ _ _ _ _ (to_z-of_z given.same_size) (to_z-of_z given.extra_walls) f.ensures.built_in }

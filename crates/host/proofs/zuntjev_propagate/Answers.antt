@@ -16,8 +16,8 @@ returns c =
     let log = a.log.now in
     let cursor = a.cursor.now in
     let lit = to_z-of_z c.ranges.lit in
-    let pending = to_z-of_z c.ranges.num_pending_propagations in (
-      left_handed _ _ _ _ _ _ _ (to_z-of_z {w = w32} {z = f.result} (record { sfits = f.type_inv }))
-          (f.ensures.0 ∙ (λ i. host_propagated state t list log cursor (lit i) (pending i))),
-      leaves_handed (too_short state cursor) _ _ _ _ (λ i. (propagated_in state t list log cursor (lit i) (pending i)).outcome) f.ensures.1,
-    )
+    let pending = to_z-of_z c.ranges.num_pending_propagations in record {
+      cursor_after = left_handed _ _ _ _ _ _ _ (to_z-of_z {w = w32} {z = f.result} (record { sfits = f.type_inv }))
+          (f.ensures.cursor_after ∙ (λ i. host_propagated state t list log cursor (lit i) (pending i)));
+      leaves = leaves_handed (too_short state cursor) _ _ _ _ (λ i. (propagated_in state t list log cursor (lit i) (pending i)).outcome) f.ensures.leaves;
+    }

@@ -13,7 +13,4 @@ returns c =
     let state = a.state.now in
     let log = a.log.now in
     let cursor = a.cursor.now in
-    let lit = to_z-of_z c.ranges.lit in (
-      back_handed _ _ _ _ (to_z-of_z {w = w32} {z = f.result} (record { sfits = f.type_inv })) (f.ensures.0 ∙ ap (host_undone state log cursor) lit),
-      leaves_handed (too_short state cursor) _ _ _ _ (ap (undone_in state log cursor) lit) f.ensures.1,
-    )
+    let lit = to_z-of_z c.ranges.lit in record { cursor_after = back_handed _ _ _ _ (to_z-of_z {w = w32} {z = f.result} (record { sfits = f.type_inv })) (f.ensures.cursor_after ∙ ap (host_undone state log cursor) lit); leaves = leaves_handed (too_short state cursor) _ _ _ _ (ap (undone_in state log cursor) lit) f.ensures.leaves }

@@ -2,7 +2,6 @@ use mathlib.Core.Path.{ap, ◌∙◌}
 use mathlib.Core.List.{List}
 use Prim.Native.Nat.{ℕ}
 use Rattle.noting.specs.Buffers.{log_short}
-use borrow.Author.Rules.{rules}
 use Rattle.record_calls.proofs.is_short.Goals as goal
 
 pub returns : goal.returns

@@ -1,6 +1,5 @@
 use mathlib.Core.Path.{ap, ◌∙◌}
 use mathlib.Core.Bool.{not, not-not}
-use borrow.Author.Rules.{rules}
 use Rattle.record_calls.proofs.plan_fails.Goals as goal
 
 pub returns : goal.returns

@@ -3,7 +3,6 @@ use mathlib.Core.Bool.{true, not}
 use borrow.Author.Tests.{lt-ltb, le-ltb}
 use Rattle.base.proofs.Tests.{or_yes, or_next, or_both}
 use Rattle.record_calls.specs.Reach.{reaches}
-use borrow.Author.Rules.{rules}
 use Rattle.record_calls.proofs.reaches.Goals as goal
 
 pub returns-then-plan_fails : goal.returns-then-plan_fails

@@ -8,13 +8,14 @@ use Rattle.desk.specs.Session.{session}
 use Rattle.desk.proofs.Printing.{written_within}
 use Rattle.desk.proofs.Speaking.{Shows, shows, refusal_shown}
 use borrow.Author.Rules.{rules}
+use Rattle.yard.proofs.refuse.Given.{Over}
 use Rattle.yard.proofs.refuse.Goals as goal
 use Rattle.yard.proofs.refuse.Goals.{After-print_refusal-n}
 
-shown : (c : After-print_refusal-n) →
+shown : (g : Over) (c : After-print_refusal-n g) →
     (take c.print_refusal-n.result c.print_refusal-n.new.out ≡ take c.print_refusal-n.result (drop 0 (session c.args.input.now)))
     × (c.print_refusal-n.result ≡ length (session c.args.input.now))
-shown c =
+shown g c =
     let a = c.args in
     let p = c.requires in
     let k = c.print_refusal-n in
@@ -22,15 +23,15 @@ shown c =
     (shows (answer_line 69 (a.started.refusal ∷ [])) _ k.new.out k.result (omega (arith, k.ensures.1)) k.ensures.0)
 
 pub show-requires : goal.show-requires
-show-requires c =
+show-requires g c =
     let z : c.nothing.result.told ≡ 0 = c.nothing.ensures in (
       omega (arith, written_within _ _ _ _ c.print_refusal-n.ensures.0),
-      (shown (goal.at.show-requires c).After-print_refusal-n).0 ∙ ap (λ (k : ℕ). take c.print_refusal-n.result (drop k (session c.args.input.now))) (sym z),
+      (shown g (goal.at.show-requires g c).After-print_refusal-n).0 ∙ ap (λ (k : ℕ). take c.print_refusal-n.result (drop k (session c.args.input.now))) (sym z),
       omega (arith, written_within _ _ _ _ c.print_refusal-n.ensures.0),
     )
 
 pub returns : goal.returns
-returns c =
+returns g c =
     let z : c.nothing.result.told ≡ 0 = c.nothing.ensures in
-    let e = (shown (goal.at.returns c).After-print_refusal-n).1 in
+    let e = (shown g (goal.at.returns g c).After-print_refusal-n).1 in
     omega (arith, c.show.ensures)

@@ -15,7 +15,7 @@ unfolding state_after with_judged
 returns-then-judged c =
     let a = c.args in
     let h : a.done.judged ≡ true = cc in
-    ap (λ (rs : Reasons). record { plan = a.s.plan; edges = a.s.edges; noted = a.noted; reasons = rs; last = a.left; last_len = a.done.len; initialized = a.s.initialized }) ((goal.at.returns-then-judged c).After-record-reasons.«record».ensures ∙ ap (λ (ws : List ℕ). recorded ws a.proposals.now a.s.reasons) c.plan_bytes-plan.ensures)
+    ap (λ (rs : Reasons). record { plan = a.s.plan; edges = a.s.edges; noted = a.noted; reasons = rs; last = a.left; last_len = a.done.len; initialized = a.s.initialized }) (c.record-reasons.ensures ∙ ap (λ (ws : List ℕ). recorded ws a.proposals.now a.s.reasons) c.plan_bytes-plan.ensures)
     ∙ sym (pick_yes _ _ h)
 
 pub returns : goal.returns

@@ -24,21 +24,21 @@ unfolding build_code
 returns-then-state-lt133440 c =
     let z : eqb (refusal c.args.vertices.now c.args.n c.args.edges.now c.args.m) 0 ≡ true = eq-eqb _ _ (sym c.refusal_of-refusal.ensures ∙ c.if-refusal-eq0.true) in
     let l : ltb (length c.args.state.now) 133440 ≡ true = lt-ltb _ _ c.if-state-lt133440.true in
-    (sym (pick_yes _ _ z ∙ pick_yes _ _ l), refused_after _ _ c.args.state.now (short_refused c.args.vertices.now c.args.n c.args.edges.now c.args.m c.args.state.now z l))
+    record { value = sym (pick_yes _ _ z ∙ pick_yes _ _ l); built_in = refused_after _ _ c.args.state.now (short_refused c.args.vertices.now c.args.n c.args.edges.now c.args.m c.args.state.now z l) }
 
 pub returns-then-refusal-eq0 : goal.returns-then-refusal-eq0
 unfolding build_code
 returns-then-refusal-eq0 c =
     let z : eqb (refusal c.args.vertices.now c.args.n c.args.edges.now c.args.m) 0 ≡ true = eq-eqb _ _ (sym c.refusal_of-refusal.ensures ∙ c.if-refusal-eq0.true) in
-    let l : ltb (length c.args.state.now) 133440 ≡ false = le-ltb _ _ c.if-state-lt133440.false in (
-      sym (pick_yes _ _ z ∙ pick_no _ _ l),
-      accepted_after _ _ _ _ _ (not_refused c.args.vertices.now c.args.n c.args.edges.now c.args.m c.args.state.now z l)
+    let l : ltb (length c.args.state.now) 133440 ≡ false = le-ltb _ _ c.if-state-lt133440.false in record {
+      value = sym (pick_yes _ _ z ∙ pick_no _ _ l);
+      built_in = accepted_after _ _ _ _ _ (not_refused c.args.vertices.now c.args.n c.args.edges.now c.args.m c.args.state.now z l)
           (λ i. (built c.args.vertices.now c.args.n c.args.edges.now c.args.m ((c.option.ensures ∙ ap (λ (o : ℤ). is_on o) (to_z-of_z c.ranges.same_size)) i) ((c.option-then-refusal-eq0.ensures ∙ ap (λ (o : ℤ). is_on o) (to_z-of_z c.ranges.extra_walls)) i)).state)
-          c.build.ensures,
-    )
+          c.build.ensures;
+    }
 
 pub returns : goal.returns
 unfolding build_code
 returns c =
     let z : eqb (refusal c.args.vertices.now c.args.n c.args.edges.now c.args.m) 0 ≡ false = ne_eqb _ _ (λ (e : refusal c.args.vertices.now c.args.n c.args.edges.now c.args.m ≡ 0). c.if-refusal-eq0.false (c.refusal_of-refusal.ensures ∙ e)) in
-    (fitted_neg _ _ (c.refusal_code.ensures ∙ ap (λ (k : ℕ). neg_ℤ (pos (fitted k))) c.refusal_of-refusal.ensures) ∙ sym (pick_no _ _ z), refused_after _ _ c.args.state.now (wrong_refused c.args.vertices.now c.args.n c.args.edges.now c.args.m c.args.state.now z))
+    record { value = fitted_neg _ _ (c.refusal_code.ensures ∙ ap (λ (k : ℕ). neg_ℤ (pos (fitted k))) c.refusal_of-refusal.ensures) ∙ sym (pick_no _ _ z); built_in = refused_after _ _ c.args.state.now (wrong_refused c.args.vertices.now c.args.n c.args.edges.now c.args.m c.args.state.now z) }

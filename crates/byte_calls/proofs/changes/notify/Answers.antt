@@ -24,7 +24,4 @@ returns c =
     let y : Called = propagated_in a.state.now a.table.now a.list.now a.log.now a.cursor.now a.lit a.num_pending_propagations in
     let e : called_of s _ _ _ _ _ _ _ ≡ y = c.propagate-done.ensures s (parts_in a.state.now (plan_here a.state.now p.0) p.1 p.2)
     ∙ ((λ i. propagated_over s (p.4 i) (c.no_words-proposals.ensures i) (c.no_list-words.ensures i) (to_z-of_z c.ranges.lit i) (to_z-of_z c.ranges.num_pending_propagations i) a.table.now (p.3 i) ((p.5 ∙ ap (λ (q : Cursor). log_in q a.log.now) p.4) i))
-    ∙ over_zeros s (cursor_in a.cursor.now) a.lit a.num_pending_propagations a.table.now (list_in a.list.now) (log_in (cursor_in a.cursor.now) a.log.now)) in (
-      left_back (cursor_in a.cursor.now) y _ _ _ _ _ _ _ _ (leaves _ a.before _ _ _ _ _ _ _ y e _ _ _ _ _ _ _ f.ensures.0 ∙ ap (λ (q : Cursor). left_of q y a.list.now a.log.now a.cursor.now) p.4),
-      state_left _ a.before _ _ _ _ _ _ _ y e a.state.now _ refl f.ensures.1.0 f.ensures.1.1.0 f.ensures.1.1.1,
-    )
+    ∙ over_zeros s (cursor_in a.cursor.now) a.lit a.num_pending_propagations a.table.now (list_in a.list.now) (log_in (cursor_in a.cursor.now) a.log.now)) in record { cursor_after = left_back (cursor_in a.cursor.now) y _ _ _ _ _ _ _ _ (leaves _ a.before _ _ _ _ _ _ _ y e _ _ _ _ _ _ _ f.ensures.cursor_after ∙ ap (λ (q : Cursor). left_of q y a.list.now a.log.now a.cursor.now) p.4); after_of = state_left _ a.before _ _ _ _ _ _ _ y e a.state.now _ refl f.ensures.state_unchanged f.ensures.state_after f.ensures.bytes_kept }

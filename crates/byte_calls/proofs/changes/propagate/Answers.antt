@@ -29,7 +29,4 @@ returns c =
     (to_z-of_z f.lit) (to_z-of_z f.num_pending_propagations) in
     let list = a.list.now in
     let log = a.log.now in
-    let cursor = a.cursor.now in (
-      left_back (cursor_in cursor) _ list log cursor _ _ _ _ _ (n.0 ∙ ap (λ (y : Called). left_of (cursor_in cursor) y list log cursor) y),
-      after_is _ _ _ _ y n.1,
-    )
+    let cursor = a.cursor.now in record { cursor_after = left_back (cursor_in cursor) _ list log cursor _ _ _ _ _ (n.cursor_after ∙ ap (λ (y : Called). left_of (cursor_in cursor) y list log cursor) y); after_of = after_is _ _ _ _ y n.after_of }

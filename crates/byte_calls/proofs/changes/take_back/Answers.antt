@@ -13,16 +13,13 @@ pub returns-then-is_refused : goal.returns-then-is_refused
 returns-then-is_refused c =
     let a = c.args in
     let p = c.requires in
-    let e = c.undo-done.ensures.0 (state_in a.state.now) (parts_in a.state.now (plan_here a.state.now p.0) p.2 p.3) ∙ ap (λ (z : ℤ). undone (state_in a.state.now) a.before z a.records.now) (to_z-of_z c.ranges.lit) in
+    let e = c.undo-done.ensures.answer_after (state_in a.state.now) (parts_in a.state.now (plan_here a.state.now p.0) p.2 p.3) ∙ ap (λ (z : ℤ). undone (state_in a.state.now) a.before z a.records.now) (to_z-of_z c.ranges.lit) in
     let r = sym c.is_refused.ensures ∙ c.if-is_refused.true in
-    (undo_left _ _ _ _ _ e a.state.now refl _ _ c.code_of.ensures r, state_same _ _ _ _ _ e a.state.now refl r)
+    record { cursor_after = undo_left _ _ _ _ _ e a.state.now refl _ _ c.code_of.ensures r; after_of = state_same _ _ _ _ _ e a.state.now refl r }
 
 pub returns : goal.returns
 returns c =
     let a = c.args in
     let p = c.requires in
-    let e = c.undo-done.ensures.0 (state_in a.state.now) (parts_in a.state.now (plan_here a.state.now p.0) p.2 p.3) ∙ ap (λ (z : ℤ). undone (state_in a.state.now) a.before z a.records.now) (to_z-of_z c.ranges.lit) in
-    let r = sym c.is_refused.ensures ∙ c.if-is_refused.false in (
-      undo_kept _ _ _ _ _ e a.state.now refl _ _ _ c.code_of-2.ensures r c.store_cursor.ensures,
-      state_stored _ _ _ _ _ e a.state.now refl _ r c.store_noted.ensures.1 (noted_kept _ _ _ c.store_noted.ensures.0),
-    )
+    let e = c.undo-done.ensures.answer_after (state_in a.state.now) (parts_in a.state.now (plan_here a.state.now p.0) p.2 p.3) ∙ ap (λ (z : ℤ). undone (state_in a.state.now) a.before z a.records.now) (to_z-of_z c.ranges.lit) in
+    let r = sym c.is_refused.ensures ∙ c.if-is_refused.false in record { cursor_after = undo_kept _ _ _ _ _ e a.state.now refl _ _ _ c.code_of-2.ensures r c.store_cursor.ensures; after_of = state_stored _ _ _ _ _ e a.state.now refl _ r c.store_noted.ensures.1 (noted_kept _ _ _ c.store_noted.ensures.0) }

@@ -23,4 +23,4 @@ returns c =
     let cursor = c.args.cursor.now in
     let lit = to_z-of_z c.ranges.lit in
     let y = undone_read _ (cursor_decoded _ _ _ d) lit (records_in_lem _ _ _ d c.room_of-k.ensures) in
-    (undo_back _ _ _ _ (c.take_back.ensures.0 ∙ ap (λ (y : Outcome). back_by y cursor) y), undo_after _ _ _ _ y c.take_back.ensures.1)
+    record { cursor_after = undo_back _ _ _ _ (c.take_back.ensures.cursor_after ∙ ap (λ (y : Outcome). back_by y cursor) y); after_of = undo_after _ _ _ _ y c.take_back.ensures.after_of }

@@ -33,7 +33,4 @@ returns c =
     let s : GraphDivision = state_in a.state.now in
     let e : begun_of s _ _ _ _ _ _ _ ≡ y = c.initialize-done.ensures s (parts_in a.state.now (plan_here a.state.now p.0) p.1 p.2) p.3 w.ensures k.ensures
     ∙ ((λ i. initialized_over s (p.5 i) (c.no_words-words.ensures i) a.table.now ((p.6 ∙ ap (λ (q : Cursor). log_in q a.log.now) p.5) i) (p.4 i))
-    ∙ begun_over_zeros s (cursor_in a.cursor.now) a.table.now (log_in (cursor_in a.cursor.now) a.log.now) (list_in a.list.now)) in (
-      left_back (cursor_in a.cursor.now) y _ _ _ _ _ _ _ _ (begun_leaves _ a.before _ _ _ _ _ _ _ y e _ _ _ _ _ _ _ (f.ensures.0) ∙ ap (λ (q : Cursor). left_of q y a.list.now a.log.now a.cursor.now) p.5),
-      begun_state _ a.before _ _ _ _ _ _ _ y e a.state.now _ _ refl (f.ensures.1.0) f.ensures.1.1.0 c.store_initialized.ensures.0 c.store_initialized.ensures.1.0 f.ensures.1.1.1 c.store_initialized.ensures.1.1,
-    )
+    ∙ begun_over_zeros s (cursor_in a.cursor.now) a.table.now (log_in (cursor_in a.cursor.now) a.log.now) (list_in a.list.now)) in record { cursor_after = left_back (cursor_in a.cursor.now) y _ _ _ _ _ _ _ _ (begun_leaves _ a.before _ _ _ _ _ _ _ y e _ _ _ _ _ _ _ (f.ensures.cursor_after) ∙ ap (λ (q : Cursor). left_of q y a.list.now a.log.now a.cursor.now) p.5); after_of = begun_state _ a.before _ _ _ _ _ _ _ y e a.state.now _ _ refl (f.ensures.state_unchanged) f.ensures.state_after c.store_initialized.ensures.state_after c.store_initialized.ensures.state_unchanged f.ensures.bytes_kept c.store_initialized.ensures.bytes_kept }

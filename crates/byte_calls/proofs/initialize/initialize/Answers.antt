@@ -24,4 +24,4 @@ pub returns : goal.returns
 returns c =
     let a = c.args in
     let b = c.begin.ensures in
-    (left_back (cursor_in a.cursor.now) _ a.list.now a.log.now a.cursor.now _ _ _ _ _ b.0, b.1)
+    record { cursor_after = left_back (cursor_in a.cursor.now) _ a.list.now a.log.now a.cursor.now _ _ _ _ _ b.cursor_after; after_of = b.after_of }

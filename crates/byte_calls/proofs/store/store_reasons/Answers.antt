@@ -30,8 +30,7 @@ loop-p-smaller c = let t = next_told c.next_proposed-p-in-loop-p.ensures in let 
 
 pub loop-p-preserved : goal.loop-p-preserved
 loop-p-preserved c =
-    let e = c.next_proposed-p-in-loop-p.ensures in
-    (
+    let e = c.next_proposed-p-in-loop-p.ensures in (
       (next_told e).most,
       next_turn _ _ _ (put_reason_idle _) _ _ _ _ (omega arith) e
           (iter_more _ _ _ _ _ c.loop-p.invariant.1 c.store_reason.ensures),

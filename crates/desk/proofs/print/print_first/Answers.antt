@@ -9,8 +9,7 @@ use borrow.Author.Rules.{rules}
 use Rattle.desk.proofs.print.print_first.Goals as goal
 
 pub returns-then-values-n : goal.returns-then-values-n
-returns-then-values-n c =
-    (
+returns-then-values-n c = (
   answered _ _ _ _ _ _ _ c.count_of.ensures c.write_answer.ensures (sym (take_all c.args.n c.args.values.now (omega arith))),
   (answer_few c.args.letter c.args.n c.args.values.now (λ i. (c.shared_slice_known-1.given i).fits) (omega arith)),
 )

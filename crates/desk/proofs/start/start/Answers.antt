@@ -6,8 +6,8 @@ use Rattle.desk.proofs.start.start.Goals as goal
 
 pub returns-then-well_formed : goal.returns-then-well_formed
 unfolding started
-returns-then-well_formed c = c.start_plan.ensures ∙ sym (pick_yes _ _ (sym c.well-formed-2.ensures ∙ c.if-well_formed.true))
+returns-then-well_formed c = c.start_plan.ensures ∙ sym (pick_yes _ _ (sym c.well_formed-2.ensures ∙ c.if-well_formed.true))
 
 pub returns : goal.returns
 unfolding started
-returns c = c.refuse_input.ensures ∙ sym (pick_no _ _ (sym c.well-formed-2.ensures ∙ c.if-well_formed.false))
+returns c = c.refuse_input.ensures ∙ sym (pick_no _ _ (sym c.well_formed-2.ensures ∙ c.if-well_formed.false))

@@ -37,8 +37,7 @@ loop-p-smaller c = let t = next_told c.next_proposed-p-in-loop-p.ensures in let 
 
 pub loop-p-preserved : goal.loop-p-preserved
 loop-p-preserved c =
-    let e = c.next_proposed-p-in-loop-p.ensures in
-    (
+    let e = c.next_proposed-p-in-loop-p.ensures in (
       (next_told e).most,
       (
         c.loop-p.invariant.1.0,

@@ -46,8 +46,9 @@ loop-i-preserved c =
     let t = c.args.table.now in (
       omega arith,
       elim c.if-table-i-gt4.branch [
-        then-table-i-gt4 w ↦ w.bad-is ∙ bad_entry t l.i w.if-table-i-gt4.true
-      | else-table-i-gt4 w ↦ w.bad-is ∙ fine_entry t l.i l.bad w.if-table-i-gt4.false l.invariant.1 ],
+        | then-table-i-gt4 w ↦ w.bad-is ∙ bad_entry t l.i w.if-table-i-gt4.true
+        | else-table-i-gt4 w ↦ w.bad-is ∙ fine_entry t l.i l.bad w.if-table-i-gt4.false l.invariant.1
+      ],
     )
 
 pub returns : goal.returns

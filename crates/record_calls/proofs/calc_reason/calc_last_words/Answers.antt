@@ -1,6 +1,5 @@
 use mathlib.Core.Path.{sym, ◌∙◌}
 use Rattle.base.proofs.Loop.{pick_yes, pick_no}
-use borrow.Author.Rules.{rules}
 use Rattle.record_calls.proofs.calc_reason.calc_last_words.Goals as goal
 
 pub returns-then-reaches : goal.returns-then-reaches

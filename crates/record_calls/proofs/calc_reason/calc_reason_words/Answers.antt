@@ -2,7 +2,6 @@ use mir.Facts.{to_z-of_z}
 use Rattle.graph_division.specs.Calls.{reason_fetched}
 use mathlib.Core.Path.{sym, ◌∙◌}
 use Rattle.base.proofs.Loop.{pick_yes, pick_no}
-use borrow.Author.Rules.{rules}
 use Rattle.record_calls.proofs.calc_reason.calc_reason_words.Goals as goal
 
 pub returns-then-reaches : goal.returns-then-reaches

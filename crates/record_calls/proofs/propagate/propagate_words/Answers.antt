@@ -4,7 +4,6 @@ use mathlib.Core.Path.{sym, ap, ◌∙◌}
 use Rattle.base.proofs.Loop.{pick_yes, pick_no}
 use Rattle.graph_division.specs.declared.Outcome.{Outcome}
 use Rattle.graph_division.specs.Calls.{called}
-use borrow.Author.Rules.{rules}
 use Rattle.record_calls.proofs.propagate.propagate_words.Goals as goal
 
 pub returns-then-reaches : goal.returns-then-reaches

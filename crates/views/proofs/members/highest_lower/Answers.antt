@@ -28,8 +28,9 @@ pub loop-i-preserved : goal.loop-i-preserved
 loop-i-preserved c =
     choose_next _ _ _ _ _ _ _ c.loop-i.invariant c.loop-i-test.true c.vertex-c.ensures
     (elim c.if-lower_bound.branch [
-       then-lower_bound w ↦ chosen_yes _ _ _ _ _ _ _ c.lower_bound.ensures c.lower_bound-in-loop-i.ensures w.if-lower_bound.true w.a-is
-     | else-lower_bound w ↦ chosen_no _ _ _ _ _ _ _ c.lower_bound.ensures c.lower_bound-in-loop-i.ensures w.if-lower_bound.false w.a-is ])
+      | then-lower_bound w ↦ chosen_yes _ _ _ _ _ _ _ c.lower_bound.ensures c.lower_bound-in-loop-i.ensures w.if-lower_bound.true w.a-is
+      | else-lower_bound w ↦ chosen_no _ _ _ _ _ _ _ c.lower_bound.ensures c.lower_bound-in-loop-i.ensures w.if-lower_bound.false w.a-is
+    ])
 
 pub returns : goal.returns
 returns c = choose_ends _ _ _ _ _ c.loop-i.invariant (omega arith)

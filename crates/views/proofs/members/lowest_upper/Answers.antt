@@ -28,8 +28,9 @@ pub loop-i-preserved : goal.loop-i-preserved
 loop-i-preserved c =
     choose_next _ _ _ _ _ _ _ c.loop-i.invariant c.loop-i-test.true c.vertex-c.ensures
     (elim c.if-upper_bound.branch [
-       then-upper_bound w ↦ chosen_yes _ _ _ _ _ _ _ c.upper_bound.ensures c.upper_bound-in-loop-i.ensures w.if-upper_bound.true w.a-is
-     | else-upper_bound w ↦ chosen_no _ _ _ _ _ _ _ c.upper_bound.ensures c.upper_bound-in-loop-i.ensures w.if-upper_bound.false w.a-is ])
+      | then-upper_bound w ↦ chosen_yes _ _ _ _ _ _ _ c.upper_bound.ensures c.upper_bound-in-loop-i.ensures w.if-upper_bound.true w.a-is
+      | else-upper_bound w ↦ chosen_no _ _ _ _ _ _ _ c.upper_bound.ensures c.upper_bound-in-loop-i.ensures w.if-upper_bound.false w.a-is
+    ])
 
 pub returns : goal.returns
 returns c = choose_ends _ _ _ _ _ c.loop-i.invariant (omega arith)

@@ -3,7 +3,7 @@ use Rattle.byte_calls.specs.Host.{page_in}
 use Rattle.byte_calls.proofs.Undoing.{page_again}
 use Rattle.byte_calls.proofs.Leaving.{short_is, short_page, long_page}
 use borrow.Author.Rules.{rules}
-use Rattle.byte_calls.proofs.calls.page.Goals as goal
+use Rattle.byte_calls.proofs.on_bytes.page.Goals as goal
 
 pub returns-then-too_short : goal.returns-then-too_short
 returns-then-too_short c =

@@ -12,13 +12,13 @@ use Rattle.graph_division.specs.Calls.{Called, Fetched, reason_fetched, last_fet
 use Rattle.graph_division.specs.declared.Outcome.{Outcome}
 use mir.Facts.{to_z-of_z}
 use borrow.Author.Rules.{rules}
-use Rattle.byte_calls.proofs.calls.calc_last.Goals as goal
+use Rattle.byte_calls.proofs.on_bytes.calc_reason.Goals as goal
 
 pub returns-then-too_short : goal.returns-then-too_short
-returns-then-too_short c = short_last c.args.state.now c.args.log.now c.args.cursor.now _ (sym c.too_short.ensures ∙ c.if-too_short.true)
+returns-then-too_short c = short_reason c.args.state.now c.args.log.now c.args.cursor.now _ _ (sym c.too_short.ensures ∙ c.if-too_short.true)
 
-pub calc_last-requires : goal.calc_last-requires
-calc_last-requires c = short_is _ _ (sym c.too_short.ensures ∙ c.if-too_short.false)
+pub calc_reason-requires : goal.calc_reason-requires
+calc_reason-requires c = short_is _ _ (sym c.too_short.ensures ∙ c.if-too_short.false)
 
 pub returns : goal.returns
-returns c = long_last c.args.state.now c.args.log.now c.args.cursor.now _ _ (sym c.too_short.ensures ∙ c.if-too_short.false) (given_back _ _ _ _ c.calc_last.ensures)
+returns c = long_reason c.args.state.now c.args.log.now c.args.cursor.now _ _ _ (sym c.too_short.ensures ∙ c.if-too_short.false) (given_back _ _ _ _ (c.calc_reason.ensures ∙ ap (λ (y : Fetched). given_in y c.args.buffer.now) (λ i. reason_fetched (state_in c.args.state.now) (cursor_in c.args.cursor.now) (log_in (cursor_in c.args.cursor.now) c.args.log.now) (to_z-of_z c.ranges.lit i) (buffer_in c.args.buffer.now))))

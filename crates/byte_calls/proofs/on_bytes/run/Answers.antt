@@ -5,7 +5,7 @@ use Rattle.byte_calls.specs.Host.{given_in}
 use Rattle.byte_calls.proofs.Undoing.{given_back, run_read}
 use Rattle.byte_calls.proofs.Leaving.{short_is, short_run, long_run}
 use borrow.Author.Rules.{rules}
-use Rattle.byte_calls.proofs.calls.run.Goals as goal
+use Rattle.byte_calls.proofs.on_bytes.run.Goals as goal
 
 pub returns-then-too_short : goal.returns-then-too_short
 returns-then-too_short c =

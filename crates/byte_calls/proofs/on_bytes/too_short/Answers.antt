@@ -6,7 +6,7 @@ use mathlib.Core.List.{List, ◌∷◌, []}
 use Rattle.byte_calls.specs.Host.{too_short, back, given_in, back_of, back_by}
 use borrow.Author.Tests.{lt-ltb, le-ltb, eq-eqb, ne_eqb}
 use Rattle.base.proofs.Tests.{or_yes, or_next}
-use Rattle.byte_calls.proofs.calls.too_short.Goals as goal
+use Rattle.byte_calls.proofs.on_bytes.too_short.Goals as goal
 
 pub returns-then-state-lt133440 : goal.returns-then-state-lt133440
 unfolding too_short
