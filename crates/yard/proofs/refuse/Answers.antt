@@ -1,13 +1,12 @@
 use mathlib.Core.Path.{◌≡◌, sym, ap, ◌∙◌}
 use mathlib.Core.List.{[], ◌∷◌}
-use Prim.Native.Nat.{ℕ, ◌≤◌}
+use Prim.Native.Nat.{ℕ}
 use native.Mathlib.Omega.{arith}
 use lib.ListN.{length, take, drop}
 use Rattle.text_writer.specs.Written.{answer_line}
 use Rattle.desk.specs.Session.{session}
 use Rattle.desk.proofs.Printing.{written_within}
-use Rattle.desk.proofs.Speaking.{Shows, shows, refusal_shown}
-use borrow.Author.Rules.{rules}
+use Rattle.desk.proofs.Speaking.{shows, refusal_shown}
 use Rattle.yard.proofs.refuse.Given.{Over}
 use Rattle.yard.proofs.refuse.Goals as goal
 use Rattle.yard.proofs.refuse.Goals.{After-print_refusal-n}
