@@ -1,16 +1,15 @@
 -- What `analyze` leaves: on a proper plan's words, division's analysis.
-use mathlib.Core.Path.{◌≡◌, refl, sym, ap, ◌∙◌, subst}
-use mathlib.Core.Bool.{Bool, true, false, false≢true, ◌&&◌}
+use mathlib.Core.Path.{◌≡◌, refl, sym, ap, ◌∙◌}
+use mathlib.Core.Bool.{true, false, false≢true}
 use mathlib.Core.List.{List}
-use Prim.Native.Nat.{ℕ, ◌≤◌, ◌<◌}
+use Prim.Native.Nat.{ℕ}
 use lib.ListN.{length, replicate, length-replicate}
 use Rattle.base.specs.Iter.{pick}
-use Rattle.base.proofs.Loop.{pick_yes, pick_no, tested}
-use Rattle.base.proofs.Tests.{and_left}
+use Rattle.base.proofs.Loop.{pick_yes, tested}
 use Rattle.graph.specs.Bounds.{walkable}
 use Rattle.graph.proofs.Walkable.{walkable_fine}
 use Rattle.plan.specs.Words.{vertices_of, edges_of}
-use Rattle.views.specs.Compute.{Computed, regions_from, bounds_from, compute_view}
+use Rattle.views.specs.Compute.{regions_from, compute_view}
 use Rattle.plan.specs.Plan.{plan_of}
 use Rattle.plan.specs.Proper.{ProperWords}
 use Rattle.division.specs.State.{State, crossed_at}

@@ -1,12 +1,12 @@
 -- Steps 2 and 3, a vertex's or an edge's turn by cases.
-use Prim.Native.Nat.{ℕ, zero, suc, pred, ◌+◌, ◌<◌, ◌≤◌, min}
-use native.Mathlib.Omega.{arith}
+use Prim.Native.Nat.{ℕ, pred, ◌+◌, ◌<◌, ◌≤◌, min}
 use native.Mathlib.Numerals.{add-one}
-use mathlib.Core.Path.{◌≡◌, refl, sym, ap, ◌∙◌}
-use mathlib.Core.Bool.{Bool, true, false, ◌&&◌}
+use mathlib.Core.Path.{◌≡◌, refl, sym}
+use mathlib.Core.Bool.{true, false}
 use mathlib.Core.List.{List, [], ◌∷◌}
 use lib.Dec.{eqb, ltb}
 use borrow.Author.Tests.{eqb-true, lt-ltb, le-ltb}
+use Rattle.std.specs.Prelude.{Err}
 use Rattle.base.specs.Iter.{pick}
 use Rattle.base.proofs.Loop.{pick_ind}
 use Rattle.sat.specs.Literal.{negate}
@@ -14,9 +14,9 @@ use Rattle.division.specs.Plan.{Plan}
 use Rattle.division.specs.State.{State}
 use Rattle.division.specs.Analysis.{View, place, loose, uncrossed, overfull, raises, merges, cuts, propose, ends, lid, rid}
 use Rattle.noting.specs.Words.{lits_of}
-use Rattle.reasons.specs.declared.Verdict.TheVariants.{Going, Over, Under, Crossing}
+use Rattle.reasons.specs.declared.Stop.TheVariants.{Over, Under, Crossing}
 use Rattle.reasons.specs.Words.{packed, lit_word, put, first_word, second_word, stored}
-use Rattle.reasons.specs.Verdicts.{verdict_of, begun, ran, ran_of}
+use Rattle.reasons.specs.Verdicts.{Going, verdict_of, begun, ran, ran_of}
 use Rattle.analysis.proofs.Pass.{Follows}
 use Rattle.analysis.proofs.Shapes.{proposes, may_end, ends_or_proposes}
 
@@ -30,7 +30,7 @@ module _ (d : Plan) (s : State) (w : View) (v : ℕ) (a : List ℕ) where
   unfolding ran_of stored verdict_of uncrossed pick
   uncrossed_not h = simp (le-ltb _ _ h)
 
-  pub uncrossed_is : v < d.vertices → ran (Crossing v) a ≡ ran_of (uncrossed d s w v begun) a
+  pub uncrossed_is : v < d.vertices → ran (Err (Crossing v)) a ≡ ran_of (uncrossed d s w v begun) a
   unfolding ran_of stored verdict_of uncrossed ends pick
   uncrossed_is h = simp (lt-ltb _ _ h)
 
@@ -38,7 +38,7 @@ module _ (d : Plan) (s : State) (w : View) (v : ℕ) (a : List ℕ) where
   unfolding ran_of stored verdict_of overfull pick
   overfull_not h = simp (le-ltb _ _ h)
 
-  pub overfull_is : s.upper v < w.dw (w.did v) → ran (Over v) a ≡ ran_of (overfull d s w v begun) a
+  pub overfull_is : s.upper v < w.dw (w.did v) → ran (Err (Over v)) a ≡ ran_of (overfull d s w v begun) a
   unfolding ran_of stored verdict_of overfull ends pick
   overfull_is h = simp (lt-ltb _ _ h)
 
@@ -60,7 +60,7 @@ module _ (d : Plan) (s : State) (w : View) (v : ℕ) (a : List ℕ) where
   unfolding ran_of stored verdict_of cuts pick
   cuts_bare e = simp e
 
-  pub cuts_under : 0 < d.domain_len v → w.pw (w.pid v) < s.lower v → ran (Under v) a ≡ ran_of (cuts d s w v begun) a
+  pub cuts_under : 0 < d.domain_len v → w.pw (w.pid v) < s.lower v → ran (Err (Under v)) a ≡ ran_of (cuts d s w v begun) a
   unfolding ran_of stored verdict_of cuts ends pick
   cuts_under h k = simp (lt-ltb _ _ h, lt-ltb _ _ k)
 

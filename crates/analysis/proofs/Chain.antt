@@ -3,26 +3,26 @@ use Prim.Native.Nat.{ℕ}
 use mathlib.Core.Path.{◌≡◌, refl, sym, ap, ◌∙◌}
 use mathlib.Core.Bool.{Bool, true, false}
 use mathlib.Core.List.{List}
+use Rattle.std.specs.Prelude.{Err}
 use Rattle.base.specs.Iter.{iter, pick}
 use Rattle.base.proofs.Loop.{pick_yes, pick_no}
 use Rattle.division.specs.Plan.{Plan}
 use Rattle.division.specs.State.{State}
 use Rattle.division.specs.Analysis as abstract
 use Rattle.division.specs.Analysis.{View, Out, guarded, inside, matched, uncrossed, overfull, raises, merges, cuts, crowds, parts, spreads, parts_at, step1, step2, step3, step5}
-use Rattle.reasons.specs.declared.Verdict.{Verdict}
-use Rattle.reasons.specs.declared.Verdict.TheVariants.{Going}
-use Rattle.reasons.specs.Verdicts.{goes_on, begun, ran, ran_of}
+use Rattle.reasons.specs.declared.Stop.{Stop}
+use Rattle.reasons.specs.Verdicts.{Verdict, Going, begun, ran, ran_of}
 use Rattle.analysis.specs.First.{meets_first, step4_first, analyzed_first}
-use Rattle.analysis.proofs.Pass.{Regular, follows, same_regular, then_regular, guarded_goes, guarded_regular, pass_regular, ran_none, ran_after, ran_ended, goes_going}
-use Rattle.analysis.proofs.Matching.{inside_follows, matched_follows}
+use Rattle.analysis.proofs.Pass.{Regular, follows, same_regular, then_regular, guarded_goes, guarded_regular, pass_regular, ran_none, ran_after, ran_ended}
+use Rattle.analysis.proofs.Matching.{matched_follows}
 use Rattle.analysis.proofs.Bounds.{uncrossed_follows, overfull_follows, raises_follows, merges_follows, cuts_follows}
 use Rattle.analysis.proofs.Spreading.{parts_follows, spreads_follows}
 use Rattle.analysis.proofs.Forks.{parts_at_follows}
 use Rattle.analysis.proofs.Meeting.{crowds_follows, meets_first_follows}
 
--- code that goes on from verdict r
-pub ran_next : (f : Out → Out) → Regular f → (o : Out) (a b c : List ℕ) (r q : Verdict) → goes_on r ≡ true → ran r b ≡ ran_of o a → ran q c ≡ ran_of (f begun) b → ran q c ≡ ran_of (f o) a
-ran_next f u o a b c r q g e h = ran_after f (follows f u) o a b c q (goes_going r b a o g e) h
+-- code that goes on
+pub ran_next : (f : Out → Out) → Regular f → (o : Out) (a b c : List ℕ) (q : Verdict) → ran Going b ≡ ran_of o a → ran q c ≡ ran_of (f begun) b → ran q c ≡ ran_of (f o) a
+ran_next f u o a b c q e h = ran_after f (follows f u) o a b c q e h
 
 optional : (b : Bool) (f : Out → Out) → Regular f → Regular (λ o. pick b (f o) o)
 unfolding pick
@@ -76,98 +76,91 @@ module _ (d : Plan) (s : State) (w : View) where
   unfolding step5
   step5_regular = optional d.disallow_adjacent_same_size_regions _ (pass_regular _ (parts_at_follows d s w) d.vertices)
 
-  module _ (a b c : List ℕ) (r : Verdict) where
+  module _ (a b c : List ℕ) where
     pub step1_walls : d.allow_extra_walls ≡ true → ran Going a ≡ ran_of (step1 d s w) a
     unfolding step1 abstract.begun iter
     step1_walls e = ran_none (inside d s w) a ∙ ap (λ o. ran_of o a) (sym (pick_yes _ _ e))
 
-    pub step1_ended : d.allow_extra_walls ≡ false → goes_on r ≡ false → ran r b ≡ ran_of (iter (guarded (inside d s w)) d.edges begun) a → ran r b ≡ ran_of (step1 d s w) a
+    pub step1_ended : {x : Stop} → d.allow_extra_walls ≡ false → ran (Err x) b ≡ ran_of (iter (guarded (inside d s w)) d.edges begun) a → ran (Err x) b ≡ ran_of (step1 d s w) a
     unfolding step1 abstract.begun
-    step1_ended e g h = ran_ended _ matched_pass _ a b r g h ∙ ap (λ o. ran_of o a) (sym (pick_no _ _ e))
+    step1_ended {x} e h = ran_ended _ matched_pass _ a b x h ∙ ap (λ o. ran_of o a) (sym (pick_no _ _ e))
 
-    pub step1_done : d.allow_extra_walls ≡ false → goes_on r ≡ true → ran r b ≡ ran_of (iter (guarded (inside d s w)) d.edges begun) a →
+    pub step1_done : d.allow_extra_walls ≡ false → ran Going b ≡ ran_of (iter (guarded (inside d s w)) d.edges begun) a →
         ran Going c ≡ ran_of (iter (guarded (matched d s w)) d.edges begun) b → ran Going c ≡ ran_of (step1 d s w) a
     unfolding step1 abstract.begun
-    step1_done e g h k = ran_next _ matched_pass _ a b c r Going g h k ∙ ap (λ o. ran_of o a) (sym (pick_no _ _ e))
+    step1_done e h k = ran_next _ matched_pass _ a b c Going h k ∙ ap (λ o. ran_of o a) (sym (pick_no _ _ e))
 
-    crossed_first : (v : ℕ) → ran r a ≡ ran_of (uncrossed d s w v begun) a → ran r a ≡ ran_of (guarded (uncrossed d s w) v begun) a
+    crossed_first : {q : Verdict} (v : ℕ) → ran q a ≡ ran_of (uncrossed d s w v begun) a → ran q a ≡ ran_of (guarded (uncrossed d s w) v begun) a
     crossed_first v h = h ∙ ap (λ o. ran_of o a) (sym (guarded_goes (uncrossed d s w) v begun refl))
 
-    pub step2_crossed : (v : ℕ) → goes_on r ≡ false → ran r a ≡ ran_of (uncrossed d s w v begun) a →
-        ran r a ≡ ran_of (step2 d s w v begun) a
+    pub step2_crossed : {x : Stop} → (v : ℕ) → ran (Err x) a ≡ ran_of (uncrossed d s w v begun) a → ran (Err x) a ≡ ran_of (step2 d s w v begun) a
     unfolding step2
-    step2_crossed v g h =
-        ran_ended _ merges_pass _ a a r g (ran_ended _ raises_pass _ a a r g (ran_ended _ overfull_pass _ a a r g (crossed_first v h)))
+    step2_crossed {x} v h =
+        ran_ended _ merges_pass _ a a x (ran_ended _ raises_pass _ a a x (ran_ended _ overfull_pass _ a a x (crossed_first v h)))
 
-    pub step2_over : (v : ℕ) (q : Verdict) → goes_on r ≡ true → goes_on q ≡ false →
-        ran r a ≡ ran_of (uncrossed d s w v begun) a →
-        ran q a ≡ ran_of (iter (guarded (overfull d s w)) d.vertices begun) a → ran q a ≡ ran_of (step2 d s w v begun) a
+    pub step2_over : {x : Stop} → (v : ℕ) → ran Going a ≡ ran_of (uncrossed d s w v begun) a →
+        ran (Err x) a ≡ ran_of (iter (guarded (overfull d s w)) d.vertices begun) a → ran (Err x) a ≡ ran_of (step2 d s w v begun) a
     unfolding step2
-    step2_over v q g n h k =
-        ran_ended _ merges_pass _ a a q n
-        (ran_ended _ raises_pass _ a a q n (ran_next _ overfull_pass _ a a a r q g (crossed_first v h) k))
+    step2_over {x} v h k =
+        ran_ended _ merges_pass _ a a x
+        (ran_ended _ raises_pass _ a a x (ran_next _ overfull_pass _ a a a (Err x) (crossed_first v h) k))
 
-    pub step2_done : (v : ℕ) (q : Verdict) → goes_on r ≡ true → goes_on q ≡ true →
-        ran r a ≡ ran_of (uncrossed d s w v begun) a →
-        ran q a ≡ ran_of (iter (guarded (overfull d s w)) d.vertices begun) a →
+    pub step2_done : (v : ℕ) → ran Going a ≡ ran_of (uncrossed d s w v begun) a →
+        ran Going a ≡ ran_of (iter (guarded (overfull d s w)) d.vertices begun) a →
         ran Going b ≡ ran_of (iter (guarded (raises d s w)) d.vertices begun) a →
         ran Going c ≡ ran_of (iter (guarded (merges d s w)) d.edges begun) b → ran Going c ≡ ran_of (step2 d s w v begun) a
     unfolding step2
-    step2_done v q g n h k i j =
-        ran_after _ (follows _ merges_pass) _ a b c Going
-        (ran_next _ raises_pass _ a a b q Going n (ran_next _ overfull_pass _ a a a r q g (crossed_first v h) k) i) j
+    step2_done v h k i j =
+        ran_next _ merges_pass _ a b c Going
+        (ran_next _ raises_pass _ a a b Going (ran_next _ overfull_pass _ a a a Going (crossed_first v h) k) i) j
 
-    pub step3_under : goes_on r ≡ false → ran r b ≡ ran_of (iter (guarded (cuts d s w)) d.vertices begun) a → ran r b ≡ ran_of (step3 d s w begun) a
+    pub step3_under : {x : Stop} → ran (Err x) b ≡ ran_of (iter (guarded (cuts d s w)) d.vertices begun) a → ran (Err x) b ≡ ran_of (step3 d s w begun) a
     unfolding step3
-    step3_under g h = ran_ended _ crowds_pass _ a b r g h
+    step3_under {x} h = ran_ended _ crowds_pass _ a b x h
 
-    pub step3_done : (q : Verdict) → goes_on r ≡ true → ran r b ≡ ran_of (iter (guarded (cuts d s w)) d.vertices begun) a →
-        ran q b ≡ ran_of (iter (guarded (crowds d s w)) d.vertices begun) b → ran q b ≡ ran_of (step3 d s w begun) a
+    pub step3_done : {r : Verdict} → ran Going b ≡ ran_of (iter (guarded (cuts d s w)) d.vertices begun) a →
+        ran r b ≡ ran_of (iter (guarded (crowds d s w)) d.vertices begun) b → ran r b ≡ ran_of (step3 d s w begun) a
     unfolding step3
-    step3_done q g h k = ran_next _ crowds_pass _ a b b r q g h k
+    step3_done {r} h k = ran_next _ crowds_pass _ a b b r h k
 
-    pub step4_apart : goes_on r ≡ false → ran r a ≡ ran_of (iter (guarded (meets_first d s w)) d.vertices begun) a → ran r a ≡ ran_of (step4_first d s w begun) a
+    pub step4_apart : {x : Stop} → ran (Err x) a ≡ ran_of (iter (guarded (meets_first d s w)) d.vertices begun) a → ran (Err x) a ≡ ran_of (step4_first d s w begun) a
     unfolding step4_first
-    step4_apart g h = ran_ended _ spreads_pass _ a a r g (ran_ended _ parts_pass _ a a r g h)
+    step4_apart {x} h = ran_ended _ spreads_pass _ a a x (ran_ended _ parts_pass _ a a x h)
 
-    pub step4_done : goes_on r ≡ true → ran r a ≡ ran_of (iter (guarded (meets_first d s w)) d.vertices begun) a →
+    pub step4_done : ran Going a ≡ ran_of (iter (guarded (meets_first d s w)) d.vertices begun) a →
         ran Going b ≡ ran_of (iter (guarded (parts d s w)) d.edges begun) a → ran Going c ≡ ran_of (iter (guarded (spreads d s w)) d.vertices begun) b → ran Going c ≡ ran_of (step4_first d s w begun) a
     unfolding step4_first
-    step4_done g h k i = ran_after _ (follows _ spreads_pass) _ a b c Going (ran_next _ parts_pass _ a a b r Going g h k) i
+    step4_done h k i = ran_next _ spreads_pass _ a b c Going (ran_next _ parts_pass _ a a b Going h k) i
 
     pub step5_off : d.disallow_adjacent_same_size_regions ≡ false → ran Going a ≡ ran_of (step5 d s w begun) a
     unfolding step5 iter
     step5_off e = ran_none (inside d s w) a ∙ ap (λ o. ran_of o a) (sym (pick_no _ _ e))
 
-    pub step5_on : d.disallow_adjacent_same_size_regions ≡ true → ran r b ≡ ran_of (iter (guarded (parts_at d s w)) d.vertices begun) a → ran r b ≡ ran_of (step5 d s w begun) a
+    pub step5_on : {r : Verdict} → d.disallow_adjacent_same_size_regions ≡ true → ran r b ≡ ran_of (iter (guarded (parts_at d s w)) d.vertices begun) a → ran r b ≡ ran_of (step5 d s w begun) a
     unfolding step5
-    step5_on e h = h ∙ ap (λ o. ran_of o a) (sym (pick_yes _ _ e))
+    step5_on {r} e h = h ∙ ap (λ o. ran_of o a) (sym (pick_yes _ _ e))
 
     -- the analysis that ends with step 1, 2, 3 or 4, or with step 5
-    pub ends_1 : (v : ℕ) → goes_on r ≡ false → ran r b ≡ ran_of (step1 d s w) a →
-        ran r b ≡ ran_of (analyzed_first d s w v) a
+    pub ends_1 : {x : Stop} → (v : ℕ) → ran (Err x) b ≡ ran_of (step1 d s w) a → ran (Err x) b ≡ ran_of (analyzed_first d s w v) a
     unfolding analyzed_first
-    ends_1 v g h =
-        ran_ended _ step5_regular _ a b r g
-        (ran_ended _ step4_regular _ a b r g (ran_ended _ step3_regular _ a b r g (ran_ended _ (step2_regular v) _ a b r g h)))
+    ends_1 {x} v h =
+        ran_ended _ step5_regular _ a b x
+        (ran_ended _ step4_regular _ a b x (ran_ended _ step3_regular _ a b x (ran_ended _ (step2_regular v) _ a b x h)))
 
-    pub ends_2 : (v : ℕ) → goes_on r ≡ false → ran r b ≡ ran_of (step2 d s w v (step1 d s w)) a →
-        ran r b ≡ ran_of (analyzed_first d s w v) a
+    pub ends_2 : {x : Stop} → (v : ℕ) → ran (Err x) b ≡ ran_of (step2 d s w v (step1 d s w)) a → ran (Err x) b ≡ ran_of (analyzed_first d s w v) a
     unfolding analyzed_first
-    ends_2 v g h = ran_ended _ step5_regular _ a b r g (ran_ended _ step4_regular _ a b r g (ran_ended _ step3_regular _ a b r g h))
+    ends_2 {x} v h = ran_ended _ step5_regular _ a b x (ran_ended _ step4_regular _ a b x (ran_ended _ step3_regular _ a b x h))
 
-    pub ends_3 : (v : ℕ) → goes_on r ≡ false → ran r b ≡ ran_of (step3 d s w (step2 d s w v (step1 d s w))) a →
-        ran r b ≡ ran_of (analyzed_first d s w v) a
+    pub ends_3 : {x : Stop} → (v : ℕ) → ran (Err x) b ≡ ran_of (step3 d s w (step2 d s w v (step1 d s w))) a → ran (Err x) b ≡ ran_of (analyzed_first d s w v) a
     unfolding analyzed_first
-    ends_3 v g h = ran_ended _ step5_regular _ a b r g (ran_ended _ step4_regular _ a b r g h)
+    ends_3 {x} v h = ran_ended _ step5_regular _ a b x (ran_ended _ step4_regular _ a b x h)
 
-    pub ends_4 : (v : ℕ) → goes_on r ≡ false → ran r b ≡ ran_of (step4_first d s w (step3 d s w (step2 d s w v (step1 d s w)))) a →
-        ran r b ≡ ran_of (analyzed_first d s w v) a
+    pub ends_4 : {x : Stop} → (v : ℕ) → ran (Err x) b ≡ ran_of (step4_first d s w (step3 d s w (step2 d s w v (step1 d s w)))) a →
+        ran (Err x) b ≡ ran_of (analyzed_first d s w v) a
     unfolding analyzed_first
-    ends_4 v g h = ran_ended _ step5_regular _ a b r g h
+    ends_4 {x} v h = ran_ended _ step5_regular _ a b x h
 
-    pub ends_5 : (v : ℕ) (q : Verdict) → goes_on r ≡ true →
-        ran r b ≡ ran_of (step4_first d s w (step3 d s w (step2 d s w v (step1 d s w)))) a →
-        ran q c ≡ ran_of (step5 d s w begun) b → ran q c ≡ ran_of (analyzed_first d s w v) a
+    pub ends_5 : {r : Verdict} → (v : ℕ) → ran Going b ≡ ran_of (step4_first d s w (step3 d s w (step2 d s w v (step1 d s w)))) a →
+        ran r c ≡ ran_of (step5 d s w begun) b → ran r c ≡ ran_of (analyzed_first d s w v) a
     unfolding analyzed_first
-    ends_5 v q g h k = ran_next _ step5_regular _ a b c r q g h k
+    ends_5 {r} v h k = ran_next _ step5_regular _ a b c r h k

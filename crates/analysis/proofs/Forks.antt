@@ -1,82 +1,25 @@
 -- Step 5, the turn of two edges at a vertex by cases.
 use Prim.Native.Nat.{ℕ, zero, suc, ◌+◌}
 use mathlib.Core.Path.{◌≡◌, refl, sym, ap, ap₂, ◌∙◌}
-use mathlib.Core.Bool.{Bool, true, false, not, ◌&&◌, false≢true}
-use mathlib.Core.List.{List, []}
-use lib.Dec.{eqb, ltb}
-use borrow.Author.Tests.{eq-eqb, ne_eqb}
+use mathlib.Core.Bool.{Bool, true, false, ◌&&◌, false≢true}
+use mathlib.Core.List.{List}
+use lib.Dec.{eqb}
+use borrow.Author.Tests.{ne_eqb}
+use Rattle.std.specs.Prelude.{Err}
 use Rattle.base.specs.Iter.{iter, pick}
-use Rattle.base.proofs.Loop.{pick_no}
 use Rattle.division.specs.Plan.{Plan, touches, across}
 use Rattle.division.specs.State.{State}
-use Rattle.division.specs.Reasons.{adjacent_same_size_regions}
-use Rattle.division.specs.Analysis.{View, Out, loose, forks, same_size, same_size_reason, parted, parts_at, guarded, still, propose, ends}
+use Rattle.division.specs.Analysis.{View, loose, forks, same_size, same_size_reason, parted, parts_at, guarded, still, propose, ends}
 use Rattle.noting.specs.Words.{lits_of}
-use Rattle.reasons.specs.declared.Verdict.TheVariants.{Going, ZeroSize}
-use Rattle.reasons.specs.Words.{packed, packed_lits, lit_word, put, first_word, second_word, stored}
-use Rattle.reasons.specs.Verdicts.{verdict_of, begun, ran, ran_of}
+use Rattle.reasons.specs.declared.Stop.TheVariants.{ZeroSize}
+use Rattle.reasons.specs.Words.{packed, packed_lits, put, first_word, second_word, stored}
+use Rattle.reasons.specs.Verdicts.{Going, verdict_of, begun, ran, ran_of}
 use Rattle.analysis.specs.SameSize.{leads_to_fixed, one_size}
 use Rattle.analysis.proofs.Pass.{Follows, follows, pass_regular}
 use Rattle.analysis.proofs.Shapes.{ends_or_proposes_both}
 use Rattle.analysis.proofs.Bounds.{lit_word_lem}
 
--- two regions' bounds, and what they weigh with a third
-module _ (la ua lb ub m : ℕ) where
-  pub one_not : (la ≡ ua → ⊥) → false ≡ one_size la ua lb ub m
-  unfolding one_size
-  one_not n = simp (ne_eqb la ua n)
-
-  pub one_not_2 : la ≡ ua → (lb ≡ ub → ⊥) → false ≡ one_size la ua lb ub m
-  unfolding one_size
-  one_not_2 e n = simp (eq-eqb la ua e, ne_eqb lb ub n)
-
-  pub one_not_3 : la ≡ ua → lb ≡ ub → (la ≡ lb → ⊥) → false ≡ one_size la ua lb ub m
-  unfolding one_size
-  one_not_3 e f n = simp (eq-eqb la ua e, eq-eqb lb ub f, ne_eqb la lb n)
-
-  pub one_is : la ≡ ua → lb ≡ ub → la ≡ lb → ltb la m ≡ one_size la ua lb ub m
-  unfolding one_size
-  one_is e f h = simp (eq-eqb la ua e, eq-eqb lb ub f, eq-eqb la lb h)
-
-module _ (d : Plan) (s : State) (w : View) (u g : ℕ) where
-  pub leads_not : touches d u g ≡ false → false ≡ leads_to_fixed d s w u g
-  unfolding leads_to_fixed
-  leads_not e = simp e
-
-  pub leads_decided : touches d u g ≡ true → loose d s w g ≡ false → false ≡ leads_to_fixed d s w u g
-  unfolding leads_to_fixed
-  leads_decided e h = simp (e, h)
-
-  pub leads_to : (r x y : ℕ) → touches d u g ≡ true → loose d s w g ≡ true → r ≡ w.did (across d u g) → x ≡ w.low r → y ≡ w.up r → eqb x y ≡ leads_to_fixed d s w u g
-  unfolding leads_to_fixed
-  leads_to r x y e h k m n = simp (e, h, ← k, m, n)
-
 module _ (d : Plan) (s : State) (w : View) (u g h : ℕ) where
-  pub forks_not : touches d u g ≡ false → false ≡ forks d s w u g h
-  unfolding forks
-  forks_not e = simp e
-
-  pub forks_not_2 : touches d u g ≡ true → touches d u h ≡ false → false ≡ forks d s w u g h
-  unfolding forks
-  forks_not_2 e f = simp (e, f)
-
-  pub forks_not_3 : touches d u g ≡ true → touches d u h ≡ true → loose d s w g ≡ false → false ≡ forks d s w u g h
-  unfolding forks
-  forks_not_3 e f i = simp (e, f, i)
-
-  pub forks_not_4 : touches d u g ≡ true → touches d u h ≡ true → loose d s w g ≡ true → loose d s w h ≡ false → false ≡ forks d s w u g h
-  unfolding forks
-  forks_not_4 e f i j = simp (e, f, i, j)
-
-  pub forks_are : (x y : ℕ) → touches d u g ≡ true → touches d u h ≡ true → loose d s w g ≡ true → loose d s w h ≡ true → x ≡ w.did (across d u g) → y ≡ w.did (across d u h) →
-      not (eqb x y) ≡ forks d s w u g h
-  unfolding forks
-  forks_are x y e f i j k l = simp (e, f, i, j, k, l)
-
-  pub same_not : forks d s w u g h ≡ false → false ≡ same_size d s w u g h
-  unfolding same_size
-  same_not e = simp e
-
   -- the code's regions x and y, the weight z of u's own, and its test
   pub same_are : (x y z : ℕ) (b : Bool) → forks d s w u g h ≡ true → x ≡ w.did (across d u g) → y ≡ w.did (across d u h) → z ≡ w.dw (w.did u) →
       b ≡ one_size (w.low x) (w.up x) (w.low y) (w.up y) (w.dw x + w.dw y + z) → b ≡ same_size d s w u g h
@@ -88,7 +31,7 @@ module _ (d : Plan) (s : State) (w : View) (u g h : ℕ) where
     unfolding ran_of stored verdict_of parted pick
     parted_not e = simp e
 
-    pub parted_zero : same_size d s w u g h ≡ true → w.low (w.did (across d u g)) ≡ 0 → ran ZeroSize a ≡ ran_of (parted d s w u g h begun) a
+    pub parted_zero : same_size d s w u g h ≡ true → w.low (w.did (across d u g)) ≡ 0 → ran (Err ZeroSize) a ≡ ran_of (parted d s w u g h begun) a
     unfolding ran_of stored verdict_of parted ends pick
     parted_zero e z = simp (e, z)
 

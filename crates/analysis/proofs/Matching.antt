@@ -2,13 +2,14 @@
 use Prim.Native.Nat.{ℕ, zero, suc, ◌-◌, ◌<◌, ◌≤◌}
 use native.Mathlib.Omega.{arith}
 use native.Mathlib.Numerals.{unary_clauses}
-use mathlib.Core.Path.{◌≡◌, refl, sym, ap, ap₂, ◌∙◌, subst}
+use mathlib.Core.Path.{◌≡◌, refl, sym, ap, ◌∙◌, subst}
 use mathlib.Core.Logic.{inl, inr}
-use mathlib.Core.Bool.{Bool, true, false, not, ◌&&◌, ◌||◌}
-use mathlib.Core.List.{List, [], ◌∷◌}
+use mathlib.Core.Bool.{Bool, true, false, not, ◌&&◌}
+use mathlib.Core.List.{List, []}
 use lib.Dec.{eqb, ltb}
 use lib.ListN.{get_or}
 use borrow.Author.Tests.{eq-eqb, ne_eqb, eqb-false, lt-ltb, le-ltb, ltb-true}
+use Rattle.std.specs.Prelude.{Err}
 use Rattle.base.specs.Iter.{iter, pick}
 use Rattle.base.proofs.Loop.{pick_yes, pick_no, pick_ind, eq_or_not, tested}
 use Rattle.base.proofs.Tests.{and_no}
@@ -17,12 +18,11 @@ use Rattle.division.specs.Plan.{Plan}
 use Rattle.division.specs.State.{State, state_of}
 use Rattle.division.specs.Regions.{lowest}
 use Rattle.division.proofs.Views.{lowest_zero}
-use Rattle.division.specs.Reasons.{Reason, edge_in_same_group, edge_between_different_groups}
 use Rattle.division.specs.Analysis.{View, Out, still, guarded, inside, matches, loose, matched, propose, ends, lid, rid}
-use Rattle.reasons.specs.declared.Verdict.TheVariants.{Going, DisconnectedInside}
+use Rattle.reasons.specs.declared.Stop.TheVariants.{DisconnectedInside}
 use Rattle.analysis.specs.First.{disconnected_end}
 use Rattle.reasons.specs.Words.{packed, bit, put, first_word, second_word, stored}
-use Rattle.reasons.specs.Verdicts.{verdict_of, begun, ran, ran_of}
+use Rattle.reasons.specs.Verdicts.{Going, verdict_of, begun, ran, ran_of}
 use Rattle.analysis.proofs.Pass.{Follows}
 use Rattle.analysis.proofs.Shapes.{proposes, ends_or_proposes}
 
@@ -39,7 +39,7 @@ module _ (d : Plan) (s : State) (w : View) (g : ℕ) (a : List ℕ) where
   unfolding ran_of stored verdict_of inside pick
   inside_between n = simp (ne_eqb _ _ n)
 
-  pub inside_shut : lid d s w g ≡ rid d s w g → state_of s g ≡ 1 → ran (DisconnectedInside g) a ≡ ran_of (inside d s w g begun) a
+  pub inside_shut : lid d s w g ≡ rid d s w g → state_of s g ≡ 1 → ran (Err (DisconnectedInside g)) a ≡ ran_of (inside d s w g begun) a
   unfolding ran_of stored verdict_of inside ends pick
   inside_shut e x = simp (eq-eqb _ _ e, eq-eqb _ _ x)
 
@@ -52,10 +52,6 @@ module _ (d : Plan) (s : State) (w : View) (g : ℕ) (a : List ℕ) where
   unfolding ran_of stored verdict_of inside pick
   inside_else e n m = simp (eq-eqb _ _ e, ne_eqb _ _ n, ne_eqb _ _ m)
 
-  pub loose_yes : (x y : ℕ) → x ≡ lid d s w g → y ≡ rid d s w g → state_of s g ≡ 0 → not (eqb x y) ≡ loose d s w g
-  unfolding loose
-  loose_yes x y e h z = sym (ap (λ b. not (eqb (lid d s w g) (rid d s w g)) && b) (eq-eqb _ _ z) ∙ (and_true _ ∙ ap₂ (λ i j. not (eqb i j)) (sym e) (sym h)))
-
   pub loose_no : (state_of s g ≡ 0 → ⊥) → false ≡ loose d s w g
   unfolding loose
   loose_no n = sym (ap (λ b. not (eqb (lid d s w g) (rid d s w g)) && b) (ne_eqb _ _ n) ∙ and_false (not (eqb (lid d s w g) (rid d s w g))))
@@ -63,11 +59,6 @@ module _ (d : Plan) (s : State) (w : View) (g : ℕ) (a : List ℕ) where
   pub matches_no : (h : ℕ) → (state_of s h ≡ 1 → ⊥) → false ≡ matches d s w g h
   unfolding matches
   matches_no h n = simp (ne_eqb _ _ n)
-
-  pub matches_yes : (h a b c e : ℕ) (r : Bool) → state_of s h ≡ 1 → a ≡ lid d s w h → b ≡ rid d s w h → c ≡ lid d s w g → e ≡ rid d s w g →
-      r ≡ (eqb a c && eqb b e) || (eqb a e && eqb b c) → r ≡ matches d s w g h
-  unfolding matches
-  matches_yes h a b c e r z x y u v q = simp (z, ← x, ← y, ← u, ← v) q
 
   pub matched_not : loose d s w g ≡ false → ran Going a ≡ ran_of (matched d s w g begun) a
   unfolding ran_of stored verdict_of matched pick

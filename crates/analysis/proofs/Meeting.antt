@@ -7,6 +7,7 @@ use mathlib.Core.Bool.{true, ◌&&◌}
 use mathlib.Core.List.{List, []}
 use lib.Dec.{eqb, ltb}
 use borrow.Author.Tests.{eq-eqb, ne_eqb, lt-ltb, le-ltb, ltb-false, eqb-true, ltb-true}
+use Rattle.std.specs.Prelude.{Err}
 use Rattle.base.specs.Iter.{iter, pick}
 use Rattle.base.proofs.Loop.{pick_yes, pick_no, tested, eq_or_not}
 use Rattle.base.proofs.Tests.{and_left, and_right}
@@ -19,10 +20,9 @@ use Rattle.plan.specs.Words.{vertices_of, edges_of}
 use Rattle.noting.specs.Words.{state_of}
 use Rattle.views.specs.declared.members.Extremes.{Extremes}
 use Rattle.views.specs.Members.{reaches, members_from, higher, lesser, extremes}
-use Rattle.reasons.specs.declared.Verdict.{Verdict}
-use Rattle.reasons.specs.declared.Verdict.TheVariants.{Going, Crowded, Apart}
+use Rattle.reasons.specs.declared.Stop.TheVariants.{Crowded, Apart}
 use Rattle.reasons.specs.Words.{stored}
-use Rattle.reasons.specs.Verdicts.{verdict_of, begun, ran, ran_of}
+use Rattle.reasons.specs.Verdicts.{Verdict, Going, verdict_of, begun, ran, ran_of}
 use Rattle.analysis.specs.First.{meets_first, step4_first, analyzed_first}
 use Rattle.analysis.proofs.Pass.{Follows}
 use Rattle.analysis.proofs.Shapes.{may_end, may_end_under}
@@ -37,7 +37,7 @@ module _ (d : Plan) (s : State) (w : View) (r : ℕ) (a : List ℕ) where
   unfolding ran_of stored verdict_of crowds pick
   crowds_fit z e h k = simp (eq-eqb _ _ e, ← h, le-ltb _ _ k)
 
-  pub crowds_over : (z : ℕ) → w.pid r ≡ r → z ≡ sum_lower s (greedy s 0 (w.cells r)) → w.pw r < z → ran (Crowded r) a ≡ ran_of (crowds d s w r begun) a
+  pub crowds_over : (z : ℕ) → w.pid r ≡ r → z ≡ sum_lower s (greedy s 0 (w.cells r)) → w.pw r < z → ran (Err (Crowded r)) a ≡ ran_of (crowds d s w r begun) a
   unfolding ran_of stored verdict_of crowds ends pick
   crowds_over z e h k = simp (eq-eqb _ _ e, ← h, lt-ltb _ _ k)
 
@@ -60,7 +60,7 @@ module _ (d : Plan) (s : State) (w : View) (r : ℕ) (a : List ℕ) where
   unfolding ran_of stored verdict_of meets pick
   meets_met p q e h k l = simp (eq-eqb _ _ e, ← h, ← k, le-ltb _ _ l)
 
-  pub meets_apart : (p q : ℕ) → w.did r ≡ r → p ≡ x → q ≡ y → s.upper q < s.lower p → ran (Apart p q) a ≡ ran_of (meets d s w r begun) a
+  pub meets_apart : (p q : ℕ) → w.did r ≡ r → p ≡ x → q ≡ y → s.upper q < s.lower p → ran (Err (Apart p q)) a ≡ ran_of (meets d s w r begun) a
   unfolding ran_of stored verdict_of meets ends pick
   meets_apart p q e h k l = simp (eq-eqb _ _ e, ← h, ← k, lt-ltb _ _ l)
 

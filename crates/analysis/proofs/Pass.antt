@@ -1,22 +1,24 @@
--- Passes that store their proposals as they go and stop at a verdict: each one, begun afresh on what those before it have
+-- Passes that store their proposals as they go and stop: each one, begun afresh on what those before it have
 -- stored, leaves what the definition leaves after them.
 use Prim.Native.Nat.{ℕ, zero, suc, ◌+◌, ◌-◌, ◌≤◌}
 use native.Mathlib.Omega.{arith}
 use native.Mathlib.Nat.{le_antisymm}
 use native.Mathlib.Numerals.{add-one, unary_clauses}
 use mathlib.Core.Path.{◌≡◌, refl, sym, ap, ◌∙◌, subst}
-use mathlib.Core.Bool.{Bool, true, false, false≢true}
+use mathlib.Core.Bool.{false}
 use mathlib.Core.List.{List, [], ◌∷◌, ◌++◌, append_assoc}
 use lib.ListN.{length}
+use Rattle.std.specs.Prelude.{Err}
+use Rattle.std.specs.Result.{IsErrAnd}
+use Rattle.std.proofs.lemmas.Result.{err_from_is_err_and}
 use Rattle.base.specs.Iter.{iter, pick}
 use Rattle.division.specs.Conflicts.{disconnected_inside, crossing, over, under, crowded, apart}
 use Rattle.division.specs.Analysis as abstract
 use Rattle.division.specs.Analysis.{Proposal, Out, going, conflict, zero_size, still, guarded}
-use Rattle.reasons.specs.declared.Verdict.{Verdict}
-use Rattle.reasons.specs.declared.Verdict.TheVariants.{Going}
 use Rattle.reasons.specs.Words.{put, first_word, second_word, stored}
 use Rattle.reasons.proofs.Stored.{stored_length}
-use Rattle.reasons.specs.Verdicts.{verdict_of, goes_on, begun, Ran, ran, ran_of}
+use Rattle.reasons.specs.declared.Stop.{Stop}
+use Rattle.reasons.specs.Verdicts.{Verdict, Going, verdict_of, begun, Ran, ran, ran_of}
 
 stored_append : (l m : List Proposal) (a : List ℕ) → stored (l ++ m) a ≡ stored l (stored m a)
 unfolding stored
@@ -27,23 +29,23 @@ pub ran_length : (r : Verdict) (c a : List ℕ) (o : Out) → ran r c ≡ ran_of
 unfolding ran_of
 ran_length r c a o e = ap (λ (q : Ran). length q.words) e ∙ stored_length o.props a
 
--- the code's verdict goes on exactly where the definition's does
-says_going : (x : abstract.Verdict) → goes_on (verdict_of x) ≡ true → x ≡ going
+-- the code's verdict is Going exactly where the definition's is
+says_going : (x : abstract.Verdict) → verdict_of x ≡ Going → x ≡ going
 unfolding verdict_of
 says_going going e = refl
-says_going (conflict (disconnected_inside g)) e = absurd (false≢true e)
-says_going (conflict (crossing v)) e = absurd (false≢true e)
-says_going (conflict (over v)) e = absurd (false≢true e)
-says_going (conflict (under v)) e = absurd (false≢true e)
-says_going (conflict (crowded r ps)) e = absurd (false≢true e)
-says_going (conflict (apart a b)) e = absurd (false≢true e)
-says_going zero_size e = absurd (false≢true e)
+says_going (conflict (disconnected_inside g)) e = cc
+says_going (conflict (crossing v)) e = cc
+says_going (conflict (over v)) e = cc
+says_going (conflict (under v)) e = cc
+says_going (conflict (crowded r ps)) e = cc
+says_going (conflict (apart a b)) e = cc
+says_going zero_size e = cc
 
-says_ended : (x : abstract.Verdict) → goes_on (verdict_of x) ≡ false → still x ≡ false
+says_ended : (x : abstract.Verdict) (s : Stop) → verdict_of x ≡ Err s → still x ≡ false
 unfolding verdict_of still
-says_ended going e = absurd (false≢true (sym e))
-says_ended (conflict c) e = refl
-says_ended zero_size e = refl
+says_ended going s e = cc
+says_ended (conflict c) s e = refl
+says_ended zero_size s e = refl
 
 pub still_or : {X : Type 0} (x : abstract.Verdict) → (x ≡ going → X) → (still x ≡ false → X) → X
 unfolding still
@@ -119,23 +121,19 @@ module _ (f : Out → Out) (u : Follows f) (o : Out) (a b c : List ℕ) (r : Ver
   pub ran_after : ran Going b ≡ ran_of o a → ran r c ≡ ran_of (f begun) b → ran r c ≡ ran_of (f o) a
   unfolding ran_of
   ran_after e h =
-      let g = says_going o.verdict (ap (λ (q : Ran). goes_on q.verdict) (sym e)) in
+      let g = says_going o.verdict (ap (λ (q : Ran). q.verdict) (sym e)) in
       h ∙
       ran_eq _ _ _ _ (ap verdict_of (sym (u.says o g)))
       (ap (stored (f begun).props) (ap (λ (q : Ran). q.words) e) ∙ (sym (stored_append (f begun).props o.props a) ∙ ap (λ l. stored l a) (sym (u.onto o g))))
 
--- code that stops at a verdict
-pub ran_ended : (f : Out → Out) → Regular f → (o : Out) (a c : List ℕ) (r : Verdict) → goes_on r ≡ false → ran r c ≡ ran_of o a → ran r c ≡ ran_of (f o) a
+-- code that stops
+pub ran_ended : (f : Out → Out) → Regular f → (o : Out) (a c : List ℕ) (s : Stop) → ran (Err s) c ≡ ran_of o a → ran (Err s) c ≡ ran_of (f o) a
 unfolding ran_of
-ran_ended f u o a c r n e = e ∙ ap (λ q. ran_of q a) (sym (u.rest o (says_ended o.verdict (ap (λ (q : Ran). goes_on q.verdict) (sym e) ∙ n))))
+ran_ended f u o a c s e = e ∙ ap (λ q. ran_of q a) (sym (u.rest o (says_ended o.verdict s (ap (λ (q : Ran). q.verdict) (sym e)))))
 
--- a verdict that goes on is Going
-pub goes_going : (r : Verdict) (c a : List ℕ) (o : Out) → goes_on r ≡ true → ran r c ≡ ran_of o a → ran Going c ≡ ran_of o a
-unfolding ran_of verdict_of
-goes_going r c a o n e =
-    let v = ap (λ (q : Ran). q.verdict) e in
-    let g = says_going o.verdict (ap goes_on (sym v) ∙ n) in
-    ap (λ i. ran i c) (sym (v ∙ ap verdict_of g)) ∙ e
+-- code that leaves by `?`
+pub ran_left : (r : Verdict) (s : Stop) (a c : List ℕ) (o : Out) → IsErrAnd r (λ y. y ≡ s) → ran (Err s) c ≡ ran_of o a → ran r c ≡ ran_of o a
+ran_left r s a c o k e = let p = err_from_is_err_and r k in rw (p.1, p.2) e
 
 module _ (f : ℕ → Out → Out) where
   pub ran_none : (a : List ℕ) → ran Going a ≡ ran_of (iter (guarded f) 0 begun) a
@@ -157,10 +155,15 @@ module _ (f : ℕ → Out → Out) where
   stays o k (suc m) e =
       simp unary_clauses (guarded_stops f (k + m) (iter (guarded f) (k + m) o) (subst (λ (q : Out). still q.verdict ≡ false) (sym (stays o k m e)) e) ∙ stays o k m e)
 
-  -- the loop is left at a verdict
-  pub ran_halt : (n m : ℕ) (a c : List ℕ) (r : Verdict) → goes_on r ≡ false → n ≤ m → ran r c ≡ ran_of (iter (guarded f) n begun) a → ran r c ≡ ran_of (iter (guarded f) m begun) a
+  -- the loop is left
+  ran_halt : (n m : ℕ) (a c : List ℕ) (s : Stop) → n ≤ m → ran (Err s) c ≡ ran_of (iter (guarded f) n begun) a → ran (Err s) c ≡ ran_of (iter (guarded f) m begun) a
   unfolding ran_of
-  ran_halt n m a c r z l e =
-      let s = says_ended _ (ap (λ (q : Ran). goes_on q.verdict) (sym e) ∙ z) in
+  ran_halt n m a c s l e =
+      let z = says_ended _ s (ap (λ (q : Ran). q.verdict) (sym e)) in
       let k : n + (m - n) ≡ m = omega arith in
-      e ∙ ap (λ q. ran_of q a) (sym (stays begun n (m - n) s) ∙ ap (λ i. iter (guarded f) i begun) k)
+      e ∙ ap (λ q. ran_of q a) (sym (stays begun n (m - n) z) ∙ ap (λ i. iter (guarded f) i begun) k)
+
+  -- the loop is left by `?` in turn n
+  pub ran_stop : ((i : ℕ) → Follows (f i)) → (n m : ℕ) (a b c : List ℕ) (r : Verdict) (s : Stop) → IsErrAnd r (λ y. y ≡ s) → n + 1 ≤ m →
+      ran Going b ≡ ran_of (iter (guarded f) n begun) a → ran (Err s) c ≡ ran_of (f n begun) b → ran r c ≡ ran_of (iter (guarded f) m begun) a
+  ran_stop u n m a b c r s k l e h = ran_left r s a c _ k (ran_halt (n + 1) m a c s l (ran_more u n a b c (Err s) e h))

@@ -1,18 +1,16 @@
 -- Of a proper plan: the analysis by places is the analysis by literals, each literal under its place's name.
-use mathlib.Core.Path.{◌≡◌, refl, sym, ap, ◌∙◌, subst}
-use mathlib.Core.Bool.{Bool, true, ◌&&◌}
-use mathlib.Core.List.{List, []}
-use Prim.Native.Nat.{ℕ, ◌+◌, ◌-◌, ◌*◌, ◌/◌, ◌%◌, ◌<◌, ◌≤◌}
+use mathlib.Core.Path.{◌≡◌, refl, sym, ap, ◌∙◌}
+use mathlib.Core.Bool.{true}
+use mathlib.Core.List.{List}
+use Prim.Native.Nat.{ℕ, ◌+◌, ◌-◌, ◌*◌, ◌/◌, ◌%◌, ◌<◌}
 use native.Mathlib.Omega.{arith}
 use lib.Dec.{eqb, ltb}
 use borrow.Author.Tests.{ltb-true, eqb-true, eqb-false, eq-eqb, ne_eqb}
-use Rattle.base.specs.Iter.{pick}
 use Rattle.base.proofs.Loop.{pick_ind, pick_yes, pick_no, tested}
 use Rattle.base.proofs.Tests.{and_left, and_right}
 use Rattle.sat.specs.Literal.{negate}
-use Rattle.division.specs.Plan.{Plan}
 use Rattle.division.specs.State.{State}
-use Rattle.division.specs.Analysis.{View, Out, analyzed}
+use Rattle.division.specs.Analysis.{View, analyzed}
 use Rattle.plan.specs.Words.{variables_of, variable_at, unique_lit_at, edge_lit_of, dom_lit_of}
 use Rattle.plan.specs.Plan.{plan_of}
 use Rattle.plan.specs.Proper.{ProperWords}

@@ -1,8 +1,7 @@
 -- An analysis of the plan with other names for its literals proposes the same under those names.
-use Prim.Native.Nat.{ℕ, zero, suc, pred}
-use mathlib.Core.Path.{◌≡◌, refl, sym, ap, ◌∙◌}
+use Prim.Native.Nat.{ℕ, zero, suc}
+use mathlib.Core.Path.{◌≡◌, refl, ap, ◌∙◌}
 use mathlib.Core.Bool.{Bool, true, false}
-use mathlib.Core.List.{List, []}
 use Rattle.base.specs.Iter.{iter, pick}
 use Rattle.sat.specs.Literal.{negate}
 use Rattle.division.specs.Plan.{Plan, touches, across}

@@ -1,12 +1,10 @@
 -- The shapes of steps: each follows what was proposed before it.
 use Prim.Native.Nat.{ℕ}
-use mathlib.Core.Path.{◌≡◌, refl, sym, ap, ◌∙◌}
+use mathlib.Core.Path.{refl}
 use mathlib.Core.Bool.{Bool, true, false}
-use mathlib.Core.List.{List, [], ◌∷◌, ◌++◌, append_assoc}
 use Rattle.base.specs.Iter.{pick}
 use Rattle.division.specs.Reasons.{Reason}
-use Rattle.division.specs.Analysis.{Verdict, Out, going, propose, ends}
-use Rattle.reasons.specs.Verdicts.{begun}
+use Rattle.division.specs.Analysis.{Verdict, propose, ends}
 use Rattle.analysis.proofs.Pass.{Follows}
 
 -- it may propose

@@ -1,23 +1,20 @@
 -- Step 4, a vertex's or an edge's turn by cases.
-use Prim.Native.Nat.{ℕ, zero, suc, pred, ◌+◌, ◌<◌, ◌≤◌, min}
-use native.Mathlib.Omega.{arith}
+use Prim.Native.Nat.{ℕ, pred, ◌+◌, ◌<◌, ◌≤◌}
 use native.Mathlib.Numerals.{add-one}
-use mathlib.Core.Path.{◌≡◌, refl, sym, ap, ◌∙◌}
-use mathlib.Core.Bool.{Bool, true, false, ◌&&◌}
-use mathlib.Core.List.{List, [], ◌∷◌}
-use lib.Dec.{eqb, ltb}
+use mathlib.Core.Path.{◌≡◌, refl}
+use mathlib.Core.Bool.{Bool, true, false}
+use mathlib.Core.List.{List}
+use lib.Dec.{ltb}
 use borrow.Author.Tests.{lt-ltb, le-ltb}
 use Rattle.base.specs.Iter.{pick}
-use Rattle.base.proofs.Loop.{pick_ind}
 use Rattle.sat.specs.Literal.{negate}
 use Rattle.division.specs.Plan.{Plan}
 use Rattle.division.specs.State.{State}
 use Rattle.division.specs.Reasons.{Reason, inconsistent_bounds_if_regions_are_merged}
 use Rattle.division.specs.Analysis.{View, place, loose, parts, spreads_low, spreads_high, spreads, propose, lid, rid}
 use Rattle.noting.specs.Words.{lits_of}
-use Rattle.reasons.specs.declared.Verdict.TheVariants.{Going}
-use Rattle.reasons.specs.Words.{packed, lit_word, bit, put, first_word, second_word, stored}
-use Rattle.reasons.specs.Verdicts.{verdict_of, begun, ran, ran_of}
+use Rattle.reasons.specs.Words.{packed, bit, put, first_word, second_word, stored}
+use Rattle.reasons.specs.Verdicts.{Going, verdict_of, begun, ran, ran_of}
 use Rattle.analysis.proofs.Pass.{Follows}
 use Rattle.analysis.proofs.Shapes.{proposes, proposes_twice}
 use Rattle.analysis.proofs.Bounds.{lit_word_lem}

@@ -9,8 +9,7 @@ use Rattle.division.specs.Analysis.{View, Out}
 use Rattle.plan.specs.Words.{vertices_of, edges_of, same_size_of, extra_walls_of, weight_of, domain_len_of, domain_of, edge_lit_of, dom_lit_of, place_of, unique_lit_at, variables_of}
 use Rattle.noting.specs.Words.{state_of}
 use Rattle.noting.specs.Note.{place_in}
-use Rattle.reasons.specs.declared.Verdict.{Verdict}
-use Rattle.reasons.specs.Verdicts.{ran, ran_of}
+use Rattle.reasons.specs.Verdicts.{Verdict, ran, ran_of}
 use Rattle.views.specs.Words.{shown}
 
 -- the place of literal l among the distinct literals, found from its variable's; within 32 bits on any plan

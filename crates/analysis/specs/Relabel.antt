@@ -1,5 +1,5 @@
 -- Literals under other names: what an analysis proposes does not hang on how the literals are numbered.
-use Rattle.std.specs.Prelude.{List, map, ℕ}
+use Rattle.std.specs.Prelude.{map, ℕ}
 use Rattle.division.specs.Plan.{Plan}
 use Rattle.division.specs.Analysis.{Proposal, Out}
 

@@ -14,7 +14,7 @@ use crate::step4::{check_meets, disconnect_parted, spread_bounds};
 use crate::step5::disconnect_same_size;
 use edge_table::Edges;
 use noting::Noted;
-use reasons::{Verdict, goes_on};
+use reasons::{Stop, Verdict};
 use views::View;
 
 fn step1(plan: &[u8], edges: Edges, noted: &Noted, view: &View, proposals: &mut [u64]) -> Verdict
@@ -22,14 +22,11 @@ fn step1(plan: &[u8], edges: Edges, noted: &Noted, view: &View, proposals: &mut 
     ensures { ran result proposals.new ≡ ran_of (on step1 (words (words_of plan.now) edges noted.now view.now)) proposals.old }
 {
     if plan::allow_extra_walls(plan) {
-        return Verdict::Going;
+        return Ok(());
     }
-    let found = connect_inside(plan, &edges, noted, view, proposals);
-    if goes_on(found) {
-        disconnect_matched(plan, &edges, noted, view, proposals);
-        return Verdict::Going;
-    }
-    found
+    connect_inside(plan, &edges, noted, view, proposals)?;
+    disconnect_matched(plan, &edges, noted, view, proposals);
+    Ok(())
 }
 
 fn step2(
@@ -45,42 +42,29 @@ fn step2(
         ≡ ran_of (on step2 (words (words_of plan.now) edges noted.now view.now) crossed begun)
         proposals.old }
 {
-    let found = check_crossed(plan, crossed);
-    if goes_on(found) {
-        let n = plan::num_vertices(plan) as usize;
-        let over = check_overfull(noted, view, n);
-        if goes_on(over) {
-            raise_lower_bounds(plan, noted, view, proposals);
-            disconnect_too_large(plan, &edges, noted, view, proposals);
-            return Verdict::Going;
-        }
-        return over;
-    }
-    found
+    check_crossed(plan, crossed)?;
+    check_overfull(noted, view, plan::num_vertices(plan) as usize)?;
+    raise_lower_bounds(plan, noted, view, proposals);
+    disconnect_too_large(plan, &edges, noted, view, proposals);
+    Ok(())
 }
 
 fn step3(plan: &[u8], noted: &Noted, view: &View, proposals: &mut [u64]) -> Verdict
     requires { vertices_of (words_of plan.now) ≤ 64 }
     ensures { ran result proposals.new ≡ ran_of (on step3 (words (words_of plan.now) [] noted.now view.now) begun) proposals.old }
 {
-    let under = cut_upper_bounds(plan, noted, view, proposals);
-    if goes_on(under) {
-        return check_crowded(plan, noted, view);
-    }
-    under
+    cut_upper_bounds(plan, noted, view, proposals)?;
+    check_crowded(plan, noted, view)
 }
 
 fn step4(plan: &[u8], edges: Edges, noted: &Noted, view: &View, proposals: &mut [u64]) -> Verdict
     requires { Fit (words_of plan.now) edges noted.now }
     ensures { ran result proposals.new ≡ ran_of (on step4_first (words (words_of plan.now) edges noted.now view.now) begun) proposals.old }
 {
-    let apart = check_meets(plan, edges, noted, view);
-    if goes_on(apart) {
-        disconnect_parted(plan, &edges, noted, view, proposals);
-        spread_bounds(plan, noted, view, proposals);
-        return Verdict::Going;
-    }
-    apart
+    check_meets(plan, edges, noted, view)?;
+    disconnect_parted(plan, &edges, noted, view, proposals);
+    spread_bounds(plan, noted, view, proposals);
+    Ok(())
 }
 
 fn step5(plan: &[u8], edges: Edges, noted: &Noted, view: &View, proposals: &mut [u64]) -> Verdict
@@ -90,7 +74,7 @@ fn step5(plan: &[u8], edges: Edges, noted: &Noted, view: &View, proposals: &mut 
     if plan::disallow_adjacent_same_size_regions(plan) {
         return disconnect_same_size(plan, &edges, noted, view, proposals);
     }
-    Verdict::Going
+    Ok(())
 }
 
 fn steps(
@@ -106,23 +90,11 @@ fn steps(
         ≡ ran_of (on analyzed_first (words (words_of plan.now) edges noted.now view.now) crossed)
         proposals.old }
 {
-    let first = step1(plan, edges, noted, view, proposals);
-    if goes_on(first) {
-        let second = step2(plan, edges, noted, crossed, view, proposals);
-        if goes_on(second) {
-            let third = step3(plan, noted, view, proposals);
-            if goes_on(third) {
-                let fourth = step4(plan, edges, noted, view, proposals);
-                if goes_on(fourth) {
-                    return step5(plan, edges, noted, view, proposals);
-                }
-                return fourth;
-            }
-            return third;
-        }
-        return second;
-    }
-    first
+    step1(plan, edges, noted, view, proposals)?;
+    step2(plan, edges, noted, crossed, view, proposals)?;
+    step3(plan, noted, view, proposals)?;
+    step4(plan, edges, noted, view, proposals)?;
+    step5(plan, edges, noted, view, proposals)
 }
 
 // Analyzes what is noted: the verdict, and the proposals' words, newest reasons over what was there. Where the words are no
@@ -141,5 +113,5 @@ pub fn analyze(
     if views::compute::compute_view(plan, edges, noted, &mut view) {
         return steps(plan, edges, noted, crossed, &view, proposals);
     }
-    Verdict::Unfit
+    Err(Stop::Unfit)
 }

@@ -16,13 +16,12 @@ ghost use Rattle.plan.specs.Words.{words_of, domain_len_of, domain_of, place_of,
 ghost use Rattle.views.specs.Words.{decided_region_of, potential_region_of, decided_weight_of, potential_weight_of};
 ghost use Rattle.analysis.specs.Placed.{place_of_lit, place_for, edge_place_of, dom_place_of};
 
-use base::less_one;
 use edge_table::Edges;
-use graph::bounds::wide;
 use noting::Noted;
 use views::View;
 
 // The place of a literal among the distinct literals, found from its variable's.
+#[tactic(auto, unfolding(crate::specs::Placed::place_of_lit))]
 fn place_of_lit(plan: &[u8], lit: u32) -> u32
     ensures { result ≡ place_of_lit (words_of plan.now) lit }
 {
@@ -33,13 +32,11 @@ fn place_of_lit(plan: &[u8], lit: u32) -> u32
 fn is_place(plan: &[u8], p: u32, lit: u32) -> bool
     ensures { result ≡ (ltb (p / 2) (variables_of (words_of plan.now)) && eqb (unique_lit_at (words_of plan.now) p) lit) }
 {
-    if p / 2 < plan::num_variables(plan) {
-        return plan::unique_lit(plan, p as usize) == lit as u64;
-    }
-    false
+    p / 2 < plan::num_variables(plan) && plan::unique_lit(plan, p as usize) == u64::from(lit)
 }
 
 // The same, where p may be it already: what the plan's index says is tested before it is used.
+#[tactic(auto, unfolding(base::specs::Iter::pick, crate::specs::Placed::place_for))]
 fn place_for(plan: &[u8], p: u32, lit: u32) -> u32
     ensures { result ≡ place_for (words_of plan.now) p lit }
 {
@@ -50,6 +47,7 @@ fn place_for(plan: &[u8], p: u32, lit: u32) -> u32
 }
 
 // The slots' places in the plan's index.
+#[tactic(auto, unfolding(base::specs::Iter::pick))]
 fn edge_index(plan: &[u8], g: usize) -> u32
     ensures { result ≡ pick (ltb g 128) (place_of (words_of plan.now) (2048 + g)) 0 }
 {
@@ -59,18 +57,18 @@ fn edge_index(plan: &[u8], g: usize) -> u32
     0
 }
 
+#[tactic(auto, unfolding(base::specs::Iter::pick))]
 fn dom_index(plan: &[u8], v: usize, j: usize) -> u32
     ensures { result ≡ pick (ltb v 64 && ltb j 32) (place_of (words_of plan.now) (32 * v + j)) 0 }
 {
-    if v < 64 {
-        if j < 32 {
-            return plan::place(plan, 32 * v + j);
-        }
+    if v < 64 && j < 32 {
+        return plan::place(plan, 32 * v + j);
     }
     0
 }
 
 // The place of edge g's literal.
+#[tactic(auto, unfolding(crate::specs::Placed::edge_place_of))]
 pub(crate) fn edge_place(plan: &[u8], g: usize) -> u32
     ensures { result ≡ edge_place_of (words_of plan.now) g }
 {
@@ -78,6 +76,7 @@ pub(crate) fn edge_place(plan: &[u8], g: usize) -> u32
 }
 
 // The place of size literal j of vertex v.
+#[tactic(auto, unfolding(crate::specs::Placed::dom_place_of))]
 fn dom_place(plan: &[u8], v: usize, j: usize) -> u32
     ensures { result ≡ dom_place_of (words_of plan.now) v j }
 {
@@ -96,14 +95,14 @@ pub(crate) fn left(edges: &Edges, g: usize) -> usize
     requires { g < 128 }
     ensures { result ≡ get_or (get_or edges.now g []) 0 0 }
 {
-    wide(edges[g][0])
+    usize::from(edges[g][0])
 }
 
 pub(crate) fn right(edges: &Edges, g: usize) -> usize
     requires { g < 128 }
     ensures { result ≡ get_or (get_or edges.now g []) 1 0 }
 {
-    wide(edges[g][1])
+    usize::from(edges[g][1])
 }
 
 // The regions of edge g's ends.
@@ -124,10 +123,11 @@ pub(crate) fn right_region(edges: &Edges, view: &View, g: usize) -> usize
 fn size_below(plan: &[u8], v: usize, i: usize, x: u64) -> bool
     ensures { result ≡ ltb (domain_of (words_of plan.now) v i) x }
 {
-    (plan::domain(plan, v, i) as u64) < x
+    u64::from(plan::domain(plan, v, i)) < x
 }
 
 // How many sizes there are up to the last one below x, with size i among them: k is how many among the first i.
+#[tactic(auto, unfolding(base::specs::Iter::pick))]
 fn with_size(plan: &[u8], v: usize, x: u64, i: usize, k: usize) -> usize
     requires { i < 32 }
     ensures { result ≡ pick (ltb (domain_of (words_of plan.now) v i) x) (i + 1) k }
@@ -150,10 +150,8 @@ fn sizes_below(plan: &[u8], v: usize, x: u64, n: usize) -> usize
         return n;
     }
     let mut k = 0;
-    let mut i = 0;
-    while i < n {
+    for i in 0..n {
         k = with_size(plan, v, x, i, k);
-        i += 1;
     }
     k
 }
@@ -162,11 +160,8 @@ fn sizes_below(plan: &[u8], v: usize, x: u64, n: usize) -> usize
 pub(crate) fn lit_at_least(plan: &[u8], v: usize, x: u64) -> u32
     ensures { result ≡ dom_place_of (words_of plan.now) v (pred (place (domain_of (words_of plan.now) v) x (domain_len_of (words_of plan.now) v))) }
 {
-    dom_place(
-        plan,
-        v,
-        less_one(sizes_below(plan, v, x, plan::domain_len(plan, v) as usize)),
-    )
+    let k = sizes_below(plan, v, x, plan::domain_len(plan, v) as usize);
+    dom_place(plan, v, k.saturating_sub(1))
 }
 
 // The weight of v's region.

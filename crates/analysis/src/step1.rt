@@ -5,17 +5,14 @@ ghost use Rattle.base.specs.Iter.{iter};
 ghost use Rattle.plan.specs.Words.{words_of, edges_of};
 ghost use Rattle.division.specs.Regions.{lowest};
 ghost use Rattle.division.specs.Analysis.{inside, matches, loose, matched, guarded};
-ghost use Rattle.reasons.specs.declared.Verdict.TheVariants.{Going};
-ghost use Rattle.reasons.specs.Words.{bit};
-ghost use Rattle.reasons.specs.Verdicts.{begun, ran, ran_of};
+ghost use Rattle.reasons.specs.Verdicts.{Going, begun, ran, ran_of};
 ghost use Rattle.analysis.specs.Placed.{words, on};
 ghost use Rattle.analysis.specs.First.{disconnected_end, pair_place, Walled};
 
 use crate::{edge_place, edge_state, left_region, right_region};
 use edge_table::Edges;
-use graph::bounds::wide;
 use noting::Noted;
-use reasons::{Verdict, goes_on, packed, put};
+use reasons::{Stop, Verdict, packed, put};
 use sat::negation;
 use views::View;
 
@@ -32,11 +29,11 @@ fn inside(
     ensures { ran result proposals.new ≡ ran_of (on inside (words (words_of plan.now) edges.now noted.now view.now) g begun) proposals.old }
 {
     if left_region(edges, view, g) != right_region(edges, view, g) {
-        return Verdict::Going;
+        return Ok(());
     }
     let state = edge_state(noted, g);
     if state == 1 {
-        return Verdict::DisconnectedInside { edge_idx: g };
+        return Err(Stop::DisconnectedInside { edge_idx: g });
     }
     if state == 0 {
         put(
@@ -46,7 +43,7 @@ fn inside(
             0,
         );
     }
-    Verdict::Going
+    Ok(())
 }
 
 // Every edge in order, up to a conflict.
@@ -62,48 +59,31 @@ pub(crate) fn connect_inside(
 {
     let n = plan::num_edges(plan) as usize;
     for g in 0..n {
-        let found = inside(plan, edges, noted, view, g, proposals);
-        if goes_on(found) {
-            continue;
-        }
-        return found;
+        inside(plan, edges, noted, view, g, proposals)?;
     }
-    Verdict::Going
-}
-
-fn equal(a: usize, b: usize, c: usize, d: usize) -> bool
-    ensures { result ≡ (eqb a c && eqb b d) }
-{
-    if a == c {
-        return b == d;
-    }
-    false
+    Ok(())
 }
 
 // Whether a and b are c and d, in either order.
 fn same_pair(a: usize, b: usize, c: usize, d: usize) -> bool
     ensures { result ≡ ((eqb a c && eqb b d) || (eqb a d && eqb b c)) }
 {
-    if equal(a, b, c, d) {
-        return true;
-    }
-    equal(a, b, d, c)
+    (a == c && b == d) || (a == d && b == c)
 }
 
 // Whether edge h is disconnected and joins the two regions that edge g joins.
+#[tactic(auto, unfolding(division::specs::Analysis::matches))]
 fn matches(edges: &Edges, noted: &Noted, view: &View, g: usize, h: usize) -> bool
     requires { (g < 128) × (h < 128) }
     ensures { result ≡ on matches (words [] edges.now noted.now view.now) g h }
 {
-    if edge_state(noted, h) != 1 {
-        return false;
-    }
-    same_pair(
-        left_region(edges, view, h),
-        right_region(edges, view, h),
-        left_region(edges, view, g),
-        right_region(edges, view, g),
-    )
+    edge_state(noted, h) == 1
+        && same_pair(
+            left_region(edges, view, h),
+            right_region(edges, view, h),
+            left_region(edges, view, g),
+            right_region(edges, view, g),
+        )
 }
 
 // The lowest of the first n edges that matches edge g, or n. Document 01: "Where several shut gates match, the lowest gate
@@ -121,23 +101,12 @@ fn lowest_match(edges: &Edges, noted: &Noted, view: &View, g: usize, n: usize) -
 }
 
 // Whether edge g is undecided and joins two regions.
+#[tactic(auto, unfolding(division::specs::Analysis::loose))]
 pub(crate) fn loose(edges: &Edges, noted: &Noted, view: &View, g: usize) -> bool
     requires { g < 128 }
     ensures { result ≡ on loose (words [] edges.now noted.now view.now) g }
 {
-    if edge_state(noted, g) == 0 {
-        return left_region(edges, view, g) != right_region(edges, view, g);
-    }
-    false
-}
-
-fn bit(b: bool) -> usize
-    ensures { result ≡ bit b }
-{
-    if b {
-        return 1;
-    }
-    0
+    edge_state(noted, g) == 0 && left_region(edges, view, g) != right_region(edges, view, g)
 }
 
 fn is_disconnected(noted: &Noted, g: usize) -> bool
@@ -152,12 +121,10 @@ fn disconnected_end(noted: &Noted, n: usize) -> usize
     requires { n ≤ 128 }
     ensures { result ≡ disconnected_end noted.now n }
 {
-    let mut k = n;
-    while 0 < k {
-        if is_disconnected(noted, k - 1) {
-            return k;
+    for h in (0..n).rev() {
+        if is_disconnected(noted, h) {
+            return h + 1;
         }
-        k -= 1;
     }
     0
 }
@@ -183,16 +150,11 @@ fn first_undecided(noted: &Noted, n: usize) -> usize
 }
 
 // Where the lowest wall between regions a and b, in this order, is kept.
+#[tactic(auto, unfolding(crate::specs::First::pair_place))]
 fn pair_place(a: usize, b: usize) -> usize
     ensures { result ≡ pair_place a b }
 {
     64 * (a % 64) + b % 64
-}
-
-fn no_walls() -> [u8; 4096]
-    ensures { result ≡ replicate 4096 0 }
-{
-    [0u8; 4096]
 }
 
 // For each pair of regions, in both orders, the lowest of the first n edges that is disconnected and joins them, plus 1.
@@ -201,16 +163,14 @@ fn lowest_walls(edges: &Edges, noted: &Noted, view: &View, n: usize, walls: &mut
     requires { (n ≤ 128) × (walls.old ≡ replicate 4096 0) }
     ensures { Walled (words [] edges.now noted.now view.now) n walls.new }
 {
-    let mut k = n;
-    while 0 < k {
-        let h = k - 1;
+    for h in (0..n).rev() {
         if is_disconnected(noted, h) {
             let a = left_region(edges, view, h);
             let b = right_region(edges, view, h);
-            walls[pair_place(a, b)] = k as u8;
-            walls[pair_place(b, a)] = k as u8;
+            let k = (h + 1) as u8;
+            walls[pair_place(a, b)] = k;
+            walls[pair_place(b, a)] = k;
         }
-        k = h;
     }
 }
 
@@ -228,7 +188,7 @@ fn walled_match(
     ensures { result ≡ lowest (on matches (words [] edges.now noted.now view.now) g) n }
 {
     let place = pair_place(left_region(edges, view, g), right_region(edges, view, g));
-    let k = wide(walls[place]);
+    let k = usize::from(walls[place]);
     if k == 0 {
         return n;
     }
@@ -260,7 +220,7 @@ fn matched(
             put(
                 proposals,
                 edge_place(plan, g),
-                packed(2, h, g, bit(flip), 0),
+                packed(2, h, g, usize::from(flip), 0),
                 0,
             );
         }
@@ -286,7 +246,7 @@ pub(crate) fn disconnect_matched(
     if first_undecided(noted, n) == n {
         return;
     }
-    let mut walls = no_walls();
+    let mut walls = [0u8; 4096];
     lowest_walls(edges, noted, view, end, &mut walls);
     for g in 0..n {
         matched(plan, edges, noted, view, &walls, g, end, proposals);

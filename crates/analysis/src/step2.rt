@@ -5,15 +5,14 @@ ghost use Rattle.base.specs.Iter.{iter, pick};
 ghost use Rattle.plan.specs.Words.{words_of, vertices_of, edges_of};
 ghost use Rattle.views.specs.Words.{decided_weight_of, upper_bound_of, upper_bound_at};
 ghost use Rattle.division.specs.Analysis.{uncrossed, overfull, raises, merges, guarded};
-ghost use Rattle.reasons.specs.declared.Verdict.TheVariants.{Going};
-ghost use Rattle.reasons.specs.Verdicts.{begun, ran, ran_of};
+ghost use Rattle.reasons.specs.Verdicts.{Going, begun, ran, ran_of};
 ghost use Rattle.analysis.specs.Placed.{words, on, Finds};
 
 use crate::step1::loose;
 use crate::{decided_weight, edge_place, left_region, lit_at_least, right_region};
 use edge_table::Edges;
 use noting::{Noted, lower_bound, upper_bound};
-use reasons::{Verdict, goes_on, packed, put};
+use reasons::{Stop, Verdict, packed, put};
 use views::{View, decided_region_weight, region_upper_bound, region_upper_bound_idx};
 
 // Crossed bounds, where applying a literal told a vertex of them.
@@ -21,11 +20,11 @@ pub(crate) fn check_crossed(plan: &[u8], crossed: usize) -> Verdict
     ensures { Finds result (on uncrossed (words (words_of plan.now) [] [] []) crossed begun) }
 {
     if crossed < plan::num_vertices(plan) as usize {
-        return Verdict::Crossing {
+        return Err(Stop::Crossing {
             vertex_idx: crossed,
-        };
+        });
     }
-    Verdict::Going
+    Ok(())
 }
 
 // Vertex v: its upper bound is below its region's weight.
@@ -33,9 +32,9 @@ fn overfull(noted: &Noted, view: &View, v: usize) -> Verdict
     ensures { Finds result (on overfull (words [] [] noted.now view.now) v begun) }
 {
     if upper_bound(noted, v) < decided_weight(view, v) {
-        return Verdict::Over { vertex_idx: v };
+        return Err(Stop::Over { vertex_idx: v });
     }
-    Verdict::Going
+    Ok(())
 }
 
 // Every vertex in order, up to a conflict.
@@ -43,13 +42,9 @@ pub(crate) fn check_overfull(noted: &Noted, view: &View, n: usize) -> Verdict
     ensures { Finds result (iter (guarded (on overfull (words [] [] noted.now view.now))) n begun) }
 {
     for v in 0..n {
-        let found = overfull(noted, view, v);
-        if goes_on(found) {
-            continue;
-        }
-        return found;
+        overfull(noted, view, v)?;
     }
-    Verdict::Going
+    Ok(())
 }
 
 // Vertex v: its lower bound is raised where its region weighs more.
@@ -75,25 +70,18 @@ pub(crate) fn raise_lower_bounds(plan: &[u8], noted: &Noted, view: &View, propos
     }
 }
 
-fn lesser(a: u32, b: u32) -> u32
-    ensures { result ≡ min a b }
-{
-    if a < b {
-        return a;
-    }
-    b
-}
-
 // Whether regions u and v weigh more together than one of them may.
 fn too_large_if_merged(view: &View, u: usize, v: usize) -> bool
     ensures { result ≡ ltb (min (upper_bound_of view.now u) (upper_bound_of view.now v)) (decided_weight_of view.now u + decided_weight_of view.now v) }
 {
-    let bound = lesser(region_upper_bound(view, u), region_upper_bound(view, v));
-    let weight = decided_region_weight(view, u) as u64 + decided_region_weight(view, v) as u64;
-    (bound as u64) < weight
+    let bound = region_upper_bound(view, u).min(region_upper_bound(view, v));
+    let weight = u64::from(decided_region_weight(view, u))
+        + u64::from(decided_region_weight(view, v));
+    u64::from(bound) < weight
 }
 
 // The vertex that has the lesser upper bound of regions u and v, of v where they are equal.
+#[tactic(auto, unfolding(base::specs::Iter::pick))]
 fn tighter_upper_bound(view: &View, u: usize, v: usize) -> u32
     ensures { result ≡ pick (ltb (upper_bound_of view.now u) (upper_bound_of view.now v)) (upper_bound_at view.now u) (upper_bound_at view.now v) }
 {

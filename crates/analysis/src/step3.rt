@@ -5,14 +5,13 @@ ghost use Rattle.std.specs.Prelude.{◌≡◌, [], ◌≤◌};
 ghost use Rattle.base.specs.Iter.{iter};
 ghost use Rattle.plan.specs.Words.{words_of, vertices_of};
 ghost use Rattle.division.specs.Analysis.{cuts, crowds, guarded};
-ghost use Rattle.reasons.specs.declared.Verdict.TheVariants.{Going};
-ghost use Rattle.reasons.specs.Verdicts.{begun, ran, ran_of};
+ghost use Rattle.reasons.specs.Verdicts.{Going, begun, ran, ran_of};
 ghost use Rattle.views.specs.Cells.{lower_bound_sum};
 ghost use Rattle.analysis.specs.Placed.{words, on, Finds};
 
 use crate::{lit_at_least, potential_weight};
 use noting::{Noted, lower_bound, upper_bound};
-use reasons::{Verdict, goes_on, packed, put};
+use reasons::{Stop, Verdict, packed, put};
 use sat::negation;
 use views::View;
 use views::cells::{lower_bound_sums, required_weight, separate_ranges};
@@ -22,17 +21,17 @@ fn cuts(plan: &[u8], noted: &Noted, view: &View, v: usize, proposals: &mut [u64]
     ensures { ran result proposals.new ≡ ran_of (on cuts (words (words_of plan.now) [] noted.now view.now) v begun) proposals.old }
 {
     if plan::domain_len(plan, v) == 0 {
-        return Verdict::Going;
+        return Ok(());
     }
     let weight = potential_weight(view, v);
     if weight < lower_bound(noted, v) {
-        return Verdict::Under { vertex_idx: v };
+        return Err(Stop::Under { vertex_idx: v });
     }
     if weight < upper_bound(noted, v) {
         let lit = lit_at_least(plan, v, weight as u64 + 1);
         put(proposals, negation(lit), packed(5, v, 0, 0, 0), 0);
     }
-    Verdict::Going
+    Ok(())
 }
 
 // Every vertex in order, up to a conflict.
@@ -46,13 +45,9 @@ pub(crate) fn cut_upper_bounds(
 {
     let n = plan::num_vertices(plan) as usize;
     for v in 0..n {
-        let found = cuts(plan, noted, view, v, proposals);
-        if goes_on(found) {
-            continue;
-        }
-        return found;
+        cuts(plan, noted, view, v, proposals)?;
     }
-    Verdict::Going
+    Ok(())
 }
 
 // The potential region with label r: its separate ranges need more than it weighs. Its vertices are put in order only
@@ -61,18 +56,18 @@ fn crowds(plan: &[u8], noted: &Noted, view: &View, r: usize, sum: u64) -> Verdic
     requires { (vertices_of (words_of plan.now) ≤ 64) × (sum ≡ lower_bound_sum noted.now view.now (vertices_of (words_of plan.now)) r) }
     ensures { Finds result (on crowds (words (words_of plan.now) [] noted.now view.now) r begun) }
 {
-    let weight = views::potential_region_weight(view, r) as u64;
+    let weight = u64::from(views::potential_region_weight(view, r));
     if sum <= weight {
-        return Verdict::Going;
+        return Ok(());
     }
     if views::potential_region(view, r) as usize == r {
         let mut chosen = [0u8; 64];
         let count = separate_ranges(plan, noted, view, r, &mut chosen);
         if weight < required_weight(noted, &chosen, count) {
-            return Verdict::Crowded { region: r };
+            return Err(Stop::Crowded { region: r });
         }
     }
-    Verdict::Going
+    Ok(())
 }
 
 // Every potential region in order, up to a conflict.
@@ -83,11 +78,7 @@ pub(crate) fn check_crowded(plan: &[u8], noted: &Noted, view: &View) -> Verdict
     let n = plan::num_vertices(plan) as usize;
     let sums = lower_bound_sums(noted, view, n);
     for r in 0..n {
-        let found = crowds(plan, noted, view, r, sums[r]);
-        if goes_on(found) {
-            continue;
-        }
-        return found;
+        crowds(plan, noted, view, r, sums[r])?;
     }
-    Verdict::Going
+    Ok(())
 }

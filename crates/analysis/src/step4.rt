@@ -6,8 +6,7 @@ ghost use Rattle.views.specs.Words.{upper_bound_of, upper_bound_at, lower_bound_
 ghost use Rattle.graph.specs.Bounds.{walkable};
 ghost use Rattle.division.specs.Analysis.{meets, parts, spreads_low, spreads_high, spreads, guarded};
 ghost use Rattle.reasons.specs.Words.{packed, put};
-ghost use Rattle.reasons.specs.declared.Verdict.TheVariants.{Going};
-ghost use Rattle.reasons.specs.Verdicts.{begun, ran, ran_of};
+ghost use Rattle.reasons.specs.Verdicts.{Going, begun, ran, ran_of};
 ghost use Rattle.analysis.specs.Placed.{words, on, Finds};
 ghost use Rattle.analysis.specs.First.{meets_first};
 ghost use Rattle.analysis.specs.Placed.{edge_place_of};
@@ -16,7 +15,7 @@ use crate::step1::loose;
 use crate::{edge_place, left_region, lit_at_least, right_region};
 use edge_table::Edges;
 use noting::{Noted, lower_bound, upper_bound};
-use reasons::{Verdict, goes_on, packed, put};
+use reasons::{Stop, Verdict, packed, put};
 use sat::negation;
 use views::members::extreme_vertices;
 use views::{
@@ -32,13 +31,13 @@ fn meets(plan: &[u8], edges: Edges, noted: &Noted, view: &View, r: usize) -> Ver
     if decided_region(view, r) as usize == r {
         let found = extreme_vertices(plan, edges, noted, r);
         if upper_bound(noted, found.upper_bound_idx) < lower_bound(noted, found.lower_bound_idx) {
-            return Verdict::Apart {
+            return Err(Stop::Apart {
                 lower_bound_idx: found.lower_bound_idx,
                 upper_bound_idx: found.upper_bound_idx,
-            };
+            });
         }
     }
-    Verdict::Going
+    Ok(())
 }
 
 // The same of any region: its own two bounds are compared first.
@@ -49,7 +48,7 @@ fn meets_first(plan: &[u8], edges: Edges, noted: &Noted, view: &View, r: usize) 
     if region_upper_bound(view, r) < region_lower_bound(view, r) {
         return meets(plan, edges, noted, view, r);
     }
-    Verdict::Going
+    Ok(())
 }
 
 // Every region in order, up to a conflict.
@@ -59,13 +58,9 @@ pub(crate) fn check_meets(plan: &[u8], edges: Edges, noted: &Noted, view: &View)
 {
     let n = plan::num_vertices(plan) as usize;
     for r in 0..n {
-        let found = meets_first(plan, edges, noted, view, r);
-        if goes_on(found) {
-            continue;
-        }
-        return found;
+        meets_first(plan, edges, noted, view, r)?;
     }
-    Verdict::Going
+    Ok(())
 }
 
 // Edge g, where the greatest lower bound of region `low` is over the least upper bound of region `up`.

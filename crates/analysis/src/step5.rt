@@ -16,24 +16,23 @@ use crate::step1::loose;
 use crate::{decided_weight, edge_place, left, right};
 use edge_table::Edges;
 use noting::{Noted, lower_bound_lit, upper_bound_lit};
-use reasons::{Verdict, goes_on, packed, packed_lits, put};
+use reasons::{Stop, Verdict, packed, packed_lits, put};
 use views::{
     View, decided_region, decided_region_weight, region_lower_bound, region_lower_bound_idx,
     region_upper_bound, region_upper_bound_idx,
 };
 
 // Whether edge g is at vertex u.
+#[tactic(auto, unfolding(division::specs::Plan::touches))]
 fn touches(edges: &Edges, u: usize, g: usize) -> bool
     requires { g < 128 }
     ensures { result ≡ touches (placed [] edges.now) u g }
 {
-    if left(edges, g) == u {
-        return true;
-    }
-    right(edges, g) == u
+    left(edges, g) == u || right(edges, g) == u
 }
 
 // The other end of edge g, which is at vertex u.
+#[tactic(auto, unfolding(division::specs::Plan::across, base::specs::Iter::pick))]
 fn across(edges: &Edges, u: usize, g: usize) -> usize
     requires { g < 128 }
     ensures { result ≡ across (placed [] edges.now) u g }
@@ -52,54 +51,47 @@ fn region_across(edges: &Edges, view: &View, u: usize, g: usize) -> usize
 }
 
 // Whether edge g leads from vertex u to another region, of a fixed size.
+#[tactic(auto, unfolding(crate::specs::SameSize::leads_to_fixed))]
 fn leads_to_fixed(edges: &Edges, noted: &Noted, view: &View, u: usize, g: usize) -> bool
     requires { g < 128 }
     ensures { result ≡ on leads_to_fixed (words [] edges.now noted.now view.now) u g }
 {
-    if touches(edges, u, g) {
-        if loose(edges, noted, view, g) {
-            let region = region_across(edges, view, u, g);
-            return region_lower_bound(view, region) == region_upper_bound(view, region);
-        }
+    if touches(edges, u, g) && loose(edges, noted, view, g) {
+        let region = region_across(edges, view, u, g);
+        return region_lower_bound(view, region) == region_upper_bound(view, region);
     }
     false
 }
 
 // Whether edges g and h, undecided, lead from vertex u to two other regions.
+#[tactic(auto, unfolding(division::specs::Analysis::forks))]
 fn forks(edges: &Edges, noted: &Noted, view: &View, u: usize, g: usize, h: usize) -> bool
     requires { (g < 128) × (h < 128) }
     ensures { result ≡ on forks (words [] edges.now noted.now view.now) u g h }
 {
-    if touches(edges, u, g) {
-        if touches(edges, u, h) {
-            if loose(edges, noted, view, g) {
-                if loose(edges, noted, view, h) {
-                    return region_across(edges, view, u, g) != region_across(edges, view, u, h);
-                }
-            }
-        }
-    }
-    false
+    touches(edges, u, g)
+        && touches(edges, u, h)
+        && loose(edges, noted, view, g)
+        && loose(edges, noted, view, h)
+        && region_across(edges, view, u, g) != region_across(edges, view, u, h)
 }
 
 // Whether regions a and b have one and the same fixed size, less than they weigh together with `weight`.
+#[tactic(auto, unfolding(crate::specs::SameSize::one_size))]
 fn one_size(view: &View, a: usize, b: usize, weight: u32) -> bool
     ensures { result ≡ one_size (lower_bound_of view.now a) (upper_bound_of view.now a) (lower_bound_of view.now b) (upper_bound_of view.now b) (decided_weight_of view.now a + decided_weight_of view.now b + weight) }
 {
     let size = region_lower_bound(view, a);
-    if size != region_upper_bound(view, a) {
-        return false;
-    }
-    if region_lower_bound(view, b) != region_upper_bound(view, b) {
-        return false;
-    }
-    if size != region_lower_bound(view, b) {
-        return false;
-    }
-    let both = decided_region_weight(view, a) as u64 + decided_region_weight(view, b) as u64;
-    (size as u64) < both + weight as u64
+    size == region_upper_bound(view, a)
+        && region_lower_bound(view, b) == region_upper_bound(view, b)
+        && size == region_lower_bound(view, b)
+        && u64::from(size)
+            < u64::from(decided_region_weight(view, a))
+                + u64::from(decided_region_weight(view, b))
+                + u64::from(weight)
 }
 
+#[tactic(auto, unfolding(division::specs::Analysis::same_size))]
 fn same_size(edges: &Edges, noted: &Noted, view: &View, u: usize, g: usize, h: usize) -> bool
     requires { (g < 128) × (h < 128) }
     ensures { result ≡ on same_size (words [] edges.now noted.now view.now) u g h }
@@ -141,14 +133,14 @@ fn parted(
     if same_size(edges, noted, view, u, g, h) {
         let a = region_across(edges, view, u, g);
         if region_lower_bound(view, a) == 0 {
-            return Verdict::ZeroSize;
+            return Err(Stop::ZeroSize);
         }
         let first = packed(8, across(edges, u, g), across(edges, u, h), u, 0);
         let second = region_lits(noted, view, a, region_across(edges, view, u, h));
         put(proposals, edge_place(plan, g), first, second);
         put(proposals, edge_place(plan, h), first, second);
     }
-    Verdict::Going
+    Ok(())
 }
 
 // Edge g at vertex u, with every edge before it.
@@ -166,14 +158,10 @@ fn part_from(
 {
     if leads_to_fixed(edges, noted, view, u, g) {
         for h in 0..g {
-            let found = parted(plan, edges, noted, view, u, g, h, proposals);
-            if goes_on(found) {
-                continue;
-            }
-            return found;
+            parted(plan, edges, noted, view, u, g, h, proposals)?;
         }
     }
-    Verdict::Going
+    Ok(())
 }
 
 // Every edge at vertex u.
@@ -190,13 +178,9 @@ fn parts_at(
 {
     let n = plan::num_edges(plan) as usize;
     for g in 0..n {
-        let found = part_from(plan, edges, noted, view, u, g, proposals);
-        if goes_on(found) {
-            continue;
-        }
-        return found;
+        part_from(plan, edges, noted, view, u, g, proposals)?;
     }
-    Verdict::Going
+    Ok(())
 }
 
 // Every vertex in order, up to a refusal.
@@ -212,11 +196,7 @@ pub(crate) fn disconnect_same_size(
 {
     let n = plan::num_vertices(plan) as usize;
     for u in 0..n {
-        let found = parts_at(plan, edges, noted, view, u, proposals);
-        if goes_on(found) {
-            continue;
-        }
-        return found;
+        parts_at(plan, edges, noted, view, u, proposals)?;
     }
-    Verdict::Going
+    Ok(())
 }

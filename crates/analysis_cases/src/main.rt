@@ -13,12 +13,10 @@ use builder::build::{GraphDivisionOptions, PlanWords};
 use builder::input::{EdgeNumbers, VertexNumbers};
 use edge_table::Edges;
 use noting::Noted;
-use reasons::{Proposals, Verdict};
+use reasons::{Proposals, Stop, Verdict};
 use std::io::Read;
 use text::Line;
-use text_writer::Written;
 use undo_log::Cursor;
-use walks::Listed;
 
 // A write that fails leaves its bytes out: the file stdout shows it.
 fn put(rt: &impl Print, s: &[u8]) {
@@ -35,14 +33,7 @@ fn buffer() -> [u8; 4096]
 // A line of an answer: its letter and its numbers.
 fn put_line(rt: &impl Print, letter: u8, numbers: &[u32]) {
     let mut bytes = buffer();
-    let mut end = 0;
-    let written = text_writer::write_answer(letter, numbers, &mut bytes, 0);
-    match written {
-        Written::Next(n) => {
-            end = n;
-        }
-        Written::TooSmall => {}
-    }
+    let end = text_writer::write_answer(letter, numbers, &mut bytes, 0).unwrap_or(0);
     if 0 < end {
         if end <= 4096 {
             put(rt, &bytes[0..end]);
@@ -53,19 +44,18 @@ fn put_line(rt: &impl Print, letter: u8, numbers: &[u32]) {
 }
 
 fn put_refusal(rt: &impl Print, number: u32) {
-    let numbers = [number; 1];
-    put_line(rt, b'E', &numbers[0..1]);
+    put_line(rt, b'E', &[number]);
 }
 
 // A line with a list that was written to `numbers` up to `end`.
-fn put_listed(rt: &impl Print, letter: u8, numbers: &[u32], end: Listed) {
+fn put_listed(rt: &impl Print, letter: u8, numbers: &[u32], end: Option<usize>) {
     match end {
-        Listed::Past(n) => {
+        Some(n) => {
             if n <= numbers.len() {
                 put_line(rt, letter, &numbers[0..n]);
             }
         }
-        Listed::Missing => put(rt, b"no list\n"),
+        None => put(rt, b"no list\n"),
     }
 }
 
@@ -88,21 +78,14 @@ fn one_more(n: usize) -> usize {
 
 // A count as one of the builder's numbers, with the same stop.
 fn as_number(n: usize) -> i32 {
-    if n < 1000000 {
-        return n as i32;
-    }
-    1000000
+    n.min(1000000) as i32
 }
 
 // A vertex's numbers from `from` on, 32 of them.
 fn put_row(values: &[i32; 32], from: usize, vertices: &mut VertexNumbers)
     requires { from + 32 ≤ 4288 }
 {
-    let mut j = 0;
-    while j < 32 {
-        vertices[from + j] = values[j];
-        j += 1;
-    }
+    vertices[from..from + 32].copy_from_slice(values);
 }
 
 // Of the `count` numbers after the k on a P line the first `sizes` are sizes and the others literals. Those past 32 are
@@ -143,30 +126,21 @@ fn put_edge(u: i32, v: i32, lit: i32, g: usize, edges: &mut EdgeNumbers)
 fn vertex_added(c: Counts) -> Counts {
     Counts {
         vertices: one_more(c.vertices),
-        edges: c.edges,
-        noted: c.noted,
-        same_size: c.same_size,
-        extra_walls: c.extra_walls,
+        ..c
     }
 }
 
 fn edge_added(c: Counts) -> Counts {
     Counts {
-        vertices: c.vertices,
         edges: one_more(c.edges),
-        noted: c.noted,
-        same_size: c.same_size,
-        extra_walls: c.extra_walls,
+        ..c
     }
 }
 
 fn noted_added(c: Counts) -> Counts {
     Counts {
-        vertices: c.vertices,
-        edges: c.edges,
         noted: one_more(c.noted),
-        same_size: c.same_size,
-        extra_walls: c.extra_walls,
+        ..c
     }
 }
 
@@ -184,11 +158,9 @@ fn take_line(
             same_size,
             extra_walls,
         } => Counts {
-            vertices: c.vertices,
-            edges: c.edges,
-            noted: c.noted,
             same_size,
             extra_walls,
+            ..c
         },
         Line::P {
             weight,
@@ -208,7 +180,7 @@ fn take_line(
             }
             edge_added(c)
         }
-        Line::N { lit, pending: _ } => {
+        Line::N { lit, .. } => {
             let i = c.noted;
             if i < 2176 {
                 lits[i] = lit;
@@ -230,10 +202,8 @@ fn end_byte(n: i32) -> u8 {
 
 fn edge_table(edges: &EdgeNumbers) -> Edges {
     let mut table = [[0u8; 2]; 128];
-    let mut g = 0;
-    while g < 128 {
+    for g in 0..128 {
         table[g] = [end_byte(edges[3 * g]), end_byte(edges[3 * g + 1])];
-        g += 1;
     }
     table
 }
@@ -259,13 +229,8 @@ fn note_all(
         used: 0,
         standing: 0,
     };
-    let mut i = 0;
-    while i < count {
-        if i < 2176 {
-            let told = noting::note::note(plan, noted, log, cursor, lit_number(lits[i]));
-            cursor = told.cursor;
-        }
-        i += 1;
+    for i in 0..count.min(lits.len()) {
+        cursor = noting::note::note(plan, noted, log, cursor, lit_number(lits[i])).cursor;
     }
 }
 
@@ -275,7 +240,7 @@ fn put_conflict(rt: &impl Print, plan: &[u8], edges: Edges, noted: &Noted, verdi
     views::compute::compute_view(plan, edges, noted, &mut view);
     let mut chosen = [0u8; 64];
     let mut count = 0;
-    if let Verdict::Crowded { region } = verdict {
+    if let Err(Stop::Crowded { region }) = verdict {
         count = views::cells::separate_ranges(plan, noted, &view, region, &mut chosen);
     }
     let mut out = [0u32; 512];
@@ -287,9 +252,9 @@ fn put_conflict(rt: &impl Print, plan: &[u8], edges: Edges, noted: &Noted, verdi
 
 fn put_verdict(rt: &impl Print, plan: &[u8], edges: Edges, noted: &Noted, verdict: Verdict) {
     match verdict {
-        Verdict::Going => put(rt, b"C\n"),
-        Verdict::ZeroSize => put_refusal(rt, 13),
-        Verdict::Unfit => put(rt, b"unfit\n"),
+        Ok(()) => put(rt, b"C\n"),
+        Err(Stop::ZeroSize) => put_refusal(rt, 13),
+        Err(Stop::Unfit) => put(rt, b"unfit\n"),
         _ => put_conflict(rt, plan, edges, noted, verdict),
     }
 }
@@ -315,8 +280,7 @@ fn put_proposal(
 }
 
 fn put_proposals(rt: &impl Print, plan: &[u8], edges: Edges, noted: &Noted, proposals: &Proposals) {
-    let mut p = 0;
-    while p < 4352 {
+    for p in 0..4352 {
         put_proposal(
             rt,
             plan,
@@ -326,7 +290,6 @@ fn put_proposals(rt: &impl Print, plan: &[u8], edges: Edges, noted: &Noted, prop
             proposals[69 + 2 * p],
             p,
         );
-        p += 1;
     }
 }
 
@@ -356,15 +319,12 @@ fn show_answer<'a>(
     lits: &'a [i32; 2176],
     c: Counts,
 ) {
-    let refused = builder::input::refusal_of(vertices, c.vertices, edges, c.edges);
-    if refused == 0 {
-        let built = build(vertices, edges, c);
-        let words = built.words;
-        let plan = plan::bytes::bytes_of(&words);
-        show_analysis(rt, &plan.bytes, edge_table(edges), lits, c.noted);
+    if let Some(refusal) = builder::input::refusal_of(vertices, c.vertices, edges, c.edges) {
+        put_refusal(rt, refusal.number());
         return;
     }
-    put_refusal(rt, refused as u32);
+    let plan = plan::bytes::bytes_of(&build(vertices, edges, c).words);
+    show_analysis(rt, &plan.bytes, edge_table(edges), lits, c.noted);
 }
 
 fn no_vertices() -> VertexNumbers {
@@ -381,10 +341,7 @@ fn no_lits() -> [i32; 2176] {
 
 // Whether a line ends its block.
 fn ends_block(line: &[u8]) -> bool {
-    if line.len() != 3 {
-        return false;
-    }
-    line[0] == b'-'
+    line.len() == 3 && line[0] == b'-'
 }
 
 // Answers the block that starts at `from`, and says where the next one starts.
@@ -403,6 +360,7 @@ fn show_block(rt: &impl Print, input: &[u8], from: usize) -> usize
         extra_walls: false,
     };
     let mut at = from;
+    // Not a `for`: each turn goes on by its line's length.
     while at < input.len() {
         let e = text::line_end(input, at);
         let line = &input[at..e];
@@ -420,6 +378,7 @@ fn show_blocks(rt: &impl Print, input: &[u8])
     requires { length input.now ≤ 1048576 }
 {
     let mut at = 0;
+    // Nor here: each turn goes on by its block's length.
     while at < input.len() {
         at = show_block(rt, input, at);
     }
@@ -437,6 +396,7 @@ fn read_full(reader: &mut impl Read, buf: &mut [u8]) -> usize
     ensures { result ≤ length buf.new }
 {
     let mut done = 0;
+    // Nor here: each turn goes on by what a read gave.
     while done < buf.len() {
         match reader.read(&mut buf[done..]) {
             Ok(0) | Err(_) => break,

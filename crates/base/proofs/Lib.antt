@@ -6,3 +6,4 @@ pub mod Filled
 pub mod Signed
 pub mod Range
 pub mod Bytes
+pub mod Numbered

@@ -3,9 +3,19 @@ use Prim.Native.Nat.{ℕ, zero, suc, ◌+◌, ◌<◌, ◌≤◌}
 use native.Mathlib.Omega.{arith}
 use native.Mathlib.Nat.{not-suc-le-zero, eq-or-lt_of_le, lt-suc_self, le_step}
 use native.Mathlib.Numerals.{add-one}
-use mathlib.Core.Path.{◌≡◌, refl, sym, ap, ◌∙◌}
+use mathlib.Core.Path.{◌≡◌, refl, sym, ap, ap₂, ◌∙◌}
 use mathlib.Core.Logic.{⊎_elim}
-use mathlib.Core.Bool.{Bool, true, false, not, ◌||◌, ◌&&◌, false≢true, true≢false}
+use mathlib.Core.Bool.{Bool, true, false, ◌||◌, false≢true, true≢false}
+use denote.Param.Members.{Mut}
+use Rattle.std.specs.declared.ops.Range.{Range}
+use Rattle.std.specs.Fn.{Called}
+use Rattle.std.specs.Iterator.{YieldsThen}
+use Rattle.std.specs.List.{FoldsTo, list_any, range_with_len}
+use Rattle.std.specs.Option.{MatchOption}
+use Rattle.std.specs.Prelude.{List, Option}
+use Rattle.std.proofs.iter.Yields.{nat_range_steps}
+use Rattle.std.proofs.lemmas.Iterator.{YieldsList-from_range}
+use Rattle.std.proofs.lemmas.Iterator.Search.{any_from_yields_List}
 use Rattle.base.specs.Lists.{some}
 use Rattle.base.proofs.Tests.{or_cases}
 
@@ -58,3 +68,32 @@ module _ (t : ℕ → Bool) where
   unfolding some
   some_all zero h = refl
   some_all (suc n) h = ap (λ (b : Bool). b || t n) (some_all n (λ i k. h i (le_step k))) ∙ h n (lt-suc_self n)
+
+or_false : (a : Bool) → (a || false) ≡ a
+or_false true = refl
+or_false false = refl
+
+or_or : (a b c : Bool) → ((a || b) || c) ≡ (a || (b || c))
+or_or true b c = refl
+or_or false b c = refl
+
+-- the first number apart
+some_first : (u : ℕ → Bool) (n : ℕ) → some u (suc n) ≡ (u 0 || some (λ i. u (suc i)) n)
+unfolding some
+some_first u zero = sym (or_false (u 0))
+some_first u (suc n) = ap (λ (b : Bool). b || u (suc n)) (some_first u n) ∙ or_or (u 0) (some (λ i. u (suc i)) n) (u (suc n))
+
+-- the n numbers from a on, tested one after the other
+list_some : (t u : ℕ → Bool) (n a : ℕ) → ((i : ℕ) → i < n → t (a + i) ≡ u i) → list_any t (range_with_len a n) ≡ some u n
+unfolding some
+list_some t u zero a e = refl
+list_some t u (suc n) a e = ap₂ (λ (b c : Bool). b || c)
+    (ap t (omega arith) ∙ e 0 (omega arith))
+    (list_some t (λ i. u (suc i)) n (a + 1) (λ i h. ap t (omega arith) ∙ e (suc i) (omega arith)))
+    ∙ sym (some_first u n)
+
+-- `(0..n).any(..)`, where the closure computes the test
+pub any_below : {F : Type 0} {g : Mut F (ℕ × Unit {0}) Bool} (t : ℕ → Bool) (n : ℕ) (u : Range ℕ) (f : F) (r : Bool)
+    → (xs : List ℕ) × (o : Option ℕ) × (j : F) × YieldsThen nat_range_steps (record { start = 0; end = n }) xs o u × FoldsTo (λ p x q. Called g p (x, tt) false q) f xs j × MatchOption o (r ≡ false) (λ x. (r ≡ true) × ((h : F) × Called g j (x, tt) true h))
+    → ((x : ℕ) (b : Bool) (q : F) → Called g f (x, tt) b q → (q ≡ f) × (b ≡ t x)) → r ≡ some t n
+any_below t n u f r d k = any_from_yields_List t u f r d (YieldsList-from_range 0 n n refl (omega arith)) k ∙ list_some t t n 0 (λ i h. ap t (omega arith))

@@ -1,5 +1,5 @@
 -- Lists that are gathered in a loop, sums, and what holds of every element.
-use Rattle.std.specs.Prelude.{ℕ, zero, suc, ◌+◌, ◌<◌, Bool, true, false, ◌||◌, List, [], ◌∷◌, ◌++◌, set}
+use Rattle.std.specs.Prelude.{ℕ, zero, suc, ◌+◌, Bool, false, ◌||◌, List, [], ◌∷◌, ◌++◌, set}
 use Rattle.base.specs.Iter.{iter, pick}
 
 pub data Every (P : ℕ → Type 0) : List ℕ → Type 0 where

@@ -7,17 +7,12 @@ use native.Mathlib.Omega.{arith}
 use lib.ListN.{get_or, set}
 use Rattle.base.specs.Iter.{iter, pick}
 use Rattle.base.specs.Lists.{filled}
-use Rattle.graph.specs.Bounds.{ones}
 use Rattle.graph.proofs.Ones.{ones_le}
 use Rattle.plan.specs.Words.{built_mark}
 use Rattle.builder.specs.Index.{Indexing, indexed}
 use Rattle.builder.specs.Build.{flag, header, closed, totals, with_index}
 use Rattle.builder.proofs.Least.{below}
-use Rattle.builder.proofs.Rounds.{Good, indexed_good}
-
-pub header_is : (w : List ℕ) (n m : ℕ) (a b : Bool) (x y : ℕ) → x ≡ flag a → y ≡ flag b → set (set (set (set w 0 n) 1 m) 2 x) 3 y ≡ filled 0 4 (header n m a b) w
-unfolding filled iter header pick
-header_is w n m a b x y e f = ap₂ (λ (p q : ℕ). set (set (set (set w 0 n) 1 m) 2 p) 3 q) e f
+use Rattle.builder.proofs.Rounds.{indexed_good}
 
 pub indexed_few : (ws : List ℕ) → ((indexed ws).count ≤ 2176) × ((indexed ws).filing.filed ≤ 2176)
 indexed_few ws =

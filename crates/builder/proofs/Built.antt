@@ -1,7 +1,7 @@
 -- Every plan that is built is proper, and passes the plan's own test.
 use mathlib.Core.Path.{◌≡◌, refl, sym, ap, ap₂, subst, ◌∙◌}
 use mathlib.Core.Logic.{◌⊎◌, inl, inr, ⊎_elim}
-use mathlib.Core.Bool.{Bool, true, false, not, ◌&&◌, ◌||◌, false≢true}
+use mathlib.Core.Bool.{Bool, true, false, not, ◌&&◌, false≢true}
 use mathlib.Core.List.{List, [], ◌∷◌}
 use Prim.Native.Nat.{ℕ, zero, suc, pred, ◌+◌, ◌-◌, ◌*◌, ◌/◌, ◌%◌, ◌≤◌, ◌<◌, min}
 use native.Mathlib.Omega.{arith}
@@ -11,23 +11,23 @@ use lib.IntN.{ℤ, pos, negsuc}
 use lib.Signed.{lt_z}
 use lib.ListN.{length, get_or, set, length-set}
 use lib.Seq.{get_or-set_same, get_or-set_other}
-use borrow.Author.Tests.{lt-ltb, le-ltb, ltb-true, ltb-false, eqb-true, eq-eqb}
+use borrow.Author.Tests.{lt-ltb, le-ltb, ltb-true, eqb-true, eq-eqb}
 use Rattle.base.specs.Iter.{iter, pick}
 use Rattle.base.specs.Lists.{some}
 use Rattle.base.specs.Range.{in_range, to_nat}
 use Rattle.base.proofs.Loop.{pick_yes, pick_no, tested}
-use Rattle.base.proofs.Tests.{or_none, not_false, and_left, and_right, and_rest, or_cases}
+use Rattle.base.proofs.Tests.{or_none, not_false, and_left, and_right, and_rest}
 use Rattle.base.proofs.Some.{some_none}
 use Rattle.base.proofs.Range.{in_range_nat}
-use Rattle.graph.specs.Bounds.{ones, Fine, Within}
+use Rattle.graph.specs.Bounds.{ones}
 use Rattle.graph.proofs.Ones.{ones_same}
-use Rattle.plan.specs.Words.{word, entry, cell, vertices_of, edges_of, variables_of, slots_of, mark_of, built_mark, weight_of, domain_len_of, domain_of, lit_of, place_of, position_of, variable_at, start_at, occurrence_at}
+use Rattle.plan.specs.Words.{word, entry, vertices_of, edges_of, variables_of, slots_of, mark_of, built_mark, weight_of, domain_len_of, domain_of, lit_of, place_of, position_of, variable_at, start_at, occurrence_at}
 use Rattle.plan.specs.Check.{used_slot, slot_count, plan_bad}
 use Rattle.plan.specs.Proper.{Filed, Listed, ProperWords}
 use Rattle.plan.proofs.Proper.{slot_cases}
 use Rattle.plan.proofs.Passes.{passes}
 use Rattle.builder.specs.Input.{weight_at, len_at, size_at, lit_at, left_at, right_at, edge_lit_at, size_wrong, domain_wrong, size_lit_outside, edge_lit_outside, is_vertex, refusal}
-use Rattle.builder.specs.Index.{variable_of, is_of, Indexing, indexed}
+use Rattle.builder.specs.Index.{variable_of, Indexing, indexed}
 use Rattle.builder.specs.Given.{Given}
 use Rattle.builder.specs.Build.{flag, header, given, closed, totals, with_index, plan_words, edge_step, edge_table}
 use Rattle.builder.proofs.Refusal.{Counted, counted}

@@ -1,26 +1,25 @@
 -- What stands in the words of a built plan.
-use mathlib.Core.Path.{◌≡◌, refl, sym, ap, ap₂, subst, ◌∙◌}
+use mathlib.Core.Path.{◌≡◌, refl, sym, ap, subst, ◌∙◌}
 use mathlib.Core.Logic.{◌⊎◌, inl, inr, ⊎_elim}
-use mathlib.Core.Bool.{Bool, true, false, ◌&&◌}
+use mathlib.Core.Bool.{Bool}
 use mathlib.Core.List.{List}
-use Prim.Native.Nat.{ℕ, zero, suc, pred, ◌+◌, ◌-◌, ◌*◌, ◌/◌, ◌%◌, ◌≤◌, ◌<◌}
+use Prim.Native.Nat.{ℕ, zero, suc, pred, ◌+◌, ◌*◌, ◌≤◌, ◌<◌}
 use native.Mathlib.Omega.{arith}
 use native.Mathlib.Nat.{not-suc-le-zero, eq-or-lt_of_le}
-use lib.Dec.{eqb, ltb}
+use lib.Dec.{ltb}
 use lib.IntN.{ℤ}
-use lib.ListN.{length, get_or, set, replicate, length-replicate, length-set}
-use lib.Seq.{get_or-set_same, get_or-set_other}
-use borrow.Author.Tests.{lt-ltb, le-ltb, ltb-true}
-use Rattle.base.specs.Iter.{iter, pick}
+use lib.ListN.{length, get_or, replicate, length-replicate}
+use borrow.Author.Tests.{lt-ltb, ltb-true}
+use Rattle.base.specs.Iter.{iter}
 use Rattle.base.specs.Lists.{filled}
 use Rattle.base.specs.Range.{to_nat}
 use Rattle.base.proofs.Loop.{pick_yes, pick_no, tested}
 use Rattle.base.proofs.Filled.{filled_length, filled_in, filled_out}
 use Rattle.plan.specs.Words.{word, entry, cell}
 use Rattle.builder.specs.Input.{weight_at, len_at, size_at, lit_at, edge_lit_at}
-use Rattle.builder.specs.Index.{Indexing, indexed}
+use Rattle.builder.specs.Index.{indexed}
 use Rattle.plan.proofs.Count.{pred_few}
-use Rattle.builder.specs.Build.{flag, rows, header, given, closed, totals, with_index}
+use Rattle.builder.specs.Build.{rows, header, given, closed, totals, with_index}
 
 -- ---- rows
 module _ (from : ℕ) (count : ℕ → ℕ) (f : ℕ → ℕ → ℕ) (l : List ℕ) where

@@ -1,5 +1,5 @@
 -- What a plan is built from, as numbers from outside, and document 01's refusals 1 to 6 of it ("Plan", "Verdicts turned away").
-use Rattle.std.specs.Prelude.{Bool, true, false, not, ◌&&◌, ◌||◌, List, ℕ, pred, ◌+◌, ◌*◌, ◌-◌, ℤ, pos, eqb, ltb, get_or}
+use Rattle.std.specs.Prelude.{Bool, not, ◌&&◌, ◌||◌, List, ℕ, pred, ◌+◌, ◌*◌, ◌-◌, ℤ, pos, eqb, ltb, get_or}
 use Rattle.std.specs.Int.Signed.{lt_z}
 use Rattle.base.specs.Iter.{pick}
 use Rattle.base.specs.Lists.{some}

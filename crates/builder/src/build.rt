@@ -8,12 +8,12 @@ ghost use Rattle.builder.specs.Input.{weight_at, len_at, size_at, lit_at, left_a
 ghost use Rattle.builder.specs.Index.{indexed};
 ghost use Rattle.builder.specs.Build.{flag, rows, header, given, closed, totals, with_index, plan_words, edge_step, edge_table};
 
-use crate::index::index_variables;
+use crate::index::{Counted, index_variables};
 use crate::input::{
     EdgeNumbers, VertexNumbers, domain_len, edge_lit, left, refusal_of, right, size, size_lit,
     weight,
 };
-use base::less_one;
+use base::fill::fill;
 use edge_table::Edges;
 use plan::{BUILT, Plan};
 
@@ -37,142 +37,27 @@ pub struct PlanWords {
     pub words: Plan,
 }
 
-fn weight_number(vertices: &VertexNumbers, v: usize) -> u32
-    requires { v < 64 }
-    ensures { result ≡ to_nat (weight_at vertices.now v) }
-{
-    base::to_nat(weight(vertices, v))
-}
-
-fn len_number(vertices: &VertexNumbers, v: usize) -> u32
-    requires { (v < 64) × (len_at vertices.now v ≤ 32) }
-    ensures { result ≡ len_at vertices.now v }
-{
-    domain_len(vertices, v) as u32
-}
-
-fn size_number(vertices: &VertexNumbers, v: usize, j: usize) -> u32
-    requires { (v < 64) × (j < 32) }
-    ensures { result ≡ to_nat (size_at vertices.now v j) }
-{
-    base::to_nat(size(vertices, v, j))
-}
-
-fn lit_number(vertices: &VertexNumbers, v: usize, j: usize) -> u32
-    requires { (v < 64) × (j < 32) }
-    ensures { result ≡ to_nat (lit_at vertices.now v j) }
-{
-    base::to_nat(size_lit(vertices, v, j))
-}
-
-fn edge_lit_number(edges: &EdgeNumbers, g: usize) -> u32
-    requires { g < 128 }
-    ensures { result ≡ to_nat (edge_lit_at edges.now g) }
-{
-    base::to_nat(edge_lit(edges, g))
-}
-
-fn fill_weights(vertices: &VertexNumbers, n: usize, plan: &mut Plan)
-    requires { n ≤ 64 }
-    ensures { plan.new ≡ filled 8 n (λ v. to_nat (weight_at vertices.now v)) plan.old }
-{
-    let mut v = 0;
-    while v < n {
-        plan[8 + v] = weight_number(vertices, v);
-        v += 1;
-    }
-}
-
-fn fill_lens(vertices: &VertexNumbers, n: usize, plan: &mut Plan)
-    requires { (n ≤ 64) × ((v : ℕ) → v < n → len_at vertices.now v ≤ 32) }
-    ensures { plan.new ≡ filled 72 n (len_at vertices.now) plan.old }
-{
-    let mut v = 0;
-    while v < n {
-        plan[72 + v] = len_number(vertices, v);
-        v += 1;
-    }
-}
-
-fn fill_domain(vertices: &VertexNumbers, v: usize, len: usize, plan: &mut Plan)
-    requires { (v < 64) × (len ≤ 32) }
-    ensures { plan.new ≡ filled (136 + 32 * v) len (λ j. to_nat (size_at vertices.now v j)) plan.old }
-{
-    let mut j = 0;
-    while j < len {
-        plan[136 + 32 * v + j] = size_number(vertices, v, j);
-        j += 1;
-    }
-}
-
 fn fill_domains(vertices: &VertexNumbers, n: usize, plan: &mut Plan)
     requires { (n ≤ 64) × ((v : ℕ) → v < n → len_at vertices.now v ≤ 32) }
     ensures { plan.new ≡ rows 136 (len_at vertices.now) (λ v j. to_nat (size_at vertices.now v j)) n plan.old }
 {
-    let mut v = 0;
-    while v < n {
-        fill_domain(vertices, v, domain_len(vertices, v), plan);
-        v += 1;
+    for v in 0..n {
+        fill(plan, 136 + 32 * v, domain_len(vertices, v), |j| {
+            base::to_nat(size(vertices, v, j))
+        });
     }
-}
-
-fn fill_dom_lits_of(vertices: &VertexNumbers, v: usize, count: usize, plan: &mut Plan)
-    requires { (v < 64) × (count ≤ 32) }
-    ensures { plan.new ≡ filled (2184 + 32 * v) count (λ j. to_nat (lit_at vertices.now v j)) plan.old }
-{
-    let mut j = 0;
-    while j < count {
-        plan[2184 + 32 * v + j] = lit_number(vertices, v, j);
-        j += 1;
-    }
-}
-
-fn lit_count(vertices: &VertexNumbers, v: usize) -> usize
-    requires { v < 64 }
-    ensures { result ≡ pred (len_at vertices.now v) }
-{
-    less_one(domain_len(vertices, v))
 }
 
 fn fill_dom_lits(vertices: &VertexNumbers, n: usize, plan: &mut Plan)
     requires { (n ≤ 64) × ((v : ℕ) → v < n → len_at vertices.now v ≤ 32) }
     ensures { plan.new ≡ rows 2184 (λ v. pred (len_at vertices.now v)) (λ v j. to_nat (lit_at vertices.now v j)) n plan.old }
 {
-    let mut v = 0;
-    while v < n {
-        fill_dom_lits_of(vertices, v, lit_count(vertices, v), plan);
-        v += 1;
+    for v in 0..n {
+        let count = domain_len(vertices, v).saturating_sub(1);
+        fill(plan, 2184 + 32 * v, count, |j| {
+            base::to_nat(size_lit(vertices, v, j))
+        });
     }
-}
-
-fn fill_edge_lits(edges: &EdgeNumbers, m: usize, plan: &mut Plan)
-    requires { m ≤ 128 }
-    ensures { plan.new ≡ filled 4232 m (λ g. to_nat (edge_lit_at edges.now g)) plan.old }
-{
-    let mut g = 0;
-    while g < m {
-        plan[4232 + g] = edge_lit_number(edges, g);
-        g += 1;
-    }
-}
-
-fn copy_index(index: &[u32; 10881], plan: &mut Plan)
-    ensures { plan.new ≡ filled 4360 10881 (λ i. get_or index.now i 0) plan.old }
-{
-    let mut i = 0;
-    while i < 10881 {
-        plan[4360 + i] = index[i];
-        i += 1;
-    }
-}
-
-fn flag(on: bool) -> u32
-    ensures { result ≡ flag on }
-{
-    if on {
-        return 1;
-    }
-    0
 }
 
 // Arrays of zeros, made by functions of their own: a proof then has their name and not their 15241 entries.
@@ -189,23 +74,22 @@ fn no_index() -> [u32; 10881]
 }
 
 // Counts and options.
+#[tactic(auto, unfolding(crate::specs::Build::header, base::specs::Lists::filled, base::specs::Iter::iter, base::specs::Iter::pick))]
 fn fill_header(n: usize, m: usize, options: GraphDivisionOptions, plan: &mut Plan)
     requires { (n ≤ 64) × (m ≤ 128) }
     ensures { plan.new ≡ filled 0 4 (header n m options.disallow_adjacent_same_size_regions options.allow_extra_walls) plan.old }
 {
-    let same_size = flag(options.disallow_adjacent_same_size_regions);
-    let extra_walls = flag(options.allow_extra_walls);
     plan[0] = n as u32;
     plan[1] = m as u32;
-    plan[2] = same_size;
-    plan[3] = extra_walls;
+    plan[2] = u32::from(options.disallow_adjacent_same_size_regions);
+    plan[3] = u32::from(options.allow_extra_walls);
 }
 
 // The words as they were given, before the index.
-fn fill_given<'a>(
-    vertices: &'a VertexNumbers,
+fn fill_given(
+    vertices: &VertexNumbers,
     n: usize,
-    edges: &'a EdgeNumbers,
+    edges: &EdgeNumbers,
     m: usize,
     options: GraphDivisionOptions,
     plan: &mut Plan,
@@ -214,11 +98,11 @@ fn fill_given<'a>(
     ensures { plan.new ≡ given vertices.now n edges.now m options.disallow_adjacent_same_size_regions options.allow_extra_walls }
 {
     fill_header(n, m, options, plan);
-    fill_weights(vertices, n, plan);
-    fill_lens(vertices, n, plan);
+    fill(plan, 8, n, |v| base::to_nat(weight(vertices, v)));
+    fill(plan, 72, n, |v| domain_len(vertices, v) as u32);
     fill_domains(vertices, n, plan);
     fill_dom_lits(vertices, n, plan);
-    fill_edge_lits(edges, m, plan);
+    fill(plan, 4232, m, |g| base::to_nat(edge_lit(edges, g)));
 }
 
 // How many variables and slots the index has, and the mark of a plan that was built.
@@ -236,60 +120,29 @@ fn fill_index(plan: &mut Plan)
     ensures { plan.new ≡ with_index plan.old }
 {
     let mut index = no_index();
-    let counted = index_variables(plan, &mut index);
-    let variables = counted.variables;
-    let slots = counted.slots;
+    let Counted { variables, slots } = index_variables(plan, &mut index);
     index[6528 + variables] = slots as u32;
     fill_totals(variables, slots, plan);
-    copy_index(&index, plan);
+    fill(plan, 4360, 10881, |i| index[i]);
 }
 
 // The plan's words, all 0 where the building is refused.
-pub fn plan_words<'a>(
-    vertices: &'a VertexNumbers,
+#[tactic(auto, unfolding(crate::specs::Build::plan_words, base::specs::Iter::pick))]
+pub fn plan_words(
+    vertices: &VertexNumbers,
     n: usize,
-    edges: &'a EdgeNumbers,
+    edges: &EdgeNumbers,
     m: usize,
     options: GraphDivisionOptions,
 ) -> PlanWords
     ensures { result.words ≡ plan_words vertices.now n edges.now m options.disallow_adjacent_same_size_regions options.allow_extra_walls }
 {
     let mut plan = no_words();
-    if refusal_of(vertices, n, edges, m) == 0 {
+    if refusal_of(vertices, n, edges, m).is_none() {
         fill_given(vertices, n, edges, m, options, &mut plan);
         fill_index(&mut plan);
-        return PlanWords { words: plan };
     }
     PlanWords { words: plan }
-}
-
-fn end_number(end: i32) -> u8
-    ensures { result ≡ to_nat end % 256 }
-{
-    (base::to_nat(end) % 256) as u8
-}
-
-fn left_number(edges: &EdgeNumbers, g: usize) -> u8
-    requires { g < 128 }
-    ensures { result ≡ to_nat (left_at edges.now g) % 256 }
-{
-    end_number(left(edges, g))
-}
-
-fn right_number(edges: &EdgeNumbers, g: usize) -> u8
-    requires { g < 128 }
-    ensures { result ≡ to_nat (right_at edges.now g) % 256 }
-{
-    end_number(right(edges, g))
-}
-
-fn at_most_128(m: usize) -> usize
-    ensures { result ≡ min m 128 }
-{
-    if m < 128 {
-        return m;
-    }
-    128
 }
 
 // The edge table: for each edge the pair of its ends, and 0, 0 past the last edge. An end is the number given modulo 256,
@@ -297,14 +150,11 @@ fn at_most_128(m: usize) -> usize
 pub fn edge_table(edges: &EdgeNumbers, m: usize) -> Edges
     ensures { result ≡ edge_table edges.now m }
 {
-    let count = at_most_128(m);
     let mut table = [[0u8; 2]; 128];
-    let mut g = 0;
-    while g < count {
-        let u = left_number(edges, g);
-        let v = right_number(edges, g);
+    for g in 0..m.min(128) {
+        let u = (base::to_nat(left(edges, g)) % 256) as u8;
+        let v = (base::to_nat(right(edges, g)) % 256) as u8;
         table[g] = [u, v];
-        g += 1;
     }
     table
 }

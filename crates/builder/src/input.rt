@@ -13,9 +13,10 @@ ghost use Rattle.base.specs.Iter.{pick};
 ghost use Rattle.std.specs.Int.Signed.{lt_z};
 ghost use Rattle.base.specs.Lists.{some};
 ghost use Rattle.base.specs.Range.{in_range, to_nat};
+ghost use Rattle.base.specs.Refusal.{number_or_0};
 ghost use Rattle.builder.specs.Input.{weight_at, sizes_at, lits_at, size_at, lit_at, left_at, right_at, edge_lit_at, len_at, sizes_outside, too_many, weight_outside, size_wrong, domain_wrong, sizes_wrong, lit_count_wrong_at, lit_count_wrong, size_lit_outside, edge_lit_outside, lit_outside, is_vertex, end_wrong, refusal};
 
-use base::less_one;
+use base::refusal::Refusal;
 
 pub type VertexNumbers = [i32; 4288];
 
@@ -96,273 +97,145 @@ pub(crate) fn domain_len(vertices: &VertexNumbers, v: usize) -> usize
     base::to_nat(sizes(vertices, v)) as usize
 }
 
-fn less(a: i32, b: i32) -> bool
-    ensures { result ≡ lt_z a b }
-{
-    a < b
-}
-
-fn bad_sizes(vertices: &VertexNumbers, v: usize) -> bool
-    requires { v < 64 }
-    ensures { result ≡ not (in_range (pos 32) (sizes_at vertices.now v)) }
-{
-    !base::in_range(sizes(vertices, v), 32)
-}
-
 fn sizes_outside(vertices: &VertexNumbers, n: usize) -> bool
     requires { n ≤ 64 }
     ensures { result ≡ sizes_outside vertices.now n }
 {
-    let mut v = 0;
-    while v < n {
-        if bad_sizes(vertices, v) {
-            return true;
-        }
-        v += 1;
-    }
-    false
-}
-
-fn bad_weight(vertices: &VertexNumbers, v: usize) -> bool
-    requires { v < 64 }
-    ensures { result ≡ not (in_range (pos 1000000) (weight_at vertices.now v)) }
-{
-    !base::in_range(weight(vertices, v), 1000000)
+    (0..n).any(|v| !base::in_range(sizes(vertices, v), 32))
 }
 
 fn weight_outside(vertices: &VertexNumbers, n: usize) -> bool
     requires { n ≤ 64 }
     ensures { result ≡ weight_outside vertices.now n }
 {
-    let mut v = 0;
-    while v < n {
-        if bad_weight(vertices, v) {
-            return true;
-        }
-        v += 1;
-    }
-    false
+    (0..n).any(|v| !base::in_range(weight(vertices, v), 1000000))
 }
 
+#[tactic(auto, unfolding(crate::specs::Input::size_wrong))]
 fn bad_size(vertices: &VertexNumbers, v: usize, j: usize) -> bool
     requires { (v < 64) × (j < 32) }
     ensures { result ≡ size_wrong vertices.now v j }
 {
-    if base::in_range(size(vertices, v, j), 1000000) {
-        if j == 0 {
-            return false;
-        }
-        return !less(size(vertices, v, j - 1), size(vertices, v, j));
-    }
-    true
-}
-
-fn size_wrong_below(vertices: &VertexNumbers, v: usize, len: usize) -> bool
-    requires { (v < 64) × (len ≤ 32) }
-    ensures { result ≡ some (size_wrong vertices.now v) len }
-{
-    let mut j = 0;
-    while j < len {
-        if bad_size(vertices, v, j) {
-            return true;
-        }
-        j += 1;
-    }
-    false
+    !base::in_range(size(vertices, v, j), 1000000)
+        || (0 < j && size(vertices, v, j) <= size(vertices, v, j - 1))
 }
 
 fn domain_wrong(vertices: &VertexNumbers, v: usize) -> bool
     requires { (v < 64) × (len_at vertices.now v ≤ 32) }
     ensures { result ≡ domain_wrong vertices.now v }
 {
-    size_wrong_below(vertices, v, domain_len(vertices, v))
+    (0..domain_len(vertices, v)).any(|j| bad_size(vertices, v, j))
 }
 
 fn sizes_wrong(vertices: &VertexNumbers, n: usize) -> bool
     requires { (n ≤ 64) × ((v : ℕ) → v < n → len_at vertices.now v ≤ 32) }
     ensures { result ≡ sizes_wrong vertices.now n }
 {
-    let mut v = 0;
-    while v < n {
-        if domain_wrong(vertices, v) {
-            return true;
-        }
-        v += 1;
-    }
-    false
+    (0..n).any(|v| domain_wrong(vertices, v))
 }
 
+#[tactic(auto, unfolding(crate::specs::Input::lit_count_wrong_at))]
 fn bad_lit_count(vertices: &VertexNumbers, v: usize) -> bool
     requires { v < 64 }
     ensures { result ≡ lit_count_wrong_at vertices.now v }
 {
     let len = domain_len(vertices, v);
-    if len == 0 {
-        return false;
-    }
-    if base::in_range(lits(vertices, v), 31) {
-        let count = base::to_nat(lits(vertices, v)) as usize;
-        return count + 1 != len;
-    }
-    true
+    0 < len
+        && !(base::in_range(lits(vertices, v), 31)
+            && base::to_nat(lits(vertices, v)) as usize + 1 == len)
 }
 
 fn lit_count_wrong(vertices: &VertexNumbers, n: usize) -> bool
     requires { n ≤ 64 }
     ensures { result ≡ lit_count_wrong vertices.now n }
 {
-    let mut v = 0;
-    while v < n {
-        if bad_lit_count(vertices, v) {
-            return true;
-        }
-        v += 1;
-    }
-    false
-}
-
-fn bad_size_lit(vertices: &VertexNumbers, v: usize, j: usize) -> bool
-    requires { (v < 64) × (j < 32) }
-    ensures { result ≡ not (in_range (pos 8191) (lit_at vertices.now v j)) }
-{
-    !sat::is_literal(size_lit(vertices, v, j))
-}
-
-fn size_lit_outside_below(vertices: &VertexNumbers, v: usize, count: usize) -> bool
-    requires { (v < 64) × (count ≤ 32) }
-    ensures { result ≡ some (λ j. not (in_range (pos 8191) (lit_at vertices.now v j))) count }
-{
-    let mut j = 0;
-    while j < count {
-        if bad_size_lit(vertices, v, j) {
-            return true;
-        }
-        j += 1;
-    }
-    false
+    (0..n).any(|v| bad_lit_count(vertices, v))
 }
 
 fn size_lit_outside(vertices: &VertexNumbers, v: usize) -> bool
     requires { (v < 64) × (len_at vertices.now v ≤ 32) }
     ensures { result ≡ size_lit_outside vertices.now v }
 {
-    size_lit_outside_below(vertices, v, less_one(domain_len(vertices, v)))
+    let count = domain_len(vertices, v).saturating_sub(1);
+    (0..count).any(|j| !sat::is_literal(size_lit(vertices, v, j)))
 }
 
 fn size_lits_outside(vertices: &VertexNumbers, n: usize) -> bool
     requires { (n ≤ 64) × ((v : ℕ) → v < n → len_at vertices.now v ≤ 32) }
     ensures { result ≡ some (size_lit_outside vertices.now) n }
 {
-    let mut v = 0;
-    while v < n {
-        if size_lit_outside(vertices, v) {
-            return true;
-        }
-        v += 1;
-    }
-    false
-}
-
-fn bad_edge_lit(edges: &EdgeNumbers, g: usize) -> bool
-    requires { g < 128 }
-    ensures { result ≡ not (in_range (pos 8191) (edge_lit_at edges.now g)) }
-{
-    !sat::is_literal(edge_lit(edges, g))
+    (0..n).any(|v| size_lit_outside(vertices, v))
 }
 
 fn edge_lit_outside(edges: &EdgeNumbers, m: usize) -> bool
     requires { m ≤ 128 }
     ensures { result ≡ edge_lit_outside edges.now m }
 {
-    let mut g = 0;
-    while g < m {
-        if bad_edge_lit(edges, g) {
-            return true;
-        }
-        g += 1;
-    }
-    false
+    (0..m).any(|g| !sat::is_literal(edge_lit(edges, g)))
 }
 
+#[tactic(auto, unfolding(crate::specs::Input::is_vertex))]
 fn is_vertex(n: usize, end: i32) -> bool
     ensures { result ≡ is_vertex n end }
 {
-    if base::in_range(end, 63) {
-        let v = base::to_nat(end) as usize;
-        return v < n;
-    }
-    false
-}
-
-fn bad_end(edges: &EdgeNumbers, n: usize, g: usize) -> bool
-    requires { g < 128 }
-    ensures { result ≡ not (is_vertex n (left_at edges.now g) && is_vertex n (right_at edges.now g)) }
-{
-    if is_vertex(n, left(edges, g)) {
-        return !is_vertex(n, right(edges, g));
-    }
-    true
+    base::in_range(end, 63) && (base::to_nat(end) as usize) < n
 }
 
 fn end_wrong(edges: &EdgeNumbers, n: usize, m: usize) -> bool
     requires { m ≤ 128 }
     ensures { result ≡ end_wrong n edges.now m }
 {
-    let mut g = 0;
-    while g < m {
-        if bad_end(edges, n, g) {
-            return true;
-        }
-        g += 1;
-    }
-    false
+    (0..m).any(|g| !(is_vertex(n, left(edges, g)) && is_vertex(n, right(edges, g))))
 }
 
 // Refusal 1.
 fn too_many(vertices: &VertexNumbers, n: usize, m: usize) -> bool
     ensures { result ≡ too_many vertices.now n m }
 {
-    if 64 < n {
-        return true;
-    }
-    if 128 < m {
-        return true;
-    }
-    sizes_outside(vertices, n)
+    64 < n || 128 < m || sizes_outside(vertices, n)
 }
 
-// Refusals 5 and 6, which ask about both arrays: the first that applies, or 0.
-fn refused_lits<'a>(vertices: &'a VertexNumbers, n: usize, edges: &'a EdgeNumbers, m: usize) -> u8
+// Refusals 5 and 6, which ask about both arrays: the first that applies.
+#[tactic(auto, unfolding(base::specs::Iter::pick))]
+fn refused_lits(
+    vertices: &VertexNumbers,
+    n: usize,
+    edges: &EdgeNumbers,
+    m: usize,
+) -> Option<Refusal>
     requires { (n ≤ 64) × (m ≤ 128) × ((v : ℕ) → v < n → len_at vertices.now v ≤ 32) }
-    ensures { result ≡ pick (lit_outside vertices.now n edges.now m) 5 (pick (end_wrong n edges.now m) 6 0) }
+    ensures { number_or_0 result ≡ pick (lit_outside vertices.now n edges.now m) 5 (pick (end_wrong n edges.now m) 6 0) }
 {
-    if size_lits_outside(vertices, n) {
-        return 5;
-    }
-    if edge_lit_outside(edges, m) {
-        return 5;
+    if size_lits_outside(vertices, n) || edge_lit_outside(edges, m) {
+        return Some(Refusal::LitOutside);
     }
     if end_wrong(edges, n, m) {
-        return 6;
+        return Some(Refusal::EndWrong);
     }
-    0
+    None
 }
 
-// The lowest number of document 01's table that applies, or 0.
-pub fn refusal_of<'a>(vertices: &'a VertexNumbers, n: usize, edges: &'a EdgeNumbers, m: usize) -> u8
-    ensures { result ≡ refusal vertices.now n edges.now m }
+// The refusal with the lowest number of document 01's table, of those that apply.
+#[tactic(auto, unfolding(crate::specs::Input::refusal, base::specs::Iter::pick))]
+pub fn refusal_of(
+    vertices: &VertexNumbers,
+    n: usize,
+    edges: &EdgeNumbers,
+    m: usize,
+) -> Option<Refusal>
+    ensures { number_or_0 result ≡ refusal vertices.now n edges.now m }
 {
     if too_many(vertices, n, m) {
-        return 1;
+        return Some(Refusal::TooMany);
     }
     if weight_outside(vertices, n) {
-        return 2;
+        return Some(Refusal::WeightOutside);
     }
     if sizes_wrong(vertices, n) {
-        return 3;
+        return Some(Refusal::SizeWrong);
     }
     if lit_count_wrong(vertices, n) {
-        return 4;
+        return Some(Refusal::LitCountWrong);
     }
     refused_lits(vertices, n, edges, m)
 }

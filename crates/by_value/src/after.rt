@@ -18,19 +18,14 @@ pub(crate) fn state_after(
 ) -> GraphDivision
     ensures { result ≡ state_after s noted proposals.now left done }
 {
-    let judged = done.judged;
-    let len = done.len;
-    if judged {
-        let plan = plan_bytes(s);
-        let old = s.reasons;
-        let reasons = recorded::record(&plan.bytes, proposals, old);
+    if done.judged {
         return GraphDivision {
-            noted: noted,
-            reasons: reasons,
+            noted,
+            reasons: recorded::record(&plan_bytes(s).bytes, proposals, s.reasons),
             last: left,
-            last_len: len,
+            last_len: done.len,
             ..s
         };
     }
-    GraphDivision { noted: noted, ..s }
+    GraphDivision { noted, ..s }
 }

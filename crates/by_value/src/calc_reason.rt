@@ -11,18 +11,15 @@ pub fn calc_last(s: GraphDivision, log: &[u64], cursor: Cursor, buffer: &mut [u3
     ensures { fetched result buffer.new ≡ last_fetched s cursor log.now buffer.old }
 {
     let plan = plan_bytes(s);
-    let held = s.edges;
-    let edges = edge_table::table_of(held);
-    let last = s.last;
-    let len = s.last_len;
+    let edges = edge_table::table_of(s.edges);
     lent::fetch::calc_last(
         &plan.bytes,
         edges,
         &s.noted,
         log,
         cursor,
-        &last,
-        len,
+        &s.last,
+        s.last_len,
         buffer,
     )
 }
@@ -38,11 +35,9 @@ pub fn calc_reason(
     ensures { fetched result buffer.new ≡ reason_fetched s cursor log.now lit buffer.old }
 {
     let plan = plan_bytes(s);
-    let held = s.edges;
-    let edges = edge_table::table_of(held);
+    let edges = edge_table::table_of(s.edges);
     let p = lent::fetch::place_of(&plan.bytes, refusals::lit_number(lit));
-    let reasons = s.reasons;
-    let reason = recorded::reason_at(reasons, p);
+    let reason = recorded::reason_at(s.reasons, p);
     lent::fetch::calc_reason(
         &plan.bytes,
         edges,

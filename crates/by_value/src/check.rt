@@ -10,7 +10,6 @@ pub fn check(s: GraphDivision) -> bool
     ensures { result ≡ not (plan_bad s.plan s.edges.ends) }
 {
     let plan = plan_bytes(s);
-    let held = s.edges;
-    let edges = edge_table::table_of(held);
+    let edges = edge_table::table_of(s.edges);
     plan::check::plan_ok(&plan.bytes, &edges)
 }

@@ -23,9 +23,8 @@ fn begun_after(
 ) -> GraphDivision
     ensures { result ≡ begun_after s noted words.now left done }
 {
-    let answer = done.answer;
     let state = state_after(s, noted, words, left, done);
-    if is_consistent(answer) {
+    if is_consistent(done.answer) {
         return GraphDivision {
             initialized: true,
             ..state
@@ -45,13 +44,10 @@ pub fn initialize(
     ensures { called result table.new list.new log.new ≡ initialized s cursor table.old log.old list.old }
 {
     let plan = plan_bytes(s);
-    let held = s.edges;
-    let edges = edge_table::table_of(held);
+    let edges = edge_table::table_of(s.edges);
     let mut noted = s.noted;
     let mut words = no_words();
     let mut left = s.last;
-    let len = s.last_len;
-    let initialized = s.initialized;
     let done = lent::initialize::initialize(
         &plan.bytes,
         edges,
@@ -62,14 +58,12 @@ pub fn initialize(
         list,
         log,
         cursor,
-        len,
-        initialized,
+        s.last_len,
+        s.initialized,
     );
-    let moved = done.cursor;
-    let answer = done.answer;
     Outcome {
         state: begun_after(s, noted, &words, left, done),
-        cursor: moved,
-        answer: answer,
+        cursor: done.cursor,
+        answer: done.answer,
     }
 }

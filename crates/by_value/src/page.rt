@@ -11,7 +11,6 @@ pub fn page(s: GraphDivision, log: &[u64], cursor: Cursor, buffer: &mut [u8]) ->
     ensures { fetched result buffer.new ≡ page_fetched s cursor log.now buffer.old }
 {
     let plan = plan_bytes(s);
-    let held = s.edges;
-    let edges = edge_table::table_of(held);
+    let edges = edge_table::table_of(s.edges);
     lent::page::page(&plan.bytes, edges, &s.noted, log, cursor, buffer)
 }

@@ -22,8 +22,7 @@ pub fn propagate(
     ensures { called result table.new list.new log.new ≡ propagated s cursor lit num_pending_propagations table.old list.old log.old }
 {
     let plan = plan_bytes(s);
-    let held = s.edges;
-    let edges = edge_table::table_of(held);
+    let edges = edge_table::table_of(s.edges);
     let mut noted = s.noted;
     let mut proposals = no_words();
     let mut left = no_list();
@@ -40,11 +39,9 @@ pub fn propagate(
         lit,
         num_pending_propagations,
     );
-    let moved = done.cursor;
-    let answer = done.answer;
     Outcome {
         state: state_after(s, noted, &proposals, left, done),
-        cursor: moved,
-        answer: answer,
+        cursor: done.cursor,
+        answer: done.answer,
     }
 }

@@ -20,7 +20,6 @@ pub fn run(
         run_fetched s cursor log.now from to buffer.old }
 {
     let plan = plan_bytes(s);
-    let held = s.edges;
-    let edges = edge_table::table_of(held);
+    let edges = edge_table::table_of(s.edges);
     lent::run::run(&plan.bytes, edges, &s.noted, log, cursor, from, to, buffer)
 }

@@ -11,15 +11,12 @@ pub fn undo(s: GraphDivision, log: &[u64], cursor: Cursor, lit: i32) -> Outcome
     ensures { result ≡ undone s cursor lit log.now }
 {
     let plan = plan_bytes(s);
-    let held = s.edges;
-    let edges = edge_table::table_of(held);
+    let edges = edge_table::table_of(s.edges);
     let mut noted = s.noted;
     let done = lent::undo::undo(&plan.bytes, edges, &mut noted, log, cursor, lit);
-    let moved = done.cursor;
-    let answer = done.answer;
     Outcome {
-        state: GraphDivision { noted: noted, ..s },
-        cursor: moved,
-        answer: answer,
+        state: GraphDivision { noted, ..s },
+        cursor: done.cursor,
+        answer: done.answer,
     }
 }

@@ -1,5 +1,5 @@
 -- Loops over lists and over bytes: one turn more, and lengths.
-use Prim.Native.Nat.{ℕ, zero, suc, ◌+◌, ◌-◌, ◌*◌, ◌/◌, ◌%◌, ◌≤◌, ◌<◌}
+use Prim.Native.Nat.{ℕ, zero, suc, ◌+◌, ◌-◌, ◌*◌, ◌/◌, ◌%◌, ◌≤◌, ◌<◌, min}
 use native.Mathlib.Numerals.{add-one}
 use mathlib.Core.Path.{◌≡◌, refl, sym, ap, ap₂, ◌∙◌}
 use mathlib.Core.Bool.{Bool, true, false}
@@ -7,10 +7,17 @@ use lib.Dec.{ltb}
 use native.Mathlib.Omega.{arith}
 use borrow.Author.Tests.{lt-ltb, le-ltb, ltb-true, ltb-false}
 use Rattle.noting.specs.Words.{capped}
-use Rattle.byte_calls.specs.Codes.{fitted}
-use mathlib.Core.List.{List, ◌∷◌, []}
+use mathlib.Core.List.{List, ◌∷◌, [], ◌++◌}
 use native.Mathlib.Nat.{zero-add}
-use lib.ListN.{length, get_or, set, replicate, length-set}
+use lib.ListN.{length, get_or, set, take, drop, replicate, length-set, length-replicate}
+use lib.Seq.{ext_get_or}
+use mathlib.Core.Logic.{inl, inr, ⊎_elim}
+use Rattle.std.proofs.lemmas.List.{length-append, length-take, length-drop, get_or-take, get_or-drop, get_or_append_left, get_or-append_right, get_or-replicate}
+use Rattle.base.proofs.Filled.{filled_length, filled_in, filled_out}
+use Rattle.base.proofs.Tests.{le_or_lt}
+use borrow.Rule.Slice.PartMut.{put_mid}
+use mir.Syntax.{w32}
+use Rattle.std.specs.Int.{to_le_bytes}
 use Rattle.base.specs.Iter.{iter, pick}
 use Rattle.base.specs.Lists.{filled}
 use Rattle.base.proofs.Bytes.{put_half_length, put_word_length, put_long_length, iter_length, put_halves_length, put_words_length, put_longs_length}
@@ -55,13 +62,9 @@ pub capped_less : (n m : ℕ) → capped n m ≤ n
 unfolding capped
 capped_less n m = pick_ind (λ (i : ℕ). i ≤ n) (ltb n m) n m (λ (t : ltb n m ≡ true). omega arith) (λ (t : ltb n m ≡ false). omega (arith, ltb-false n m t))
 
-pub fitted_low : (n : ℕ) → n < 2147483647 → n ≡ fitted n
-unfolding fitted capped
-fitted_low n h = sym (pick_yes n 2147483647 (lt-ltb n 2147483647 h))
-
-pub fitted_high : (n : ℕ) → 2147483647 ≤ n → 2147483647 ≡ fitted n
-unfolding fitted capped
-fitted_high n h = sym (pick_no n 2147483647 (le-ltb n 2147483647 h))
+pub capped_min : (r n m : ℕ) → r ≡ min n m → r ≡ capped n m
+unfolding capped
+capped_min r n m e = pick_ind (λ (k : ℕ). r ≡ k) (ltb n m) n m (λ (t : ltb n m ≡ true). omega (arith, e, ltb-true n m t)) (λ (t : ltb n m ≡ false). omega (arith, e, ltb-false n m t))
 
 pub cap_most : (r n m : ℕ) → r ≡ capped n m → r ≤ m
 cap_most r n m e = omega (arith, e, capped_most n m)
@@ -91,3 +94,63 @@ unfolding capped
 capped_is n m h = tested (ltb n m)
     (λ (t : ltb n m ≡ true). pick_yes n m t)
     (λ (t : ltb n m ≡ false). let e : m ≡ n = omega (arith, ltb-false n m t) in pick_no n m t ∙ e)
+
+-- ---- bytes that are copied into a part of a slice
+two : (a : ℕ) (b : List ℕ) (p q : ℕ) → a + 2 ≤ length b → take a b ++ (p ∷ q ∷ drop 2 (drop a b)) ≡ set (set b a p) (suc a) q
+two zero [] p q h = absurd (omega arith)
+two zero (x ∷ []) p q h = absurd (omega arith)
+two zero (x ∷ y ∷ b) p q h = refl
+two (suc a) [] p q h = absurd (omega arith)
+two (suc a) (x ∷ b) p q h = ap (λ (l : List ℕ). x ∷ l) (two a b p q (omega arith))
+
+four : (a : ℕ) (b : List ℕ) (p q r s : ℕ) → a + 4 ≤ length b → take a b ++ (p ∷ q ∷ r ∷ s ∷ drop 4 (drop a b)) ≡ set (set (set (set b a p) (suc a) q) (suc (suc a)) r) (suc (suc (suc a))) s
+four zero [] p q r s h = absurd (omega arith)
+four zero (x ∷ []) p q r s h = absurd (omega arith)
+four zero (x ∷ y ∷ []) p q r s h = absurd (omega arith)
+four zero (x ∷ y ∷ z ∷ []) p q r s h = absurd (omega arith)
+four zero (x ∷ y ∷ z ∷ v ∷ b) p q r s h = refl
+four (suc a) [] p q r s h = absurd (omega arith)
+four (suc a) (x ∷ b) p q r s h = ap (λ (l : List ℕ). x ∷ l) (four a b p q r s (omega arith))
+
+pub half_put : (a x : ℕ) (b ys : List ℕ) → a + 2 ≤ length b → ys ≡ take 2 (to_le_bytes w32 x) → put_mid a (a + 2 - a) b ys ≡ put_half a x b
+unfolding put_half
+half_put a x b ys h e =
+    let k : a + 2 - a ≡ 2 = omega arith in
+    let i : suc a ≡ a + 1 = omega arith in
+    (λ j. put_mid a (k j) b (e j)) ∙ (two a b (x % 256) (x / 256 % 256) h ∙ ap (λ (m : ℕ). set (set b a (x % 256)) m (x / 256 % 256)) i)
+
+pub word_put : (a x : ℕ) (b ys : List ℕ) → a + 4 ≤ length b → ys ≡ to_le_bytes w32 x → put_mid a (a + 4 - a) b ys ≡ put_word a x b
+unfolding put_word
+word_put a x b ys h e =
+    let k : a + 4 - a ≡ 4 = omega arith in
+    let i : suc a ≡ a + 1 = omega arith in
+    let i2 : suc (suc a) ≡ a + 2 = omega arith in
+    let i3 : suc (suc (suc a)) ≡ a + 3 = omega arith in
+    (λ j. put_mid a (k j) b (e j))
+    ∙ (four a b (x % 256) (x / 256 % 256) (x / 65536 % 256) (x / 16777216 % 256) h
+    ∙ (λ j. set (set (set (set b a (x % 256)) (i j) (x / 256 % 256)) (i2 j) (x / 65536 % 256)) (i3 j) (x / 16777216 % 256)))
+
+pub zeros_put : (a n : ℕ) (b ys : List ℕ) → a + n ≤ length b → (k : ℕ) → k ≡ n → ys ≡ replicate k 0 → put_mid a n b ys ≡ filled a n (λ i. 0) b
+zeros_put a n b ys h k e r =
+    let f : ℕ → ℕ = λ i. 0 in
+    let rest : List ℕ = drop n (drop a b) in
+    let t : length (take a b) ≡ a = omega (arith, length-take a b) in
+    let m : length ys ≡ n = omega (arith, ap length r, length-replicate {A = ℕ} k 0) in
+    let whole : length (put_mid a n b ys) ≡ length b = omega (arith, length-append (take a b) (ys ++ rest), length-append ys rest, length-drop n (drop a b), length-drop a b) in
+    ext_get_or 0 (put_mid a n b ys) (filled a n f b) (whole ∙ sym (filled_length a f b n))
+    (λ i q.
+    ⊎_elim
+    (λ (g : a ≤ i).
+    get_or-append_right (take a b) (ys ++ rest) a i 0 t g
+    ∙ ⊎_elim
+    (λ (u : n ≤ i - a).
+    let v : a + (n + (i - a - n)) ≡ i = omega arith in
+    get_or-append_right ys rest n (i - a) 0 m u ∙ get_or-drop n (drop a b) (i - a - n) 0 ∙ get_or-drop a b (n + (i - a - n)) 0 ∙ ap (λ (j : ℕ). get_or b j 0) v
+    ∙ sym (filled_out a f b n i (inr (omega arith))))
+    (λ (u : i - a < n).
+    let v : a + (i - a) ≡ i = omega arith in
+    get_or_append_left ys rest 0 (i - a) (omega arith) ∙ ap (λ (y : List ℕ). get_or y (i - a) 0) r ∙ get_or-replicate {A = ℕ} k (i - a) 0 0 (omega arith)
+    ∙ sym (ap (λ (j : ℕ). get_or (filled a n f b) j 0) (sym v) ∙ filled_in a f b n (i - a) u h))
+    (le_or_lt n (i - a)))
+    (λ (g : i < a). get_or_append_left (take a b) (ys ++ rest) 0 i (omega arith) ∙ get_or-take a b i 0 g ∙ sym (filled_out a f b n i (inl g)))
+    (le_or_lt a i))

@@ -8,21 +8,21 @@ use lib.Dec.{ltb}
 use lib.IntN.{ℤ}
 use lib.ListN.{length, get_or, set, replicate, length-set, length-replicate}
 use borrow.Author.Tests.{ltb-true}
+use Rattle.std.specs.Prelude.{Ok, Err}
 use Rattle.base.proofs.Loop.{pick_ind, iter_ind}
 use Rattle.base.proofs.Filled.{filled_length}
+use Rattle.sat.specs.declared.Lit.{Lit}
 use Rattle.plan.specs.Words.{variables_of}
 use Rattle.notifications.specs.declared.Progress.{Progress}
 use Rattle.notifications.specs.Notifications.{Way, Ending, stopping, fine_by, joined_by, joined, notified, notified_at, notified_all, once_more_by, once_more, last_pass, ended, gone_through}
-use Rattle.sat.specs.declared.OptLit.{OptLit}
+use Rattle.std.specs.Prelude.{Option, None, Some}
 use Rattle.undo_log.specs.declared.Cursor.{Cursor}
-use Rattle.walks.specs.declared.Listed.{Listed}
-use Rattle.walks.specs.declared.Listed.TheVariants.{Past, Missing}
 use Rattle.walks.specs.Written.{Out, out_of, pushed, written}
 use Rattle.walks.specs.Answers.{Answer, given, missing, connected_path, decided_region, potential_region}
 use Rattle.reasons.specs.declared.reason.Reason.{Reason}
 use Rattle.reasons.specs.declared.reason.Reason.TheVariants.{NotPropagated, EdgeInSameGroup, EdgeBetweenDifferentGroups, TooLargeIfRegionsAreMerged, RegionAlreadyLarge, RegionAlreadySmall, InconsistentBoundsIfRegionsAreMerged, BoundPropagationWithinRegion, AdjacentSameSizeRegions}
-use Rattle.reasons.specs.declared.Verdict.{Verdict}
-use Rattle.reasons.specs.declared.Verdict.TheVariants.{Going, DisconnectedInside, Over, Under, Crowded, Apart, Crossing, ZeroSize, Unfit}
+use Rattle.reasons.specs.declared.Stop.TheVariants.{DisconnectedInside, Over, Under, Crowded, Apart, Crossing, ZeroSize, Unfit}
+use Rattle.reasons.specs.Verdicts.{Verdict}
 use Rattle.lists.specs.Parts.{shape_of, edge_lits, after, then, path, decided, potential, two_paths, inside, two_regions, three_regions, and_word, and_lit, and_opt}
 use Rattle.lists.specs.Lists.{between, too_large, mismatched, spread, same_sized, reason_lits}
 use Rattle.lists.specs.Conflicts.{span_after, spans_after, crossing_lits, apart_lits, conflict_lits}
@@ -40,9 +40,9 @@ use Rattle.byte_calls.specs.Host.{AfterOf, initialized_in, propagated_in, undone
 use Rattle.byte_calls.specs.After.{Leaves}
 
 -- at most n literals
-abbrev UpTo : ℕ → Listed → Type 0
-UpTo n (Past k) = k ≤ n
-UpTo n Missing = Unit {0}
+abbrev UpTo : ℕ → Option ℕ → Type 0
+UpTo n (Some k) = k ≤ n
+UpTo n None = Unit {0}
 
 -- the place where the next word goes, and the place past a list, is no further than the buffer's end
 record In (n : ℕ) (o : Out) : Type 0 where
@@ -73,10 +73,10 @@ module _ (n : ℕ) where
   unfolding missing
   missing_within o h = record { long = h.long; listed = tt }
 
-  after_within : (f : Out → Answer) (l : Listed) (t : List ℕ) → length t ≡ n → UpTo n l → ((o : Out) → In n o → Within n (f o)) → Within n (after f l t)
+  after_within : (f : Out → Answer) (l : Option ℕ) (t : List ℕ) → length t ≡ n → UpTo n l → ((o : Out) → In n o → Within n (f o)) → Within n (after f l t)
   unfolding after
-  after_within f (Past k) t e h g = g (out_of t k) (record { long = e; place = h })
-  after_within f Missing t e h g = record { long = e; listed = tt }
+  after_within f (Some k) t e h g = g (out_of t k) (record { long = e; place = h })
+  after_within f None t e h g = record { long = e; listed = tt }
 
   then_within : (a : Answer) (f : Out → Answer) → Within n a → ((o : Out) → In n o → Within n (f o)) → Within n (then a f)
   unfolding then
@@ -90,7 +90,7 @@ module _ (n : ℕ) where
   unfolding and_lit
   lit_within x a h = then_within a _ h (λ o k. given_within _ o k)
 
-  opt_within : (l : OptLit) (a : Answer) → Within n a → Within n (and_opt l a)
+  opt_within : (l : Option Lit) (a : Answer) → Within n a → Within n (and_opt l a)
   unfolding and_opt
   opt_within l a h = then_within a _ h (λ o k. given_within _ o k)
 
@@ -136,15 +136,15 @@ module _ (n : ℕ) where
 
     conflict_within : (v : Verdict) (ps : List ℕ) (o : Out) → In n o → Within n (conflict_lits ws es noted v ps o)
     unfolding conflict_lits path inside crossing_lits span_after apart_lits
-    conflict_within Going ps o h = missing_within o h
-    conflict_within (DisconnectedInside g) ps o h = word_within _ _ (path_within _ _ o h)
-    conflict_within (Over v) ps o h = lit_within _ _ (decided_within v o h)
-    conflict_within (Under v) ps o h = lit_within _ _ (potential_within v o h)
-    conflict_within (Crowded r) ps o h = spans_within ps _ (potential_within r o h)
-    conflict_within (Apart a b) ps o h = lit_within _ _ (lit_within _ _ (path_within _ _ o h))
-    conflict_within (Crossing v) ps o h = lit_within _ _ (lit_within _ _ (given_within [] o h))
-    conflict_within ZeroSize ps o h = missing_within o h
-    conflict_within Unfit ps o h = missing_within o h
+    conflict_within (Ok u) ps o h = missing_within o h
+    conflict_within (Err (DisconnectedInside g)) ps o h = word_within _ _ (path_within _ _ o h)
+    conflict_within (Err (Over v)) ps o h = lit_within _ _ (decided_within v o h)
+    conflict_within (Err (Under v)) ps o h = lit_within _ _ (potential_within v o h)
+    conflict_within (Err (Crowded r)) ps o h = spans_within ps _ (potential_within r o h)
+    conflict_within (Err (Apart a b)) ps o h = lit_within _ _ (lit_within _ _ (path_within _ _ o h))
+    conflict_within (Err (Crossing v)) ps o h = lit_within _ _ (lit_within _ _ (given_within [] o h))
+    conflict_within (Err ZeroSize) ps o h = missing_within o h
+    conflict_within (Err Unfit) ps o h = missing_within o h
 
 -- a conflict has at most n literals
 abbrev Most : ℕ → Judgement → Type 0
@@ -153,15 +153,15 @@ Most n (Clash k) = k ≤ n
 Most n (Stopped k) = Unit {0}
 
 module _ (n : ℕ) where
-  listed_most : (l : Listed) → UpTo n l → Most n (listed l)
+  listed_most : (l : Option ℕ) → UpTo n l → Most n (listed l)
   unfolding listed
-  listed_most (Past k) h = h
-  listed_most Missing h = tt
+  listed_most (Some k) h = h
+  listed_most None h = tt
 
-  current_most : (t : List ℕ) (l : Listed) (text : List ℕ) → UpTo n l → Most n (judge_current t l text)
+  current_most : (t : List ℕ) (l : Option ℕ) (text : List ℕ) → UpTo n l → Most n (judge_current t l text)
   unfolding judge_current
-  current_most t (Past k) text h = pick_ind (Most n) _ (Clash k) (Stopped 14) (λ _. h) (λ _. tt)
-  current_most t Missing text h = tt
+  current_most t (Some k) text h = pick_ind (Most n) _ (Clash k) (Stopped 14) (λ _. h) (λ _. tt)
+  current_most t None text h = tt
 
   module _ (ws : List ℕ) (es : List (List ℕ)) (noted l : List ℕ) (e : length l ≡ n) where
     start : In n (out_of l 0)
@@ -177,7 +177,7 @@ module _ (n : ℕ) where
 
     crowded_most : (r : ℕ) → Most n (judge_crowded ws es noted r l).judgement
     unfolding judge_crowded crowded_by
-    crowded_most r = pick_ind (λ (x : Listing). Most n x.judgement) _ _ _ (λ _. chosen_most (Crowded r) _) (λ _. tt)
+    crowded_most r = pick_ind (λ (x : Listing). Most n x.judgement) _ _ _ (λ _. chosen_most (Err (Crowded r)) _) (λ _. tt)
 
     false_most : (t words : List ℕ) (p : ℕ) → Most n (judge_false ws es noted t words p l).judgement
     unfolding judge_false of_false false_lits
@@ -185,15 +185,15 @@ module _ (n : ℕ) where
 
     found_most : (t : List ℕ) (v : Verdict) (words : List ℕ) → Most n (judge_found ws es noted t v words l).judgement
     unfolding judge_found judge_proposals
-    found_most t Going words = pick_ind (λ (x : Listing). Most n x.judgement) _ _ _ (λ _. false_most t words _) (λ _. tt)
-    found_most t (DisconnectedInside g) words = conflict_most (DisconnectedInside g)
-    found_most t (Over v) words = conflict_most (Over v)
-    found_most t (Under v) words = conflict_most (Under v)
-    found_most t (Crowded r) words = crowded_most r
-    found_most t (Apart a b) words = conflict_most (Apart a b)
-    found_most t (Crossing v) words = conflict_most (Crossing v)
-    found_most t ZeroSize words = tt
-    found_most t Unfit words = tt
+    found_most t (Ok u) words = pick_ind (λ (x : Listing). Most n x.judgement) _ _ _ (λ _. false_most t words _) (λ _. tt)
+    found_most t (Err (DisconnectedInside g)) words = conflict_most (Err (DisconnectedInside g))
+    found_most t (Err (Over v)) words = conflict_most (Err (Over v))
+    found_most t (Err (Under v)) words = conflict_most (Err (Under v))
+    found_most t (Err (Crowded r)) words = crowded_most r
+    found_most t (Err (Apart a b)) words = conflict_most (Err (Apart a b))
+    found_most t (Err (Crossing v)) words = conflict_most (Err (Crossing v))
+    found_most t (Err ZeroSize) words = tt
+    found_most t (Err Unfit) words = tt
 
     pub judged_most : (t proposals : List ℕ) → Most n (judge_words ws es noted t proposals l).judgement
     unfolding judge_words judge_told judge_ran with_words
@@ -206,7 +206,7 @@ module _ (n : ℕ) where
 
     crowded_long : (r : ℕ) → length (judge_crowded ws es noted r l).left ≡ n
     unfolding judge_crowded crowded_by
-    crowded_long r = pick_ind (λ (x : Listing). length x.left ≡ n) _ _ _ (λ _. chosen_long (Crowded r) _) (λ _. e)
+    crowded_long r = pick_ind (λ (x : Listing). length x.left ≡ n) _ _ _ (λ _. chosen_long (Err (Crowded r)) _) (λ _. e)
 
     false_long : (t words : List ℕ) (p : ℕ) → length (judge_false ws es noted t words p l).left ≡ n
     unfolding judge_false of_false false_lits
@@ -214,15 +214,15 @@ module _ (n : ℕ) where
 
     found_long : (t : List ℕ) (v : Verdict) (words : List ℕ) → length (judge_found ws es noted t v words l).left ≡ n
     unfolding judge_found judge_proposals judge_conflict
-    found_long t Going words = pick_ind (λ (x : Listing). length x.left ≡ n) _ _ _ (λ _. false_long t words _) (λ _. e)
-    found_long t (DisconnectedInside g) words = chosen_long (DisconnectedInside g) []
-    found_long t (Over v) words = chosen_long (Over v) []
-    found_long t (Under v) words = chosen_long (Under v) []
-    found_long t (Crowded r) words = crowded_long r
-    found_long t (Apart a b) words = chosen_long (Apart a b) []
-    found_long t (Crossing v) words = chosen_long (Crossing v) []
-    found_long t ZeroSize words = e
-    found_long t Unfit words = e
+    found_long t (Ok u) words = pick_ind (λ (x : Listing). length x.left ≡ n) _ _ _ (λ _. false_long t words _) (λ _. e)
+    found_long t (Err (DisconnectedInside g)) words = chosen_long (Err (DisconnectedInside g)) []
+    found_long t (Err (Over v)) words = chosen_long (Err (Over v)) []
+    found_long t (Err (Under v)) words = chosen_long (Err (Under v)) []
+    found_long t (Err (Crowded r)) words = crowded_long r
+    found_long t (Err (Apart a b)) words = chosen_long (Err (Apart a b)) []
+    found_long t (Err (Crossing v)) words = chosen_long (Err (Crossing v)) []
+    found_long t (Err ZeroSize) words = e
+    found_long t (Err Unfit) words = e
 
     judged_long : (t proposals : List ℕ) → length (judge_words ws es noted t proposals l).left ≡ n
     unfolding judge_words judge_told judge_ran with_words

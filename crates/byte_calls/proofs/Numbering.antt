@@ -11,7 +11,7 @@ use lib.ListN.{length, get_or, set, replicate}
 use borrow.Author.Tests.{ltb-true, ltb-false, lt-ltb, le-ltb}
 use mir.Syntax.{w32}
 use mir.Val.{to_z, of_z, SFits}
-use mir.Facts.{to_z-of_z, to_z_pos}
+use mir.Facts.{to_z_pos, to_z-neg}
 use Rattle.base.specs.Iter.{iter}
 use Rattle.base.proofs.Range.{reads_back}
 use Rattle.base.proofs.Loop.{pick_ind, pick_yes, pick_no}
@@ -22,31 +22,15 @@ use Rattle.byte_calls.specs.Build.{BuiltIn}
 use Rattle.byte_calls.specs.Numbers.{signed_of, int_at, numbers_in}
 use Rattle.byte_calls.proofs.Coding.{fitted_neg}
 
-pub get_d_past : (l : List ℕ) (i : ℕ) → length l ≤ i → 0 ≡ get_or l i 0
-get_d_past [] i h = refl
-get_d_past (x ∷ l) zero h = absurd (not-suc-le-zero h)
-get_d_past (x ∷ l) (suc i) h = get_d_past l i (le_of_suc-le-suc h)
-
-below : (k : ℕ) → negsuc 0 -ℤ pos k ≡ negsuc k
-below zero = refl
-below (suc k) = ap (λ (j : ℕ). negsuc (suc j)) (zero-add k)
-
-below_is : (k : ℕ) → k ≤ 2147483647 → negsuc 0 -ℤ to_z w32 k ≡ negsuc k
-below_is k h = ap (λ (z : ℤ). negsuc 0 -ℤ z) (to_z_pos w32 {n = k} (omega arith)) ∙ below k
-
-pub below_fits : (k : ℕ) → k ≤ 2147483647 → SFits w32 (negsuc 0 -ℤ to_z w32 k)
-below_fits k h = subst (SFits w32) (sym (below_is k h)) (record { sfits = omega arith })
-
-pub below_back : (k : ℕ) → k ≤ 2147483647 → to_z w32 (of_z w32 (negsuc 0 -ℤ to_z w32 k)) ≡ negsuc k
-below_back k h = to_z-of_z (below_fits k h) ∙ below_is k h
-
-pub signed_low : (w : ℕ) → w < 2147483648 → to_z w32 w ≡ signed_of w
+-- 32 bits in two's complement
+pub signed_is : (w : ℕ) → w < 4294967296 → to_z w32 w ≡ signed_of w
 unfolding signed_of
-signed_low w h = to_z_pos w32 {n = w} (omega arith) ∙ sym (pick_yes _ _ (lt-ltb w 2147483648 h))
-
-pub signed_high : (w : ℕ) (z : ℤ) → 2147483648 ≤ w → z ≡ negsuc (4294967295 - w) → to_z w32 (of_z w32 z) ≡ signed_of w
-unfolding signed_of
-signed_high w z h e = ap (λ (y : ℤ). to_z w32 (of_z w32 y)) e ∙ (reads_back (negsuc (4294967295 - w)) (omega arith) ∙ sym (pick_no _ _ (le-ltb w 2147483648 h)))
+signed_is w h = pick_ind (λ (z : ℤ). to_z w32 w ≡ z) (ltb w 2147483648) (pos w) (negsuc (4294967295 - w))
+    (λ (t : ltb w 2147483648 ≡ true). let k = ltb-true w 2147483648 t in to_z_pos w32 {n = w} (omega arith))
+    (λ (t : ltb w 2147483648 ≡ false).
+    let k = ltb-false w 2147483648 t in
+    let e : w ≡ 4294967296 - suc (4294967295 - w) = omega arith in
+    ap (to_z w32) e ∙ to_z-neg w32 (4294967295 - w) (omega arith))
 
 signed_back : (w : ℕ) → to_z w32 (of_z w32 (signed_of w)) ≡ signed_of w
 unfolding signed_of

@@ -24,10 +24,7 @@ use plan::bytes::bytes_of;
 pub(crate) fn option(n: i32) -> bool
     ensures { result ≡ not (in_range (pos 0) n) }
 {
-    if base::in_range(n, 0) {
-        return false;
-    }
-    true
+    !base::in_range(n, 0)
 }
 
 fn store_ends(state: &mut [u8], table: &Edges, g: usize)
@@ -42,10 +39,8 @@ fn store_edges(state: &mut [u8], table: &Edges)
     requires { 133440 ≤ length state.old }
     ensures { state.new ≡ put_edges table.now state.old }
 {
-    let mut g = 0;
-    while g < 128 {
+    for g in 0..128 {
         store_ends(state, table, g);
-        g += 1;
     }
 }
 
@@ -54,11 +49,7 @@ fn clear(state: &mut [u8])
     requires { 133440 ≤ length state.old }
     ensures { state.new ≡ cleared state.old }
 {
-    let mut i = 0;
-    while i < 70684 {
-        state[62756 + i] = 0;
-        i += 1;
-    }
+    state[62756..133440].fill(0);
 }
 
 // The plan's words: each reads back.
@@ -90,11 +81,9 @@ pub(crate) fn build<'a>(
     requires { (133440 ≤ length state.old) × (refusal vertices.now n edges.now m ≡ 0) }
     ensures { BytesAfter false (built vertices.now n edges.now m options.disallow_adjacent_same_size_regions options.allow_extra_walls).state state.old state.new }
 {
-    let words = builder::build::plan_words(vertices, n, edges, m, options);
-    let plan = words.words;
+    let plan = builder::build::plan_words(vertices, n, edges, m, options).words;
     let mut noted = no_notes();
-    let held = bytes_of(&plan);
-    noting::fresh(&held.bytes, &mut noted);
+    noting::fresh(&bytes_of(&plan).bytes, &mut noted);
     let table = builder::build::edge_table(edges, m);
     store_words(state, &plan, &noted);
     store_edges(state, &table);
@@ -114,17 +103,16 @@ pub(crate) fn build_from<'a>(
     ensures value { result ≡ build_code vertices.now n edges.now m state.old }
     ensures built_in { BuiltIn vertices.now n edges.now m same_size extra_walls state.old state.new }
 {
-    let refusal = builder::input::refusal_of(vertices, n, edges, m);
-    if refusal == 0 {
-        if state.len() < 133440 {
-            return -7;
-        }
-        let options = GraphDivisionOptions {
-            disallow_adjacent_same_size_regions: option(same_size),
-            allow_extra_walls: option(extra_walls),
-        };
-        build(vertices, n, edges, m, options, state);
-        return 0;
+    if let Some(refusal) = builder::input::refusal_of(vertices, n, edges, m) {
+        return refusal_code(refusal.number());
     }
-    refusal_code(refusal as u32)
+    if state.len() < 133440 {
+        return -7;
+    }
+    let options = GraphDivisionOptions {
+        disallow_adjacent_same_size_regions: option(same_size),
+        allow_extra_walls: option(extra_walls),
+    };
+    build(vertices, n, edges, m, options, state);
+    0
 }

@@ -3,29 +3,19 @@ ghost use Rattle.std.specs.Prelude.{◌≡◌, ℕ, ◌+◌, ◌*◌, ◌<◌, �
 ghost use Rattle.base.specs.Lists.{filled};
 ghost use Rattle.base.specs.Bytes.{word_at, long_at, put_half, put_word, put_long, put_halves, put_words, put_longs};
 
-pub(crate) fn wide(x: u8) -> u32
-    ensures { (result ≡ x) × (result < 256) }
-{
-    x as u32
-}
-
 pub(crate) fn word_at(bytes: &[u8], at: usize) -> u32
     requires { at + 4 ≤ length bytes.now }
     ensures { result ≡ word_at bytes.now at }
 {
-    let a = wide(bytes[at]);
-    let b = wide(bytes[at + 1]);
-    let c = wide(bytes[at + 2]);
-    let d = wide(bytes[at + 3]);
-    a + 256 * b + 65536 * c + 16777216 * d
+    u32::from_le_bytes([bytes[at], bytes[at + 1], bytes[at + 2], bytes[at + 3]])
 }
 
 pub(crate) fn long_at(bytes: &[u8], at: usize) -> u64
     requires { at + 8 ≤ length bytes.now }
     ensures { result ≡ long_at bytes.now at }
 {
-    let low = word_at(bytes, at) as u64;
-    let high = word_at(bytes, at + 4) as u64;
+    let low = u64::from(word_at(bytes, at));
+    let high = u64::from(word_at(bytes, at + 4));
     low + 4294967296 * high
 }
 
@@ -34,10 +24,8 @@ pub(crate) fn read_words(bytes: &[u8], at: usize, from: usize, n: usize, words: 
     requires { (at + 4 * (from + n) ≤ length bytes.now) × (from + n ≤ length words.old) }
     ensures { words.new ≡ filled from n (λ i. word_at bytes.now (at + 4 * (from + i))) words.old }
 {
-    let mut i = 0;
-    while i < n {
+    for i in 0..n {
         words[from + i] = word_at(bytes, at + 4 * (from + i));
-        i += 1;
     }
 }
 
@@ -46,10 +34,8 @@ pub(crate) fn read_longs(bytes: &[u8], n: usize, words: &mut [u64])
     requires { (8 * n ≤ length bytes.now) × (n ≤ length words.old) }
     ensures { words.new ≡ filled 0 n (λ i. long_at bytes.now (8 * i)) words.old }
 {
-    let mut i = 0;
-    while i < n {
+    for i in 0..n {
         words[i] = long_at(bytes, 8 * i);
-        i += 1;
     }
 }
 
@@ -57,18 +43,14 @@ fn put_half(bytes: &mut [u8], at: usize, x: u32)
     requires { at + 2 ≤ length bytes.old }
     ensures { bytes.new ≡ put_half at x bytes.old }
 {
-    bytes[at] = (x % 256) as u8;
-    bytes[at + 1] = (x / 256 % 256) as u8;
+    bytes[at..at + 2].copy_from_slice(&x.to_le_bytes()[..2]);
 }
 
 pub(crate) fn put_word(bytes: &mut [u8], at: usize, x: u32)
     requires { at + 4 ≤ length bytes.old }
     ensures { bytes.new ≡ put_word at x bytes.old }
 {
-    bytes[at] = (x % 256) as u8;
-    bytes[at + 1] = (x / 256 % 256) as u8;
-    bytes[at + 2] = (x / 65536 % 256) as u8;
-    bytes[at + 3] = (x / 16777216 % 256) as u8;
+    bytes[at..at + 4].copy_from_slice(&x.to_le_bytes());
 }
 
 pub(crate) fn put_long(bytes: &mut [u8], at: usize, x: u64)
@@ -84,10 +66,8 @@ pub(crate) fn write_halves(bytes: &mut [u8], list: &[u32], n: usize)
     requires { (2 * n ≤ length bytes.old) × (n ≤ length list.now) }
     ensures { bytes.new ≡ put_halves list.now n bytes.old }
 {
-    let mut i = 0;
-    while i < n {
+    for i in 0..n {
         put_half(bytes, 2 * i, list[i]);
-        i += 1;
     }
 }
 
@@ -96,10 +76,8 @@ pub(crate) fn write_words(bytes: &mut [u8], at: usize, words: &[u32], n: usize)
     requires { (at + 4 * n ≤ length bytes.old) × (n ≤ length words.now) }
     ensures { bytes.new ≡ put_words at words.now n bytes.old }
 {
-    let mut i = 0;
-    while i < n {
+    for i in 0..n {
         put_word(bytes, at + 4 * i, words[i]);
-        i += 1;
     }
 }
 
@@ -108,9 +86,7 @@ pub(crate) fn write_longs(bytes: &mut [u8], words: &[u64], from: usize, n: usize
     requires { (8 * (from + n) ≤ length bytes.old) × (from + n ≤ length words.now) }
     ensures { bytes.new ≡ put_longs words.now from n bytes.old }
 {
-    let mut i = 0;
-    while i < n {
+    for i in 0..n {
         put_long(bytes, 8 * (from + i), words[from + i]);
-        i += 1;
     }
 }

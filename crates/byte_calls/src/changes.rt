@@ -26,10 +26,8 @@ fn store_state(state: &mut [u8], noted: &[u32], proposals: &[u64], words: &[u32]
         state_in state.new ≡ state_after (state_in state.old) noted.now proposals.now words.now done }
     ensures bytes_kept { BytesKept state.old state.new }
 {
-    let judged = done.judged;
-    let len = done.len;
-    if judged {
-        store_last(state, words, len);
+    if done.judged {
+        store_last(state, words, done.len);
         store_reasons(state, proposals);
         store_noted(state, noted);
         return;
@@ -61,16 +59,14 @@ pub(crate) fn finish(
         state_in state.new ≡ state_after (state_in state.old) noted.now proposals.now words.now done }
     ensures bytes_kept { BytesKept state.old state.new }
 {
-    let answer = done.answer;
-    if is_refused(answer) {
-        return code_of(answer);
+    if is_refused(done.answer) {
+        return code_of(done.answer);
     }
     store_state(state, noted, proposals, words, done);
-    store_list(list, lits, given_by(answer));
-    let after = done.cursor;
-    store_log(log, records, before.used, after.used);
-    store_cursor(cursor, after);
-    code_of(answer)
+    store_list(list, lits, given_by(done.answer));
+    store_log(log, records, before.used, done.cursor.used);
+    store_cursor(cursor, done.cursor);
+    code_of(done.answer)
 }
 
 // The literal is notified over the decoded words, where lits and records have as many entries as the list and the log.
@@ -166,14 +162,12 @@ fn take_back<'a>(
     ensures after_of { AfterOf false (undone (state_in state.old) «before» lit records.now) state.old state.new }
 {
     let done = lent::undo::undo(state, edges, noted, records, before, lit);
-    let answer = done.answer;
-    if is_refused(answer) {
-        return code_of(answer);
+    if is_refused(done.answer) {
+        return code_of(done.answer);
     }
     store_noted(state, noted);
-    let after = done.cursor;
-    store_cursor(cursor, after);
-    code_of(answer)
+    store_cursor(cursor, done.cursor);
+    code_of(done.answer)
 }
 
 pub(crate) fn undo(state: &mut [u8], log: &[u8], cursor: &mut [u8], lit: i32) -> i32

@@ -10,18 +10,14 @@ fn plan_bad(state: &[u8]) -> bool
     requires { 133440 ≤ length state.now }
     ensures { result ≡ plan_bad (plan_in state.now) (ends_in state.now) }
 {
-    let edges = read_edges(state);
-    !plan::check::plan_ok(state, &edges)
+    !plan::check::plan_ok(state, &read_edges(state))
 }
 
 // 0 where the state's plan is one that a building gives, else -7; a state that is shorter than its layout is -7 too.
 pub fn check(state: &[u8]) -> i32
     ensures { result ≡ check_code state.now }
 {
-    if state.len() < 133440 {
-        return -7;
-    }
-    if plan_bad(state) {
+    if state.len() < 133440 || plan_bad(state) {
         return -7;
     }
     0

@@ -7,27 +7,13 @@ use graph_division::Answer;
 fn count_code(n: usize) -> i32
     ensures { result ≡ pos (fitted n) }
 {
-    if n < 2147483647 {
-        return n as i32;
-    }
-    2147483647
-}
-
-fn negated(n: u32) -> i32
-    requires { n ≤ 2147483647 }
-    ensures { result ≡ neg_ℤ (pos n) }
-{
-    let s = n as i32;
-    -s
+    n.min(2147483647) as i32
 }
 
 pub(crate) fn refusal_code(n: u32) -> i32
     ensures { result ≡ neg_ℤ (pos (fitted n)) }
 {
-    if n < 2147483647 {
-        return negated(n);
-    }
-    negated(2147483647)
+    -(n.min(2147483647) as i32)
 }
 
 pub(crate) fn code_of(answer: Answer) -> i32
@@ -51,12 +37,7 @@ pub(crate) fn given_by(answer: Answer) -> usize
 {
     match answer {
         Answer::Consistent { handed } => handed,
-        Answer::Conflict => 0,
-        Answer::Noted => 0,
-        Answer::Undone => 0,
-        Answer::Reason { len } => len,
-        Answer::Run { len } => len,
-        Answer::Page { len } => len,
-        Answer::Refused { number: _ } => 0,
+        Answer::Reason { len } | Answer::Run { len } | Answer::Page { len } => len,
+        Answer::Conflict | Answer::Noted | Answer::Undone | Answer::Refused { .. } => 0,
     }
 }

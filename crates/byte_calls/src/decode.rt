@@ -9,20 +9,11 @@ use crate::bytes::{read_longs, read_words, word_at};
 use edge_table::Edges;
 use undo_log::Cursor;
 
-pub(crate) fn capped(n: usize, most: usize) -> usize
-    ensures { result ≡ capped n most }
-{
-    if n < most {
-        return n;
-    }
-    most
-}
-
 // How many records of a log, or literals of a list, are used.
 pub(crate) fn room_of(entries: usize) -> usize
     ensures { result ≡ used_entries entries }
 {
-    capped(entries, 4352)
+    entries.min(4352)
 }
 
 pub(crate) fn read_edges(state: &[u8]) -> Edges
@@ -30,12 +21,8 @@ pub(crate) fn read_edges(state: &[u8]) -> Edges
     ensures { result ≡ ends_in state.now }
 {
     let mut table = [[0u8; 2]; 128];
-    let mut g = 0;
-    while g < 128 {
-        let u = state[60964 + 2 * g];
-        let v = state[60965 + 2 * g];
-        table[g] = [u, v];
-        g += 1;
+    for g in 0..128 {
+        table[g] = [state[60964 + 2 * g], state[60965 + 2 * g]];
     }
     table
 }
@@ -57,8 +44,7 @@ fn read_log(log: &[u8], cursor: Cursor, records: &mut [u64])
         filled 0 (capped cursor.used (used_entries (length log.now / 8)))
         (λ i. long_at log.now (8 * i)) records.old }
 {
-    let used = cursor.used;
-    let n = capped(used, room_of(log.len() / 8));
+    let n = cursor.used.min(room_of(log.len() / 8));
     read_longs(log, n, records);
 }
 

@@ -7,7 +7,7 @@ ghost use Rattle.byte_calls.specs.Host.{back, given_in};
 
 use crate::bytes::{long_at, read_words, word_at};
 use crate::codes::{code_of, given_by};
-use crate::decode::{capped, decode, no_records, read_edges, room_of};
+use crate::decode::{decode, no_records, read_edges, room_of};
 use crate::store::store_list;
 use edge_table::Edges;
 use graph_division::Answer;
@@ -120,7 +120,7 @@ pub(crate) fn calc_reason(
     let edges = read_edges(state);
     let k = room_of(log.len() / 8);
     let mut out = no_list();
-    let n = capped(buffer.len() / 2, 260);
+    let n = (buffer.len() / 2).min(260);
     give_reason(
         state,
         edges,
@@ -143,7 +143,7 @@ pub(crate) fn calc_last(state: &[u8], log: &[u8], cursor: &[u8], buffer: &mut [u
     let edges = read_edges(state);
     let k = room_of(log.len() / 8);
     let mut out = no_list();
-    let n = capped(buffer.len() / 2, 260);
+    let n = (buffer.len() / 2).min(260);
     give_last(
         state,
         edges,

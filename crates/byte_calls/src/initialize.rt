@@ -23,10 +23,7 @@ fn is_initialized(state: &[u8]) -> bool
     requires { 133440 ≤ length state.now }
     ensures { result ≡ not (eqb (word_at state.now 62760) 0) }
 {
-    if word_at(state, 62760) == 0 {
-        return false;
-    }
-    true
+    word_at(state, 62760) != 0
 }
 
 // A consistent initialise is marked in the state; after any other answer the bytes stay.
@@ -77,11 +74,10 @@ fn begin(
         len,
         initialized,
     );
-    let answer = done.answer;
     let r = finish(
         state, noted, &words, last, lits, records, list, log, cursor, before, done,
     );
-    store_initialized(state, answer);
+    store_initialized(state, done.answer);
     r
 }
 

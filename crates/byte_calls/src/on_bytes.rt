@@ -12,10 +12,7 @@ use builder::input::{no_edges, no_vertices};
 fn too_short(state: &[u8], cursor: &[u8]) -> bool
     ensures { result ≡ too_short state.now cursor.now }
 {
-    if state.len() < 133440 {
-        return true;
-    }
-    cursor.len() < 8
+    state.len() < 133440 || cursor.len() < 8
 }
 
 // The bytes hold the numbers of n vertices and m edges as builder::input says, 4 bytes each. An option other than 0 counts as 1.

@@ -5,7 +5,7 @@ ghost use Rattle.graph_division.specs.Calls.{fetched, run_fetched};
 ghost use Rattle.byte_calls.specs.Layout.{state_in, cursor_in, log_in, buffer_in};
 ghost use Rattle.byte_calls.specs.Host.{back, given_in};
 
-use crate::decode::{capped, decode, no_records, read_edges, room_of};
+use crate::decode::{decode, no_records, read_edges, room_of};
 use crate::fetch::give;
 use graph_division::Answer;
 use lists::no_list;
@@ -60,6 +60,6 @@ pub(crate) fn run(
         buffer.old }
 {
     let mut out = no_list();
-    let n = capped(buffer.len() / 2, 260);
+    let n = (buffer.len() / 2).min(260);
     give_run(state, log, cursor, from, to, &mut out[0..n], buffer)
 }

@@ -6,7 +6,6 @@ ghost use Rattle.byte_calls.specs.Layout.{state_in};
 ghost use Rattle.byte_calls.specs.Stores.{put_reason, put_reasons, put_last, put_noted, put_cursor, put_list, put_log};
 
 use crate::bytes::{put_long, put_word, write_halves, write_longs, write_words};
-use crate::decode::capped;
 use undo_log::Cursor;
 
 // The two words of place p, where it is proposed.
@@ -24,8 +23,9 @@ pub(crate) fn store_reasons(state: &mut [u8], proposals: &[u64])
     requires { (133440 ≤ length state.old) × (length proposals.now ≡ 8772) }
     ensures { state.new ≡ put_reasons (words_of state.old) proposals.now state.old }
 {
-    let n = capped(2 * (plan::num_variables(state) as usize), 4352);
+    let n = (2 * (plan::num_variables(state) as usize)).min(4352);
     let mut p = sweep::next_proposed(proposals, 0, n);
+    // Not a `for`: words of which nothing is proposed are passed at once.
     while p < n {
         store_reason(state, proposals, p);
         p = sweep::next_proposed(proposals, p + 1, n);
@@ -51,10 +51,8 @@ pub(crate) fn store_cursor(bytes: &mut [u8], cursor: Cursor)
     requires { 8 ≤ length bytes.old }
     ensures { bytes.new ≡ put_cursor cursor bytes.old }
 {
-    let used = cursor.used;
-    let standing = cursor.standing;
-    put_word(bytes, 0, (used % 4294967296) as u32);
-    put_word(bytes, 4, (standing % 4294967296) as u32);
+    put_word(bytes, 0, (cursor.used % 4294967296) as u32);
+    put_word(bytes, 4, (cursor.standing % 4294967296) as u32);
 }
 
 // The first n literals, as many as the list has.
@@ -62,7 +60,7 @@ pub(crate) fn store_list(bytes: &mut [u8], list: &[u32], n: usize)
     requires { 2 * length list.now ≤ length bytes.old }
     ensures { bytes.new ≡ put_list list.now n bytes.old }
 {
-    write_halves(bytes, list, capped(n, list.len()));
+    write_halves(bytes, list, n.min(list.len()));
 }
 
 // The log's records from one cursor to the other.
@@ -70,7 +68,7 @@ pub(crate) fn store_log(bytes: &mut [u8], records: &[u64], from: usize, to: usiz
     requires { 8 * length records.now ≤ length bytes.old }
     ensures { bytes.new ≡ put_log records.now from to bytes.old }
 {
-    let end = capped(to, records.len());
+    let end = to.min(records.len());
     if from < end {
         write_longs(bytes, records, from, end - from);
     }

@@ -6,6 +6,9 @@ use mathlib.Core.List.{List}
 use Prim.Native.Nat.{ℕ, ◌<◌, ◌≤◌}
 use native.Mathlib.Omega.{arith}
 use lib.IntN.{ℤ}
+use Rattle.std.specs.Prelude.{None}
+use Rattle.base.proofs.Numbered.{with_none}
+use Rattle.builder.specs.Input.{refusal}
 use Rattle.division.specs.Plan.{Proper, Plain}
 use Rattle.division.specs.Noting.{In}
 use Rattle.plan.specs.Check.{plan_bad}
@@ -33,9 +36,13 @@ use Rattle.claims.proofs.Crossed as crossed
 use Rattle.claims.proofs.Pages as paged
 use Rattle.claims.proofs.Standing as standing
 
-module _ (vs : List ℤ) (n : ℕ) (es : List ℤ) (m : ℕ) (sameSize extraWalls : Bool) (z : (built vs n es m sameSize extraWalls).refusal ≡ 0) where
+module _ (vs : List ℤ) (n : ℕ) (es : List ℤ) (m : ℕ) (sameSize extraWalls : Bool) (none : (built vs n es m sameSize extraWalls).refusal ≡ None) where
+  z : refusal vs n es m ≡ 0
+  unfolding built
+  z = with_none _ none
+
   at_start : At (built_plan vs n es m sameSize extraWalls) (built_start vs n es m sameSize extraWalls) calls.built
-  at_start = record { represents = fresh_represents vs n es m sameSize extraWalls z; plan = refl }
+  at_start = record { represents = fresh_represents vs n es m sameSize extraWalls none; plan = refl }
 
   -- the plan is the one that was given, number by number
   pub given_built :
@@ -74,7 +81,7 @@ module _ (vs : List ℤ) (n : ℕ) (es : List ℤ) (m : ℕ) (sameSize extraWall
   -- after any list of requests the plan passes its own test, which is a call of its own
   pub still_passes : (qs : List Request) →
       let k = after (built_start vs n es m sameSize extraWalls) qs in plan_bad k.state.plan k.state.edges.ends ≡ false
-  still_passes qs = passes _ _ (run_represents vs n es m sameSize extraWalls z qs).represents.represents.proper
+  still_passes qs = passes _ _ (run_represents vs n es m sameSize extraWalls none qs).represents.represents.proper
 
   -- "Verdicts turned away": a call's refusal has a number of that table
   pub refusal_range : (before : List Request) (q : Request) (m' : ℕ) →
@@ -95,7 +102,7 @@ module _ (vs : List ℤ) (n : ℕ) (es : List ℤ) (m : ℕ) (sameSize extraWall
       (lists.written_known _ _ at_start proper_built before q l i)
 
 -- "Both options off, on any plan that builds"
-module _ (vs : List ℤ) (n : ℕ) (es : List ℤ) (m : ℕ) (z : (built vs n es m false false).refusal ≡ 0) where
+module _ (vs : List ℤ) (n : ℕ) (es : List ℤ) (m : ℕ) (z : (built vs n es m false false).refusal ≡ None) where
   plain_built : Plain (built_plan vs n es m false false)
   plain_built = record { sizes = (given_built vs n es m false false z).same_size; walls = (given_built vs n es m false false z).extra_walls }
 

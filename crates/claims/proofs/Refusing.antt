@@ -16,8 +16,7 @@ use Rattle.walks.specs.Answers.{given, missing}
 use Rattle.runs.specs.Walk.{listed, run_listed}
 use Rattle.pages.specs.Lines as pages
 use Rattle.pages.specs.Lines.{Figures, printed_in}
-use Rattle.walks.specs.declared.Listed.{Listed}
-use Rattle.walks.specs.declared.Listed.TheVariants.{Past, Missing}
+use Rattle.std.specs.Prelude.{Option, None, Some}
 use Rattle.noting.specs.Buffers.{table_bad, list_short, reason_short}
 use Rattle.refusals.specs.Refusals.{lit_number, literal_refusal, state_bad, table_state_bad, initialize_refusal, propagate_refusal, undo_refusal, fetch_refusal}
 use Rattle.judge.specs.declared.Judgement.{Judgement}
@@ -76,10 +75,10 @@ module _ (k : Kept) where
   copied_unchanged q b tail ws l n =
       by_fetch k (ask q b tail) _ _ _ _ (away k (ask q b tail) 7 _ refl) (other k (ask q b tail) _ (Reason n) refl (λ e. omega arith))
 
-  given_unchanged : (q : Query) (b tail ws l : List ℕ) (x : Listed) → Unchanged k (ask q b tail) (replied_fetched k (log_for k tail) (reason_given ws l x b))
+  given_unchanged : (q : Query) (b tail ws l : List ℕ) (x : Option ℕ) → Unchanged k (ask q b tail) (replied_fetched k (log_for k tail) (reason_given ws l x b))
   unfolding reason_given replied_fetched replied refuse turned_away_with table_of lent_list tail_of
-  given_unchanged q b tail ws l (Past n) = copied_unchanged q b tail ws l n
-  given_unchanged q b tail ws l Missing = away k (ask q b tail) 16 _ refl
+  given_unchanged q b tail ws l (Some n) = copied_unchanged q b tail ws l n
+  given_unchanged q b tail ws l None = away k (ask q b tail) 16 _ refl
 
   -- a call that is refused leaves the state, the cursor and all that it was lent
   refused_initialize : (t list tail : List ℕ) → Unchanged k (initialize t list tail) (reply k (initialize t list tail))

@@ -1,7 +1,10 @@
 -- No answer's line is longer than the buffer that the program lends: each number is a u32, of at most 10 digits.
+use Rattle.base.proofs.Tests.{le_or_lt}
+use lib.Seq.{take_all}
+use mathlib.Core.Logic.{⊎_elim}
 use mathlib.Core.Path.{◌≡◌, refl, sym, ap, ◌∙◌}
 use mathlib.Core.List.{List, [], ◌∷◌, ◌++◌}
-use Prim.Native.Nat.{ℕ, zero, suc, ◌+◌, ◌*◌, ◌≤◌, ◌<◌}
+use Prim.Native.Nat.{ℕ, zero, suc, ◌+◌, ◌*◌, ◌≤◌, ◌<◌, min}
 use native.Mathlib.Omega.{arith}
 use lib.ListN.{length, get_or, take, length-append}
 use Rattle.text_writer.specs.Digits.{digits}
@@ -36,3 +39,10 @@ unfolding answer_line tabbed
 refusal_few letter x h =
     let a = one_few x h in
     omega (arith, length-append (tabbed_one x) [], length-append (tabbed_one x ++ []) (10 ∷ []))
+
+-- no more than there are
+pub take_min : (n k : ℕ) (xs : List ℕ) → k ≡ min n (length xs) → take k xs ≡ take n xs
+take_min n k xs e = ⊎_elim
+    (λ (h : n ≤ length xs). let q : k ≡ n = omega arith in ap (λ (j : ℕ). take j xs) q)
+    (λ (h : length xs < n). take_all k xs (omega arith) ∙ sym (take_all n xs (omega arith)))
+    (le_or_lt n (length xs))

@@ -9,7 +9,11 @@ use lib.ListN.{length, take, drop, replicate, length-append}
 use lib.Seq.{drop-drop, take-append_seam, drop-append_seam, take-length}
 use borrow.Author.Tests.{le-leb, eq-eqb, ne_eqb}
 use Rattle.base.specs.Iter.{pick}
+use Rattle.std.specs.Prelude.{Option, None, Some}
+use Rattle.base.specs.declared.refusal.Refusal.{Refusal}
+use Rattle.base.specs.Refusal.{number, number_or_0}
 use Rattle.base.proofs.Loop.{pick_yes, pick_no}
+use Rattle.base.proofs.Numbered.{number_not_0}
 use Rattle.undo_log.specs.declared.Cursor.{Cursor}
 use Rattle.text.specs.Fields.{newline, lines_of, upto}
 use Rattle.text.specs.Lines.{read_line}
@@ -45,13 +49,13 @@ shows bytes out out' n h e =
     (c, (λ i. take (c i) (e i).out) ∙ front_is bytes out h)
 
 -- ---- a refusal is all that is printed
-pub refusal_shown : (input : List ℕ) (s : Started) (n : ℕ) (out : List ℕ) → s ≡ started input → (s.refusal ≡ 0 → ⊥) → Shows n out (answer_line 69 (s.refusal ∷ [])) →
+pub refusal_shown : (input : List ℕ) (n : ℕ) (out : List ℕ) (r : Refusal) → (started input).refusal ≡ Some r → Shows n out (answer_line 69 (number r ∷ [])) →
     (take n out ≡ take n (drop 0 (session input))) × (n ≡ length (session input))
 unfolding session
-refusal_shown input s n out e z x =
-    let whole : session input ≡ answer_line 69 (s.refusal ∷ []) =
-    ap (λ (y : Started). pick (eqb y.refusal 0) (spoken (lines_of (drop y.calls_at input)) (at_first y.state)) (answer_line 69 (y.refusal ∷ []))) (sym e) ∙ pick_no _ _ (ne_eqb s.refusal 0 z) in
-    (x.1 ∙ sym (ap₂ take x.0 whole ∙ take-length (answer_line 69 (s.refusal ∷ []))), x.0 ∙ ap length (sym whole))
+refusal_shown input n out r z x =
+    let whole : session input ≡ answer_line 69 (number r ∷ []) =
+    pick_no _ _ (ne_eqb (number_or_0 (started input).refusal) 0 (number_not_0 r _ (ap number_or_0 z))) ∙ ap (λ (o : Option Refusal). answer_line 69 (number_or_0 o ∷ [])) z in
+    (x.1 ∙ sym (ap₂ take x.0 whole ∙ take-length (answer_line 69 (number r ∷ []))), x.0 ∙ ap length (sym whole))
 
 -- ---- what is left to print after `told` bytes is what the lines from `at` on do
 pub record Left (input : List ℕ) (told at : ℕ) (d : Desk) : Type 0 where
@@ -59,11 +63,12 @@ pub record Left (input : List ℕ) (told at : ℕ) (d : Desk) : Type 0 where
   pub whole : told + length (spoken (lines_of (drop at input)) d) ≡ length (session input)
   pub few : told ≤ 65536 * at
 
-pub first_left : (input : List ℕ) (s : Started) → s ≡ started input → s.refusal ≡ 0 → Left input 0 s.calls_at (at_first s.state)
+pub first_left : (input : List ℕ) (s : Started) → s ≡ started input → s.refusal ≡ None → Left input 0 s.calls_at (at_first s.state)
 unfolding session
 first_left input s e z =
     let whole : session input ≡ spoken (lines_of (drop s.calls_at input)) (at_first s.state) =
-    ap (λ (y : Started). pick (eqb y.refusal 0) (spoken (lines_of (drop y.calls_at input)) (at_first y.state)) (answer_line 69 (y.refusal ∷ []))) (sym e) ∙ pick_yes _ _ (eq-eqb s.refusal 0 z) in
+    ap (λ (y : Started). pick (eqb (number_or_0 y.refusal) 0) (spoken (lines_of (drop y.calls_at input)) (at_first y.state)) (answer_line 69 (number_or_0 y.refusal ∷ []))) (sym e)
+    ∙ pick_yes _ _ (eq-eqb (number_or_0 s.refusal) 0 (ap number_or_0 z)) in
     record { rest = whole; whole = omega (arith, ap length (sym whole)); few = omega arith }
 
 pub none_left : (input : List ℕ) (told at : ℕ) (d : Desk) → Left input told at d → length input ≤ at → told ≡ length (session input)

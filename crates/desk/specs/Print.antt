@@ -1,7 +1,5 @@
 -- What the program prints for an answer (document 01, "Text lines").
-use Rattle.std.specs.Prelude.{List, [], ◌∷◌, ℕ}
-use Rattle.text_writer.specs.declared.Written.{Written}
-use Rattle.text_writer.specs.declared.Written.TheVariants.{Next, TooSmall}
+use Rattle.std.specs.Prelude.{List, [], ◌∷◌, ℕ, Option, None, Some}
 use Rattle.text_writer.specs.Written.{after, next, answer_line}
 use Rattle.graph_division.specs.declared.Answer.{Answer}
 use Rattle.graph_division.specs.declared.Answer.TheVariants.{Consistent, Conflict, Noted, Undone, Reason, Run, Page, Refused}
@@ -34,9 +32,9 @@ unfoldable pub line_of : Answer → List ℕ → List ℕ
 line_of a l = answer_line (letter_of a) (numbers_in a l)
 
 -- how many bytes were written
-unfoldable pub count_of : Written → ℕ
-count_of (Next n) = n
-count_of TooSmall = 0
+unfoldable pub count_of : Option ℕ → ℕ
+count_of (Some n) = n
+count_of None = 0
 
 -- a number of bytes, and the buffer that has them at its start
 pub record Printed : Type 0 where

@@ -1,6 +1,7 @@
 -- The whole program (document 01, "Text lines"): the bytes of its output, for the bytes of its input.
 use Rattle.std.specs.Prelude.{List, [], ◌∷◌, ◌++◌, ℕ, eqb, drop, replicate}
 use Rattle.base.specs.Iter.{pick}
+use Rattle.base.specs.Refusal.{number_or_0}
 use Rattle.undo_log.specs.declared.Cursor.{Cursor}
 use Rattle.text.specs.Fields.{lines_of}
 use Rattle.text.specs.Lines.{read_line}
@@ -22,4 +23,4 @@ spoken (l ∷ ls) d = let t = obeyed (read_line l) d in t.bytes ++ spoken ls t.d
 unfoldable pub session : List ℕ → List ℕ
 session input =
     let s = started input in
-    pick (eqb s.refusal 0) (spoken (lines_of (drop s.calls_at input)) (at_first s.state)) (answer_line 69 (s.refusal ∷ []))
+    pick (eqb (number_or_0 s.refusal) 0) (spoken (lines_of (drop s.calls_at input)) (at_first s.state)) (answer_line 69 (number_or_0 s.refusal ∷ []))

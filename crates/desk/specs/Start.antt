@@ -1,6 +1,7 @@
 -- The program's start (document 01, "Text lines"): "17 is answered before any building", and the plan is built of the first lines.
-use Rattle.std.specs.Prelude.{false, List, ℕ, ℤ, pos, length, replicate}
+use Rattle.std.specs.Prelude.{false, List, ℕ, ℤ, pos, length, replicate, Some}
 use Rattle.base.specs.Iter.{pick}
+use Rattle.base.specs.declared.refusal.Refusal.TheVariants.{LineMalformed}
 use Rattle.text.specs.Input.{well_formed}
 use Rattle.plan_lines.specs.Lines.{Reading, taken_lines}
 use Rattle.graph_division.specs.declared.Built.{Built}
@@ -26,7 +27,7 @@ started_by input =
 
 -- nothing of a malformed input is read: the state is that of an empty plan, and no line follows
 unfoldable pub malformed : ℕ → Started
-malformed len = record { refusal = 17; state = (built no_vertices 0 no_edges 0 false false).state; calls_at = len }
+malformed len = record { refusal = Some LineMalformed; state = (built no_vertices 0 no_edges 0 false false).state; calls_at = len }
 
 unfoldable pub started : List ℕ → Started
 started input = pick (well_formed input) (started_by input) (malformed (length input))

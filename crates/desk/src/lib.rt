@@ -5,7 +5,7 @@ pub mod print;
 pub mod start;
 pub mod table;
 
-ghost use Rattle.std.specs.Prelude.{◌≡◌, ◌≤◌, length, replicate};
+ghost use Rattle.std.specs.Prelude.{◌≡◌, ◌≤◌, length};
 ghost use Rattle.text.specs.Lines.{read_line};
 ghost use Rattle.desk.specs.Print.{written, printing};
 ghost use Rattle.desk.specs.Obey.{desk, held, writing, begun, notified, taken_back, reason_asked, last_asked, obeyed, staying};
@@ -16,7 +16,7 @@ use by_value::initialize::initialize;
 use by_value::propagate::propagate;
 use by_value::undo::undo;
 use graph_division::{GraphDivision, is_refused};
-use lists::ReasonList;
+use lists::no_list;
 use text::Line;
 use undo_log::Cursor;
 
@@ -26,18 +26,6 @@ pub struct Obeyed {
     pub state: GraphDivision,
     pub cursor: Cursor,
     pub printed: usize,
-}
-
-fn no_list() -> [u32; 4352]
-    ensures { result ≡ replicate 4352 0 }
-{
-    [0u32; 4352]
-}
-
-fn no_reason() -> ReasonList
-    ensures { result ≡ replicate 260 0 }
-{
-    [0u32; 260]
 }
 
 // I.
@@ -50,16 +38,12 @@ fn begin(
 ) -> Obeyed
     ensures { (held result table.new log.new out.new ≡ writing (begun (desk s cursor table.old log.old)) out.old) × (length (begun (desk s cursor table.old log.old)).bytes ≤ 65536) }
 {
-    let mut list = no_list();
+    let mut list = [0u32; 4352];
     let o = initialize(s, table, &mut list, log, cursor);
-    let a = o.answer;
-    let n = print(a, &list, out);
-    let state = o.state;
-    let moved = o.cursor;
     Obeyed {
-        state: state,
-        cursor: moved,
-        printed: n,
+        state: o.state,
+        cursor: o.cursor,
+        printed: print(o.answer, &list, out),
     }
 }
 
@@ -78,17 +62,15 @@ fn notify(
     let v = table::variable(lit);
     let old = table::entry(table, v);
     table::mark(table, lit);
-    let mut list = no_list();
+    let mut list = [0u32; 4352];
     let o = propagate(s, table, &mut list, log, cursor, lit, pending);
-    let a = o.answer;
-    table::store_if(is_refused(a), table, v, old);
-    let n = print(a, &list, out);
-    let state = o.state;
-    let moved = o.cursor;
+    if is_refused(o.answer) {
+        table::store(table, v, old);
+    }
     Obeyed {
-        state: state,
-        cursor: moved,
-        printed: n,
+        state: o.state,
+        cursor: o.cursor,
+        printed: print(o.answer, &list, out),
     }
 }
 
@@ -104,16 +86,14 @@ fn take_back(
     ensures { (held result table.new log.now out.new ≡ writing (taken_back (desk s cursor table.old log.now) lit) out.old) × (length (taken_back (desk s cursor table.old log.now) lit).bytes ≤ 65536) }
 {
     let o = undo(s, log, cursor, lit);
-    let a = o.answer;
-    table::store_unless(is_refused(a), table, table::variable(lit), 0);
-    let list = no_reason();
-    let n = print(a, &list, out);
-    let state = o.state;
-    let moved = o.cursor;
+    if !is_refused(o.answer) {
+        table::store(table, table::variable(lit), 0);
+    }
+    let list = no_list();
     Obeyed {
-        state: state,
-        cursor: moved,
-        printed: n,
+        state: o.state,
+        cursor: o.cursor,
+        printed: print(o.answer, &list, out),
     }
 }
 
@@ -121,7 +101,7 @@ fn take_back(
 fn ask_reason(s: GraphDivision, cursor: Cursor, log: &[u64], lit: i32, out: &mut [u8]) -> usize
     ensures { (written result out.new ≡ printing (reason_asked s cursor log.now lit) out.old) × (length (reason_asked s cursor log.now lit) ≤ 65536) }
 {
-    let mut list = no_reason();
+    let mut list = no_list();
     let a = calc_reason(s, log, cursor, lit, &mut list);
     print(a, &list, out)
 }
@@ -129,7 +109,7 @@ fn ask_reason(s: GraphDivision, cursor: Cursor, log: &[u64], lit: i32, out: &mut
 fn ask_last(s: GraphDivision, cursor: Cursor, log: &[u64], out: &mut [u8]) -> usize
     ensures { (written result out.new ≡ printing (last_asked s cursor log.now) out.old) × (length (last_asked s cursor log.now) ≤ 65536) }
 {
-    let mut list = no_reason();
+    let mut list = no_list();
     let a = calc_last(s, log, cursor, &mut list);
     print(a, &list, out)
 }
@@ -140,8 +120,8 @@ fn stay(s: GraphDivision, cursor: Cursor, printed: usize) -> Obeyed
 {
     Obeyed {
         state: s,
-        cursor: cursor,
-        printed: printed,
+        cursor,
+        printed,
     }
 }
 
@@ -165,17 +145,7 @@ fn obey_read(
         Line::R { lit } => stay(s, cursor, ask_reason(s, cursor, log, lit, out)),
         Line::RLast => stay(s, cursor, ask_last(s, cursor, log, out)),
         Line::I => begin(s, cursor, table, log, out),
-        Line::O {
-            same_size: _,
-            extra_walls: _,
-        } => stay(s, cursor, 0),
-        Line::P {
-            weight: _,
-            sizes: _,
-            count: _,
-        } => stay(s, cursor, 0),
-        Line::G { u: _, v: _, lit: _ } => stay(s, cursor, 0),
-        Line::Malformed => stay(s, cursor, 0),
+        Line::O { .. } | Line::P { .. } | Line::G { .. } | Line::Malformed => stay(s, cursor, 0),
     }
 }
 

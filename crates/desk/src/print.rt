@@ -4,15 +4,13 @@ ghost use Rattle.text_writer.specs.Written.{answer_line};
 ghost use Rattle.desk.specs.Print.{count_of, written, printing, line_of};
 
 use graph_division::Answer;
-use text_writer::{Written, write_answer};
+use text_writer::write_answer;
 
-fn count_of(w: Written) -> usize
+#[tactic(auto, unfolding(crate::specs::Print::count_of))]
+fn count_of(w: Option<usize>) -> usize
     ensures { result ≡ count_of w }
 {
-    match w {
-        Written::Next(n) => n,
-        Written::TooSmall => 0,
-    }
+    w.unwrap_or(0)
 }
 
 // A letter and the first n values.
@@ -20,10 +18,7 @@ fn print_first(letter: u8, values: &[u32], n: usize, out: &mut [u8]) -> usize
     requires { length values.now ≤ 4352 }
     ensures { (written result out.new ≡ printing (answer_line letter (take n values.now)) out.old) × (length (answer_line letter (take n values.now)) ≤ 65536) }
 {
-    if values.len() < n {
-        return count_of(write_answer(letter, values, out, 0));
-    }
-    count_of(write_answer(letter, &values[0..n], out, 0))
+    count_of(write_answer(letter, &values[..n.min(values.len())], out, 0))
 }
 
 pub fn print_refusal(number: u32, out: &mut [u8]) -> usize
@@ -43,9 +38,9 @@ pub(crate) fn print(a: Answer, values: &[u32], out: &mut [u8]) -> usize
         Answer::Conflict => print_first(b'X', values, 0, out),
         Answer::Noted => print_first(b'L', values, 0, out),
         Answer::Undone => print_first(b'C', values, 0, out),
-        Answer::Reason { len } => print_first(b'R', values, len, out),
-        Answer::Run { len } => print_first(b'R', values, len, out),
-        Answer::Page { len } => print_first(b'R', values, len, out),
+        Answer::Reason { len } | Answer::Run { len } | Answer::Page { len } => {
+            print_first(b'R', values, len, out)
+        }
         Answer::Refused { number } => print_refusal(number, out),
     }
 }

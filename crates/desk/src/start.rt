@@ -2,14 +2,15 @@
 ghost use Rattle.std.specs.Prelude.{◌≡◌};
 ghost use Rattle.desk.specs.Start.{started_by, malformed, started};
 
+use base::refusal::Refusal;
 use builder::build::GraphDivisionOptions;
 use builder::input::{no_edges, no_vertices};
 use graph_division::GraphDivision;
 
-// The refusal that the program answers and ends with, or 0 and a fresh state, and where the calls' lines begin.
+// The refusal that the program answers and ends with, or a fresh state, and where the calls' lines begin.
 #[derive(Clone, Copy)]
 pub struct Started {
-    pub refusal: u8,
+    pub refusal: Option<Refusal>,
     pub state: GraphDivision,
     pub calls_at: usize,
 }
@@ -26,10 +27,9 @@ fn start_plan(input: &[u8]) -> Started
         allow_extra_walls: c.extra_walls,
     };
     let b = GraphDivision::new(&vertices, c.vertices, &edges, c.edges, options);
-    let state = b.state;
     Started {
         refusal: b.refusal,
-        state: state,
+        state: b.state,
         calls_at: p.calls_at,
     }
 }
@@ -39,15 +39,10 @@ fn refuse_input(len: usize) -> Started
 {
     let vertices = no_vertices();
     let edges = no_edges();
-    let options = GraphDivisionOptions {
-        disallow_adjacent_same_size_regions: false,
-        allow_extra_walls: false,
-    };
-    let b = GraphDivision::new(&vertices, 0, &edges, 0, options);
-    let state = b.state;
+    let b = GraphDivision::new(&vertices, 0, &edges, 0, GraphDivisionOptions::DEFAULT);
     Started {
-        refusal: 17,
-        state: state,
+        refusal: Some(Refusal::LineMalformed),
+        state: b.state,
         calls_at: len,
     }
 }

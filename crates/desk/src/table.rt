@@ -15,37 +15,15 @@ pub(crate) fn variable(lit: i32) -> usize
 pub(crate) fn entry(table: &[u8], v: usize) -> u8
     ensures { result ≡ get_or table.now v 0 }
 {
-    if v < table.len() {
-        return table[v];
-    }
-    0
+    table.get(v).copied().unwrap_or(0)
 }
 
 pub(crate) fn store(table: &mut [u8], v: usize, code: u8)
     ensures { table.new ≡ set table.old v code }
 {
-    if table.len() <= v {
-        return;
+    if v < table.len() {
+        table[v] = code;
     }
-    table[v] = code;
-}
-
-pub(crate) fn store_if(test: bool, table: &mut [u8], v: usize, code: u8)
-    ensures { table.new ≡ pick test (set table.old v code) table.old }
-{
-    if test {
-        store(table, v, code);
-        return;
-    }
-}
-
-pub(crate) fn store_unless(test: bool, table: &mut [u8], v: usize, code: u8)
-    ensures { table.new ≡ pick test table.old (set table.old v code) }
-{
-    if test {
-        return;
-    }
-    store(table, v, code);
 }
 
 // The code of a literal that becomes true at the current level.
@@ -66,8 +44,6 @@ pub(crate) fn mark(table: &mut [u8], lit: i32)
         let v = variable(lit);
         if entry(table, v) == 0 {
             store(table, v, code_of(refusals::lit_number(lit)));
-            return;
         }
-        return;
     }
 }

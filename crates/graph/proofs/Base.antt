@@ -1,14 +1,12 @@
 -- What holds of a search at every step, and how it is kept where one vertex more is marked.
-use Prim.Native.Nat.{ℕ, zero, suc, ◌+◌, ◌<◌, ◌≤◌}
-use native.Mathlib.Nat.{lt_of_lt_of_le, le_refl, le_of_eq, le_trans}
+use Prim.Native.Nat.{ℕ, suc, ◌+◌, ◌<◌, ◌≤◌}
+use native.Mathlib.Nat.{lt_of_lt_of_le, le_refl}
 use native.Mathlib.Omega.{arith}
 use mathlib.Core.Path.{◌≡◌, refl, sym, ◌∙◌, ap, subst}
 use mathlib.Core.Logic.{◌⊎◌, inl, inr, ⊎_elim}
-use mathlib.Core.Bool.{Bool, true, false}
-use mathlib.Core.List.{List}
-use lib.ListN.{length, get_or}
-use Rattle.graph.specs.Search.{Scan, at, parent_of, edge_to, reached_yet, Graph, end_a, end_b, marked}
-use Rattle.graph.specs.Bounds.{Ok, Within, Fine}
+use mathlib.Core.Bool.{false}
+use Rattle.graph.specs.Search.{Scan, at, parent_of, edge_to, reached_yet, Graph, marked}
+use Rattle.graph.specs.Bounds.{Ok, Fine}
 use Rattle.graph.specs.Paths.{Leads, Seen}
 use Rattle.graph.proofs.Keep.{at_low}
 use Rattle.graph.proofs.Mark.{marked_ok, lt_cases, up, up_old, up_new, count_marked, at_old, at_new, vertex_old, vertex_new, edge_old, edge_new, seen_cases, seen_new, seen_old, other}

@@ -1,21 +1,19 @@
 -- The search keeps what `Base` says, and leaves no edge of a vertex it has passed unseen.
-use Prim.Native.Nat.{ℕ, zero, suc, ◌+◌, ◌<◌, ◌≤◌, zero-le, suc-le-suc}
-use native.Mathlib.Nat.{lt_of_lt_of_le, le_refl, le_of_eq, le_trans, eq-or-lt_of_le, le_of_suc-le-suc, not-suc-le-zero}
+use Prim.Native.Nat.{ℕ, suc, ◌<◌, ◌≤◌, zero-le}
+use native.Mathlib.Nat.{lt_of_lt_of_le, le_refl, eq-or-lt_of_le, le_of_suc-le-suc, not-suc-le-zero}
 use native.Mathlib.Omega.{arith}
-use mathlib.Core.Path.{◌≡◌, refl, sym, ◌∙◌, ap, subst}
+use mathlib.Core.Path.{◌≡◌, refl, sym, ◌∙◌, subst}
 use mathlib.Core.Logic.{◌⊎◌, inl, inr, ⊎_elim}
-use mathlib.Core.Bool.{Bool, true, false, true≢false}
-use mathlib.Core.List.{List}
-use lib.ListN.{length, get_or, replicate, get_or-replicate}
+use mathlib.Core.Bool.{false, true≢false}
 use borrow.Author.Tests.{eqb-true, eqb-false, ltb-true, ltb-false}
-use Rattle.base.specs.Iter.{iter, pick}
-use Rattle.graph.specs.Search.{Scan, at, reached_yet, Graph, end_a, end_b, marked, reached, visited, walked, popped, drained, searched_on}
-use Rattle.graph.specs.Bounds.{Ok, Within, Fine, Fresh}
-use Rattle.graph.specs.Paths.{Leads, Seen}
+use Rattle.base.specs.Iter.{pick}
+use Rattle.graph.specs.Search.{Scan, at, reached_yet, Graph, end_a, end_b, marked, reached, visited, walked, popped, searched_on}
+use Rattle.graph.specs.Bounds.{Ok, Fine, Fresh}
+use Rattle.graph.specs.Paths.{Leads}
 use Rattle.base.proofs.Loop.{pick_ind, iter_ind}
 use Rattle.graph.proofs.Keep.{begun_ok, fresh_ok}
-use Rattle.graph.proofs.Mark.{lt_cases, up, up_old, up_new, at_new, at_old, seen_cases, count_marked, seen_new}
-use Rattle.graph.proofs.Base.{Hit, Parent, Base, Ext, hit_ext, marked_base, marked_ext, leads_below}
+use Rattle.graph.proofs.Mark.{lt_cases, up, up_new, at_new, seen_cases, count_marked, seen_new}
+use Rattle.graph.proofs.Base.{Hit, Base, Ext, hit_ext, marked_base, marked_ext, leads_below}
 
 suc_cases : (i c : ℕ) → i < suc c → (i < c) ⊎ (i ≡ c)
 suc_cases i c h = ⊎_elim (λ e. inr e) (λ l. inl l) (eq-or-lt_of_le (le_of_suc-le-suc h))

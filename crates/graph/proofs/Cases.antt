@@ -1,11 +1,10 @@
 -- Small graphs, computed.
-use Prim.Native.Nat.{ℕ, zero, suc, ◌+◌, ◌<◌, ◌≤◌}
 use mathlib.Core.Path.{◌≡◌, refl}
-use mathlib.Core.Bool.{Bool, true, false}
-use mathlib.Core.List.{List, [], ◌∷◌}
-use lib.ListN.{length, get_or, replicate, take}
+use mathlib.Core.Bool.{false}
+use mathlib.Core.List.{[], ◌∷◌}
+use lib.ListN.{take}
 use Rattle.base.specs.Iter.{iter, pick}
-use Rattle.graph.specs.Search.{Scan, at, Graph, graph, passes, marked, reached, visited, popped, blank, searched, searched_on}
+use Rattle.graph.specs.Search.{Graph, graph, passes, marked, reached, visited, popped, blank, searched, searched_on}
 use Rattle.graph.specs.Paths.{climb}
 
 line : Graph

@@ -1,21 +1,19 @@
 -- What the search finds: the theorem.
-use Prim.Native.Nat.{ℕ, zero, suc, ◌+◌, ◌<◌, ◌≤◌, zero-le, suc-le-suc}
-use native.Mathlib.Nat.{lt_of_lt_of_le, le_refl, le_trans, not-suc-le-zero}
+use Prim.Native.Nat.{ℕ, zero, suc, ◌<◌, ◌≤◌, zero-le}
+use native.Mathlib.Nat.{lt_of_lt_of_le, le_trans}
 use native.Mathlib.Omega.{arith}
-use mathlib.Core.Path.{◌≡◌, refl, sym, ◌∙◌, ap, subst}
-use mathlib.Core.Logic.{◌⊎◌, inl, inr, ⊎_elim}
-use mathlib.Core.Bool.{Bool, true, false}
-use mathlib.Core.List.{List, [], ◌∷◌}
-use lib.ListN.{length, get_or}
+use mathlib.Core.Path.{◌≡◌, subst}
+use mathlib.Core.Logic.{⊎_elim}
+use mathlib.Core.List.{List, ◌∷◌}
+use lib.ListN.{length}
 use borrow.Author.Tests.{eqb-true, eqb-false}
-use Rattle.base.specs.Iter.{pick}
 use Rattle.graph.specs.Search.{Scan, at, parent_of, edge_to, Graph, searched, searched_on}
 use Rattle.graph.specs.Bounds.{Fine, Fresh}
-use Rattle.graph.specs.Paths.{Leads, Chain, here, there, Seen, climb, Found}
+use Rattle.graph.specs.Paths.{Chain, here, there, Seen, climb, Found}
 use Rattle.base.proofs.Loop.{pick_ind}
 use Rattle.graph.proofs.Keep.{ok_count, blank_fresh}
 use Rattle.graph.proofs.Base.{Hit, Parent, Base}
-use Rattle.graph.proofs.Bfs.{Done, Pop, pop_all}
+use Rattle.graph.proofs.Bfs.{Done, pop_all}
 
 -- a chain back to the start, no longer than the level
 pub record Climbs (e : Graph) (edges start : ℕ) (lev i q : ℕ) (l : List ℕ) : Type 0 where

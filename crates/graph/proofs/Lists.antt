@@ -1,18 +1,30 @@
 -- Loops over the first entries of a list.
-use Prim.Native.Nat.{ℕ, zero, suc, ◌+◌, ◌<◌, ◌≤◌, zero-le}
+use Prim.Native.Nat.{ℕ, zero, suc, ◌+◌, ◌<◌, ◌≤◌}
 use native.Mathlib.Nat.{not-suc-le-zero, le_step, lt-suc_self, le_antisymm}
 use native.Mathlib.Numerals.{add-one}
 use native.Mathlib.Omega.{arith}
 use mathlib.Core.Path.{◌≡◌, refl, sym, ◌∙◌, ap, ap₂, subst}
-use mathlib.Core.Logic.{◌⊎◌, inl, inr, ⊎_elim}
+use mathlib.Core.Logic.{⊎_elim}
 use mathlib.Core.Bool.{Bool, true, false, ◌&&◌, true≢false}
-use mathlib.Core.List.{List, [], ◌∷◌}
+use mathlib.Core.List.{List, ◌++◌}
 use lib.Dec.{ltb}
-use lib.ListN.{length, get_or, set, length-set}
+use lib.ListN.{length, get_or, set, length-set, drop, replicate, take}
 use borrow.Author.Tests.{lt-ltb, le-ltb}
-use lib.Seq.{get_or-set_same, get_or-set_other}
-use Rattle.base.specs.Iter.{iter, pick}
-use Rattle.base.proofs.Loop.{iter_ind, eq_or_not, tested, pick_yes, pick_no}
+use lib.Seq.{get_or-set_same, get_or-set_other, length-take-le}
+use Rattle.base.specs.Iter.{iter}
+use Rattle.base.proofs.Loop.{iter_ind, eq_or_not}
+use Rattle.base.proofs.Filled.{all_filled}
+use Rattle.std.proofs.lemmas.List.Edits.{fill_none, fill_more}
+use denote.Param.Members.{Mut}
+use Rattle.std.specs.declared.ops.Range.{Range}
+use Rattle.std.specs.Fn.{Called}
+use Rattle.std.specs.Iterator.{YieldsThen}
+use Rattle.std.specs.List.{FoldsTo, list_all, range_with_len}
+use Rattle.std.specs.Option.{MatchOption}
+use Rattle.std.specs.Prelude.{Option}
+use Rattle.std.proofs.iter.Yields.{nat_range_steps}
+use Rattle.std.proofs.lemmas.Iterator.{YieldsList-from_range}
+use Rattle.std.proofs.lemmas.Iterator.Search.{all_from_yields_List}
 use Rattle.graph.specs.Lists.{put, mapped, every}
 use Rattle.base.proofs.Tests.{and_left, and_right}
 
@@ -28,6 +40,14 @@ and_no false b e = refl
 pub and_no' : (a b : Bool) → a ≡ false → (a && b) ≡ false
 and_no' true b e = absurd (true≢false e)
 and_no' false b e = refl
+
+and_true : (a : Bool) → (a && true) ≡ a
+and_true true = refl
+and_true false = refl
+
+and_and : (a b c : Bool) → ((a && b) && c) ≡ (a && (b && c))
+and_and true b c = refl
+and_and false b c = refl
 
 -- the lists of a loop over the first entries, at place i
 record Puts (f : ℕ → ℕ → ℕ) (l : List ℕ) (i k : ℕ) (x : List ℕ) : Type 0 where
@@ -60,6 +80,18 @@ pub mapped_length : (f : ℕ → ℕ → ℕ) (l : List ℕ) (n : ℕ) → lengt
 unfolding put
 mapped_length f l n = iter_ind (λ _ x. length x ≡ length l) (put f) l n refl (λ k x _ p. length-set x k _ ∙ p)
 
+-- the first n entries by `fill`, and the rest
+mapped_with : (x n : ℕ) (l : List ℕ) → n ≤ length l → mapped (λ _ _. x) n l ≡ replicate n x ++ drop n l
+unfolding iter put
+mapped_with x zero l h = fill_none l x
+mapped_with x (suc n) l h = ap (λ (k : List ℕ). set k n x) (mapped_with x n l (omega arith)) ∙ fill_more n x l h ∙ rw add-one refl
+
+pub mapped_fill : (x n : ℕ) (l m : List ℕ) → n ≤ length l → length m ≡ length (take n l) →
+    ((k : ℕ) → k < length (take n l) → get_or m k 0 ≡ x) → m ++ drop n l ≡ mapped (λ _ _. x) n l
+mapped_fill x n l m h e k =
+    let t : length (take n l) ≡ n = length-take-le n l h in
+    ap (λ (r : List ℕ). r ++ drop n l) (all_filled x n m (e ∙ t) (λ i j. k i (omega arith))) ∙ sym (mapped_with x n l h)
+
 pub every_at : (b : ℕ → Bool) (n : ℕ) → every b n ≡ true → (i : ℕ) → i < n → b i ≡ true
 unfolding every
 every_at b zero h i k = absurd (not-suc-le-zero k)
@@ -72,30 +104,28 @@ unfolding every
 every_all b zero h = refl
 every_all b (suc n) h = and_both _ _ (every_all b n (λ i k. h i (le_step k))) (h n (lt-suc_self n))
 
-pub every_not : (b : ℕ → Bool) (n i : ℕ) → i < n → b i ≡ false → every b n ≡ false
+-- the first number apart
+every_first : (u : ℕ → Bool) (n : ℕ) → every u (suc n) ≡ (u 0 && every (λ i. u (suc i)) n)
 unfolding every
-every_not b zero i k e = absurd (not-suc-le-zero k)
-every_not b (suc n) i k e =
-    ⊎_elim (λ (x : i ≡ n). and_no (every b n) (b n) (subst (λ j. b j ≡ false) x e))
-    (λ (x : i ≡ n → ⊥). and_no' (every b n) (b n) (every_not b n i (omega arith) e)) (eq_or_not i n)
+every_first u zero = sym (and_true (u 0))
+every_first u (suc n) = ap (λ (b : Bool). b && u (suc n)) (every_first u n) ∙ and_and (u 0) (every (λ i. u (suc i)) n) (u (suc n))
 
--- one more, as code counts
-pub every_more : (b : ℕ → Bool) (n : ℕ) → every b n ≡ true → b n ≡ true → every b (n + 1) ≡ true
+-- the n numbers from a on, tested one after the other
+list_every : (t u : ℕ → Bool) (n a : ℕ) → ((i : ℕ) → i < n → t (a + i) ≡ u i) → list_all t (range_with_len a n) ≡ every u n
 unfolding every
-every_more b n h e = rw add-one (and_both _ _ h e)
+list_every t u zero a e = refl
+list_every t u (suc n) a e = ap₂ (λ (b c : Bool). b && c)
+    (ap t (omega arith) ∙ e 0 (omega arith))
+    (list_every t (λ i. u (suc i)) n (a + 1) (λ i h. ap t (omega arith) ∙ e (suc i) (omega arith)))
+    ∙ sym (every_first u n)
 
--- the loop is left
-pub every_done : (b : ℕ → Bool) (n m : ℕ) → every b n ≡ true → n ≤ m → m ≤ n → every b m ≡ true
-every_done b n m e h k = subst (λ i. every b i ≡ true) (le_antisymm h k) e
+-- `(0..n).all(..)`, where the closure computes the test
+pub all_below : {F : Type 0} {g : Mut F (ℕ × Unit {0}) Bool} (t : ℕ → Bool) (n : ℕ) (u : Range ℕ) (f : F) (r : Bool)
+    → (xs : List ℕ) × (o : Option ℕ) × (j : F) × YieldsThen nat_range_steps (record { start = 0; end = n }) xs o u × FoldsTo (λ p x q. Called g p (x, tt) true q) f xs j × MatchOption o (r ≡ true) (λ x. (r ≡ false) × ((h : F) × Called g j (x, tt) false h))
+    → ((x : ℕ) (b : Bool) (q : F) → Called g f (x, tt) b q → (q ≡ f) × (b ≡ t x)) → r ≡ every t n
+all_below t n u f r d k = all_from_yields_List t u f r d (YieldsList-from_range 0 n n refl (omega arith)) k ∙ list_every t t n 0 (λ i h. ap t (omega arith))
 
 -- a store of what f gives
 pub put_as : (f : ℕ → ℕ → ℕ) (i : ℕ) (l : List ℕ) (x : ℕ) → x ≡ f i (get_or l i 0) → set l i x ≡ put f i l
 unfolding put
 put_as f i l x e = ap (λ (y : ℕ). set l i y) e
-
--- a test of what was read
-pub ltb_read : (x y n : ℕ) → x ≡ y → x < n → ltb y n ≡ true
-ltb_read x y n e h = lt-ltb y n (subst (λ z. z < n) e h)
-
-pub ltb_read_no : (x y n : ℕ) → x ≡ y → n ≤ x → ltb y n ≡ false
-ltb_read_no x y n e h = le-ltb y n (subst (λ z. n ≤ z) e h)

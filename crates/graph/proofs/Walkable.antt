@@ -1,15 +1,13 @@
 -- A graph that passes the test can be walked, and no other passes it.
-use Prim.Native.Nat.{ℕ, zero, suc, ◌+◌, ◌<◌, ◌≤◌}
-use native.Mathlib.Omega.{arith}
-use mathlib.Core.Path.{◌≡◌, refl, sym, ◌∙◌, ap, subst}
-use mathlib.Core.Bool.{Bool, true, false, ◌&&◌, true≢false, false≢true}
+use Prim.Native.Nat.{ℕ, ◌≤◌}
+use mathlib.Core.Path.{◌≡◌, refl, ◌∙◌}
+use mathlib.Core.Bool.{Bool, true, false, false≢true}
 use mathlib.Core.List.{List, []}
 use lib.Dec.{ltb}
 use lib.ListN.{length, get_or}
 use borrow.Author.Tests.{ltb-true, ltb-false, lt-ltb, le-ltb}
 use Rattle.base.specs.Iter.{pick}
 use Rattle.base.proofs.Loop.{pick_no}
-use Rattle.graph.specs.Lists.{every}
 use Rattle.graph.specs.Bounds.{Within, Fine, ends_below, walkable}
 use Rattle.graph.proofs.Lists.{every_at, every_all, and_both}
 use Rattle.base.proofs.Tests.{and_left, and_right}
@@ -20,21 +18,13 @@ unfolding pick
 pick_false true b e = absurd (false≢true e)
 pick_false false b e = (refl, e)
 
--- the ends of an edge that passes the test, and the test of two numbers that were read
+-- the ends of an edge that passes the test
 below_within : (n : ℕ) (es : List (List ℕ)) (g : ℕ) → ends_below n es g ≡ true → Within n es g
 unfolding ends_below
 below_within n es g e =
     let a = ltb (get_or (get_or es g []) 0 0) n in
     let b = ltb (get_or (get_or es g []) 1 0) n in
     record { a = ltb-true _ _ (and_left a b e); b = ltb-true _ _ (and_right a b e) }
-
-pub ends_yes : (n : ℕ) (es : List (List ℕ)) (g x y : ℕ) → x ≡ get_or (get_or es g []) 0 0 → y ≡ get_or (get_or es g []) 1 0 → x < n → ltb y n ≡ ends_below n es g
-unfolding ends_below
-ends_yes n es g x y p q h = simp (← p, ← q, lt-ltb x n h)
-
-pub ends_no : (n : ℕ) (es : List (List ℕ)) (g x : ℕ) → x ≡ get_or (get_or es g []) 0 0 → n ≤ x → false ≡ ends_below n es g
-unfolding ends_below
-ends_no n es g x p h = simp (← p, le-ltb x n h)
 
 within_below : (n : ℕ) (es : List (List ℕ)) (g : ℕ) → Within n es g → ends_below n es g ≡ true
 unfolding ends_below

@@ -1,5 +1,5 @@
 -- What keeps a search within its arrays.
-use Rattle.std.specs.Prelude.{ℕ, zero, suc, ◌+◌, ◌<◌, ◌≤◌, ◌≡◌, Bool, true, false, ◌&&◌, List, [], ◌∷◌, ltb, length, get_or}
+use Rattle.std.specs.Prelude.{ℕ, zero, suc, ◌+◌, ◌<◌, ◌≤◌, ◌≡◌, Bool, true, false, ◌&&◌, List, [], ltb, length, get_or}
 use Rattle.base.specs.Iter.{pick}
 use Rattle.graph.specs.Lists.{every}
 use Rattle.graph.specs.Search.{Scan, reached_yet}

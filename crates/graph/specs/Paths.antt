@@ -1,5 +1,5 @@
 -- Edges that lead from vertex to vertex, chains of them, and what a search is to find.
-use Rattle.std.specs.Prelude.{ℕ, zero, suc, ◌<◌, ◌≤◌, ◌≡◌, ◌⊎◌, Bool, true, false, List, [], ◌∷◌, eqb, length, get_or}
+use Rattle.std.specs.Prelude.{ℕ, zero, suc, ◌<◌, ◌≤◌, ◌≡◌, ◌⊎◌, true, List, [], ◌∷◌, eqb, length}
 use Rattle.base.specs.Iter.{pick}
 use Rattle.graph.specs.Search.{Scan, at, parent_of, edge_to, reached_yet, Graph, is_open, end_a, end_b}
 

@@ -1,5 +1,5 @@
 -- The breadth-first search, as a definition that computes.
-use Rattle.std.specs.Prelude.{ℕ, zero, suc, ◌+◌, ◌<◌, Bool, true, false, not, List, [], ◌∷◌, eqb, ltb, get_or, set, replicate}
+use Rattle.std.specs.Prelude.{ℕ, ◌+◌, Bool, true, false, not, List, [], eqb, ltb, get_or, set, replicate}
 use Rattle.base.specs.Iter.{iter, pick}
 
 -- A search under way: how many vertices were reached, and in 256 words how. The vertices in the order in which they were reached

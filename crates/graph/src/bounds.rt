@@ -8,50 +8,33 @@ use edge_table::Edges;
 pub fn wide(x: u8) -> usize
     ensures { result ≡ x }
 {
-    x as usize
+    usize::from(x)
 }
 
 // Whether an edge in this state can be passed.
+#[tactic(auto, unfolding(crate::specs::Search::passes, base::specs::Iter::pick))]
 pub fn passable(state: u32, potential: bool) -> bool
     ensures { result ≡ passes potential state }
 {
-    if potential {
-        return state != 1;
-    }
-    state == 2
+    if potential { state != 1 } else { state == 2 }
 }
 
 // Whether the ends of edge g are vertices.
+#[tactic(auto, unfolding(crate::specs::Bounds::ends_below))]
 fn ends_below(edges: &Edges, num_vertices: usize, g: usize) -> bool
     requires { g < 128 }
     ensures { result ≡ ends_below num_vertices edges.now g }
 {
-    let a = wide(edges[g][0]);
-    let b = wide(edges[g][1]);
-    if a < num_vertices {
-        return b < num_vertices;
-    }
-    false
+    usize::from(edges[g][0]) < num_vertices && usize::from(edges[g][1]) < num_vertices
 }
 
 // Whether vertices and edges fit, each edge has a state, and each edge's ends are vertices.
+#[tactic(auto, unfolding(crate::specs::Bounds::walkable, base::specs::Iter::pick))]
 pub fn walkable(edges: &Edges, state: &[u32], num_edges: usize, num_vertices: usize) -> bool
     ensures { result ≡ walkable edges.now state.now num_edges num_vertices }
 {
-    if 64 < num_vertices {
-        return false;
-    }
-    if 128 < num_edges {
-        return false;
-    }
-    if state.len() < num_edges {
-        return false;
-    }
-    for g in 0..num_edges {
-        if ends_below(edges, num_vertices, g) {
-            continue;
-        }
-        return false;
-    }
-    true
+    num_vertices <= 64
+        && num_edges <= 128
+        && num_edges <= state.len()
+        && (0..num_edges).all(|g| ends_below(edges, num_vertices, g))
 }

@@ -12,6 +12,9 @@ use Rattle.undo_log.specs.declared.Cursor.{Cursor}
 use Rattle.plan.specs.Words.{mark_of, built_mark}
 use Rattle.plan.specs.Check.{counts_bad}
 use Rattle.plan.proofs.Passed.{sized}
+use Rattle.std.specs.Prelude.{None}
+use Rattle.base.proofs.Numbered.{none_with_0}
+use Rattle.builder.specs.Input.{refusal}
 use Rattle.builder.proofs.Unbuilt.{refused_zeros}
 use Rattle.refusals.specs.Refusals.{state_bad, table_state_bad, initialize_refusal, propagate_refusal, undo_refusal, fetch_refusal}
 use Rattle.graph_division.specs.New.{built}
@@ -48,6 +51,6 @@ zeros_no_plan =
     unmarked_no_plan (replicate 15241 0) (λ (e : mark_of (replicate 15241 0) ≡ built_mark). omega arith)
 
 -- a refused build's state is no plan
-pub refused_no_plan : (vs : List ℤ) (n : ℕ) (es : List ℤ) (m : ℕ) (a b : Bool) → ((built vs n es m a b).refusal ≡ 0 → ⊥) → NoPlan (built vs n es m a b).state.plan
+pub refused_no_plan : (vs : List ℤ) (n : ℕ) (es : List ℤ) (m : ℕ) (a b : Bool) → ((built vs n es m a b).refusal ≡ None → ⊥) → NoPlan (built vs n es m a b).state.plan
 unfolding built
-refused_no_plan vs n es m a b r = subst NoPlan (sym (refused_zeros vs n es m a b r)) zeros_no_plan
+refused_no_plan vs n es m a b r = subst NoPlan (sym (refused_zeros vs n es m a b (λ (z : refusal vs n es m ≡ 0). r (none_with_0 _ z)))) zeros_no_plan

@@ -1,5 +1,5 @@
 -- The calls on the propagator's state, on any input. A call that is refused leaves the state, the cursor and all that it was lent.
-use Rattle.std.specs.Prelude.{Bool, true, false, List, ℕ, ◌+◌, ◌*◌, ◌/◌, eqb, ltb, ℤ, pos, length, replicate}
+use Rattle.std.specs.Prelude.{Bool, true, false, List, ℕ, ◌+◌, ◌*◌, ◌/◌, eqb, ltb, ℤ, pos, length, replicate, Option, None, Some, Result, Ok, Err}
 use Rattle.base.specs.Iter.{pick}
 use Rattle.base.specs.Range.{in_range}
 use Rattle.undo_log.specs.declared.Cursor.{Cursor}
@@ -7,13 +7,11 @@ use Rattle.noting.specs.Note.{Noting, noting, note}
 use Rattle.noting.specs.Undo.{undo}
 use Rattle.base.specs.Lists.{tab}
 use Rattle.plan.specs.Words.{word, vertices_of, edges_of}
-use Rattle.walks.specs.declared.Listed.{Listed}
-use Rattle.walks.specs.declared.Listed.TheVariants.{Past, Missing}
 use Rattle.walks.specs.Written.{out_of, written}
 use Rattle.walks.specs.Answers as walks
 use Rattle.runs.specs.Walk.{run_listed, vertex_given}
-use Rattle.pages.specs.declared.Printed.{Printed}
-use Rattle.pages.specs.declared.Printed.TheVariants.{Bytes, TooSmall, Unknown}
+use Rattle.pages.specs.declared.PageError.{PageError}
+use Rattle.pages.specs.declared.PageError.TheVariants.{TooSmall, Unknown}
 use Rattle.pages.specs.Lines as lines
 use Rattle.views.specs.declared.compute.Regions.{Regions}
 use Rattle.views.specs.Compute.{regions_from, bounds_from}
@@ -134,9 +132,9 @@ unfoldable pub copied : List ℕ → List ℕ → ℕ → List ℕ → Fetched
 copied ws l n b = pick (reason_over ws n) (fetched (answer.Refused 7) b) (fetched (answer.Reason n) (written (tab (word l) n) (out_of b 0)).text)
 
 -- 15 "no reason recorded", 16 "recorded path gone"; a list is made aside, and written where it is whole
-unfoldable pub reason_given : List ℕ → List ℕ → Listed → List ℕ → Fetched
-reason_given ws l (Past n) b = copied ws l n b
-reason_given ws l Missing b = fetched (answer.Refused 16) b
+unfoldable pub reason_given : List ℕ → List ℕ → Option ℕ → List ℕ → Fetched
+reason_given ws l (Some n) b = copied ws l n b
+reason_given ws l None b = fetched (answer.Refused 16) b
 
 abbrev pub is_none : Reason → Bool
 is_none NotPropagated = true
@@ -175,9 +173,9 @@ module _ (s : GraphDivision) (c : Cursor) (log : List ℕ) where
       pick (eqb n 0) (pick (eqb m 0) (giving s (recorded_for s (lit_number lit)) b) (fetched (answer.Refused m) b)) (fetched (answer.Refused n) b)
 
 -- document 02, request 1: the run, or 18 "when every run between the pens has a shut gate, or one pen is unknown"
-abbrev pub run_answer : Listed → Answer
-run_answer (Past n) = answer.Run n
-run_answer Missing = answer.Refused 18
+abbrev pub run_answer : Option ℕ → Answer
+run_answer (Some n) = answer.Run n
+run_answer None = answer.Refused 18
 
 -- the best run by the edge states, which stand at the start of the noted words
 unfoldable pub best_listed : GraphDivision → ℤ → ℤ → List ℕ → walks.Answer
@@ -194,10 +192,10 @@ run_fetched s c log from to b =
 
 -- document 02, request 3: the page, or 19 "when the page buffer is under 39 bytes a region". No plan that passes 7 has
 -- more than 64 vertices.
-abbrev pub page_answer : Printed → Answer
-page_answer (Bytes n) = answer.Page n
-page_answer TooSmall = answer.Refused 19
-page_answer Unknown = answer.Refused 7
+abbrev pub page_answer : Result ℕ PageError → Answer
+page_answer (Ok n) = answer.Page n
+page_answer (Err TooSmall) = answer.Refused 19
+page_answer (Err Unknown) = answer.Refused 7
 
 -- the decided regions r of the noted words, with their greatest lower and least upper bounds
 unfoldable pub figures_with : GraphDivision → Regions → lines.Figures

@@ -1,6 +1,7 @@
 -- `GraphDivision::new`: the plan inside a fresh state, or the lowest refusal that applies (document 01, "Plan", "Building gives the
 -- lowest number that applies").
 use Rattle.std.specs.Prelude.{Bool, false, List, ℕ, ℤ, replicate}
+use Rattle.base.specs.Refusal.{refusal_with}
 use Rattle.builder.specs.Input.{refusal}
 use Rattle.builder.specs.Build.{plan_words, edge_table}
 use Rattle.noting.specs.Words.{fresh}
@@ -12,7 +13,7 @@ use Rattle.graph_division.specs.declared.Built.{Built}
 -- proofs/NoPlan)
 unfoldable pub built : List ℤ → ℕ → List ℤ → ℕ → Bool → Bool → Built
 built vs n es m sameSize extraWalls = record {
-  refusal = refusal vs n es m;
+  refusal = refusal_with (refusal vs n es m);
   state = record {
     plan = plan_words vs n es m sameSize extraWalls;
     edges = record { ends = edge_table es m };

@@ -5,6 +5,7 @@ ghost use Rattle.std.specs.Prelude.{◌≡◌};
 ghost use Rattle.graph_division.specs.Answers.{is_consistent, is_refused};
 ghost use Rattle.graph_division.specs.New.{built};
 
+use base::refusal::Refusal;
 use builder::build::GraphDivisionOptions;
 use builder::input::{EdgeNumbers, VertexNumbers};
 use edge_table::EdgeTable;
@@ -52,31 +53,13 @@ pub enum Answer {
 pub fn is_refused(answer: Answer) -> bool
     ensures { result ≡ is_refused answer }
 {
-    match answer {
-        Answer::Consistent { handed: _ } => false,
-        Answer::Conflict => false,
-        Answer::Noted => false,
-        Answer::Undone => false,
-        Answer::Reason { len: _ } => false,
-        Answer::Run { len: _ } => false,
-        Answer::Page { len: _ } => false,
-        Answer::Refused { number: _ } => true,
-    }
+    matches!(answer, Answer::Refused { .. })
 }
 
 pub fn is_consistent(answer: Answer) -> bool
     ensures { result ≡ is_consistent answer }
 {
-    match answer {
-        Answer::Consistent { handed: _ } => true,
-        Answer::Conflict => false,
-        Answer::Noted => false,
-        Answer::Undone => false,
-        Answer::Reason { len: _ } => false,
-        Answer::Run { len: _ } => false,
-        Answer::Page { len: _ } => false,
-        Answer::Refused { number: _ } => false,
-    }
+    matches!(answer, Answer::Consistent { .. })
 }
 
 // A call's state, cursor and answer; what it was lent is changed in place.
@@ -87,11 +70,11 @@ pub struct Outcome {
     pub answer: Answer,
 }
 
-// What building gives: 0 and a fresh state, or the number of the refusal, and then the state is no plan's: its words are all 0,
-// without the mark `plan::BUILT`, and every call refuses it with 7 (refused-no-plan of proofs/NoPlan).
+// What building gives: a fresh state; or a refusal, and then the state is no plan's: its words are all 0, without the mark
+// `plan::BUILT`, and every call refuses it with 7 (refused_no_plan of proofs/NoPlan).
 #[derive(Clone, Copy)]
 pub struct Built {
-    pub refusal: u8,
+    pub refusal: Option<Refusal>,
     pub state: GraphDivision,
 }
 
@@ -106,19 +89,15 @@ impl GraphDivision {
     ) -> Built
         ensures { result ≡ built vertices.now n edges.now m options.disallow_adjacent_same_size_regions options.allow_extra_walls }
     {
-        let refusal = builder::input::refusal_of(vertices, n, edges, m);
-        let words = builder::build::plan_words(vertices, n, edges, m, options);
-        let plan = words.words;
+        let plan = builder::build::plan_words(vertices, n, edges, m, options).words;
         let mut noted = no_notes();
-        let held = plan::bytes::bytes_of(&plan);
-        noting::fresh(&held.bytes, &mut noted);
-        let table = edge_table::hold(builder::build::edge_table(edges, m));
+        noting::fresh(&plan::bytes::bytes_of(&plan).bytes, &mut noted);
         Built {
-            refusal: refusal,
+            refusal: builder::input::refusal_of(vertices, n, edges, m),
             state: GraphDivision {
-                plan: plan,
-                edges: table,
-                noted: noted,
+                plan,
+                edges: edge_table::hold(builder::build::edge_table(edges, m)),
+                noted,
                 reasons: recorded::no_reasons(),
                 last: no_list(),
                 last_len: 0,

@@ -8,7 +8,6 @@ use builder::build::GraphDivisionOptions;
 use builder::input::VertexNumbers;
 use graph_division::{Answer, Built, GraphDivision};
 use held_log::{Held, UndoLog};
-use text_writer::Written;
 
 // A write that fails leaves its bytes out: the file stdout shows it.
 fn put(rt: &impl Print, s: &[u8]) {
@@ -25,14 +24,7 @@ fn buffer() -> [u8; 4096]
 // A line of an answer: its letter and its numbers.
 fn put_line(rt: &impl Print, letter: u8, numbers: &[u32]) {
     let mut bytes = buffer();
-    let mut end = 0;
-    let written = text_writer::write_answer(letter, numbers, &mut bytes, 0);
-    match written {
-        Written::Next(n) => {
-            end = n;
-        }
-        Written::TooSmall => {}
-    }
+    let end = text_writer::write_answer(letter, numbers, &mut bytes, 0).unwrap_or(0);
     if 0 < end {
         if end <= 4096 {
             put(rt, &bytes[0..end]);
@@ -51,8 +43,7 @@ fn put_first(rt: &impl Print, letter: u8, list: &[u32], n: usize) {
 }
 
 fn put_refusal(rt: &impl Print, number: u32) {
-    let numbers = [number; 1];
-    put_line(rt, b'E', &numbers[0..1]);
+    put_line(rt, b'E', &[number]);
 }
 
 fn put_answer(rt: &impl Print, a: Answer, list: &[u32]) {
@@ -61,9 +52,9 @@ fn put_answer(rt: &impl Print, a: Answer, list: &[u32]) {
         Answer::Conflict => put_first(rt, b'X', list, 0),
         Answer::Noted => put_first(rt, b'L', list, 0),
         Answer::Undone => put_first(rt, b'C', list, 0),
-        Answer::Reason { len } => put_first(rt, b'R', list, len),
-        Answer::Run { len } => put_first(rt, b'R', list, len),
-        Answer::Page { len } => put_first(rt, b'R', list, len),
+        Answer::Reason { len } | Answer::Run { len } | Answer::Page { len } => {
+            put_first(rt, b'R', list, len)
+        }
         Answer::Refused { number } => put_refusal(rt, number),
     }
 }
@@ -99,24 +90,21 @@ fn enter(table: &mut [u8], variable: usize, code: u8) {
 fn begin(rt: &impl Print, s: GraphDivision, table: &mut [u8]) -> Held {
     let mut list = [0u32; 6];
     let h = held_log::initialize(s, UndoLog::new(), table, &mut list);
-    let a = h.answer;
-    put_answer(rt, a, &list);
+    put_answer(rt, h.answer, &list);
     h
 }
 
 fn notify(rt: &impl Print, h: Held, table: &mut [u8], lit: i32) -> Held {
     let mut list = [0u32; 6];
     let after = held_log::propagate(h.state, h.log, table, &mut list, lit, 0);
-    let a = after.answer;
-    put_answer(rt, a, &list);
+    put_answer(rt, after.answer, &list);
     after
 }
 
 fn take_back(rt: &impl Print, h: Held, lit: i32) -> Held {
     let list = [0u32; 1];
     let after = held_log::undo(h.state, h.log, lit);
-    let a = after.answer;
-    put_answer(rt, a, &list);
+    put_answer(rt, after.answer, &list);
     after
 }
 
@@ -153,9 +141,8 @@ fn session(rt: &impl Print, s: GraphDivision) {
 
 fn main(rt: HostRuntime) {
     let built = case_g();
-    if built.refusal == 0 {
-        session(&rt, built.state);
-        return;
+    match built.refusal {
+        None => session(&rt, built.state),
+        Some(refusal) => put_refusal(&rt, refusal.number()),
     }
-    put_refusal(&rt, built.refusal as u32);
 }

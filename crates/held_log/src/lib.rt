@@ -50,12 +50,17 @@ impl UndoLog {
 pub fn initialize(s: GraphDivision, log: UndoLog, table: &mut [u8], list: &mut [u32]) -> Held
     ensures { called (outcome_of result) table.new list.new (words result.log) ≡ checked_initialized s log.cursor table.old (words log) list.old }
 {
-    let mut records = log.records;
-    let mut cursor = log.cursor;
-    let out = record_calls::initialize::initialize(s, table, list, &mut records, &mut cursor);
+    let mut log = log;
+    let out = record_calls::initialize::initialize(
+        s,
+        table,
+        list,
+        &mut log.records,
+        &mut log.cursor,
+    );
     Held {
         state: out.state,
-        log: UndoLog { records, cursor },
+        log,
         answer: out.answer,
     }
 }
@@ -71,20 +76,19 @@ pub fn propagate(
 ) -> Held
     ensures { called (outcome_of result) table.new list.new (words result.log) ≡ checked_propagated s log.cursor lit num_pending_propagations table.old list.old (words log) }
 {
-    let mut records = log.records;
-    let mut cursor = log.cursor;
+    let mut log = log;
     let out = record_calls::propagate::propagate(
         s,
         table,
         list,
-        &mut records,
-        &mut cursor,
+        &mut log.records,
+        &mut log.cursor,
         lit,
         num_pending_propagations,
     );
     Held {
         state: out.state,
-        log: UndoLog { records, cursor },
+        log,
         answer: out.answer,
     }
 }
@@ -93,12 +97,11 @@ pub fn propagate(
 pub fn undo(s: GraphDivision, log: UndoLog, lit: i32) -> Held
     ensures { (outcome_of result ≡ checked_undone s log.cursor lit (words log)) × (result.log.records ≡ log.records) }
 {
-    let records = log.records;
-    let mut cursor = log.cursor;
-    let out = record_calls::undo::undo(s, &records, &mut cursor, lit);
+    let mut log = log;
+    let out = record_calls::undo::undo(s, &log.records, &mut log.cursor, lit);
     Held {
         state: out.state,
-        log: UndoLog { records, cursor },
+        log,
         answer: out.answer,
     }
 }
@@ -107,16 +110,12 @@ pub fn undo(s: GraphDivision, log: UndoLog, lit: i32) -> Held
 pub fn calc_reason(s: GraphDivision, log: UndoLog, lit: i32, buffer: &mut [u32]) -> Answer
     ensures { fetched result buffer.new ≡ checked_reason s log.cursor (words log) lit buffer.old }
 {
-    let records = log.records;
-    let cursor = log.cursor;
-    record_calls::calc_reason::calc_reason(s, &records, &cursor, lit, buffer)
+    record_calls::calc_reason::calc_reason(s, &log.records, &log.cursor, lit, buffer)
 }
 
 // The list last left: empty before any analysis and after a consistent notification.
 pub fn calc_last(s: GraphDivision, log: UndoLog, buffer: &mut [u32]) -> Answer
     ensures { fetched result buffer.new ≡ checked_last s log.cursor (words log) buffer.old }
 {
-    let records = log.records;
-    let cursor = log.cursor;
-    record_calls::calc_reason::calc_last(s, &records, &cursor, buffer)
+    record_calls::calc_reason::calc_last(s, &log.records, &log.cursor, buffer)
 }

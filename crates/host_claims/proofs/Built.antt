@@ -11,6 +11,8 @@ use lib.Dec.{eqb, ltb}
 use lib.IntN.{ℤ, pos, negsuc, neg_ℤ}
 use lib.ListN.{length, replicate}
 use borrow.Author.Tests.{eq-eqb, eqb-false, eqb-true, le-ltb}
+use Rattle.std.specs.Prelude.{None}
+use Rattle.base.proofs.Numbered.{none_with_0}
 use Rattle.base.specs.Iter.{pick}
 use Rattle.base.specs.Range.{in_range}
 use Rattle.base.proofs.Loop.{pick_yes, pick_no, tested}
@@ -72,16 +74,16 @@ module _ (vs : List ℤ) (n : ℕ) (es : List ℤ) (m : ℕ) (before : List ℕ)
       (λ t. let z = sym (down_negated (fitted (refusal vs n es m))) ∙ ap down (sym (pick_no _ _ t) ∙ c) in
       absurd (eqb-false (refusal vs n es m) 0 t (fitted_none (refusal vs n es m) z)))
 
-  built_accepted : (a b : Bool) → (built vs n es m a b).refusal ≡ 0
+  built_accepted : (a b : Bool) → (built vs n es m a b).refusal ≡ None
   unfolding built
-  built_accepted a b = build_accepted.0
+  built_accepted a b = none_with_0 _ build_accepted.0
 
 -- "Both options off"
 off : is_on (pos 0) ≡ false
 unfolding in_range
 off = refl
 
-off_condition : (vs : List ℤ) (n : ℕ) (es : List ℤ) (m : ℕ) (a b : Bool) → a ≡ false → b ≡ false → (built vs n es m a b).refusal ≡ 0 →
+off_condition : (vs : List ℤ) (n : ℕ) (es : List ℤ) (m : ℕ) (a b : Bool) → a ≡ false → b ≡ false → (built vs n es m a b).refusal ≡ None →
     let k = just_built (built vs n es m a b) in Condition3 k (plan_of k.state.plan k.state.edges.ends)
 off_condition vs n es m true b e f z = absurd (true≢false e)
 off_condition vs n es m false true e f z = absurd (true≢false f)
@@ -94,7 +96,7 @@ module _ (vs : List ℤ) (n : ℕ) (es : List ℤ) (m : ℕ) (a b : ℤ) (before
   start_fresh : start ≡ just_built (built vs n es m (is_on a) (is_on b))
   start_fresh = start_is vs n es m a b before state log (build_accepted vs n es m before c).1 s
 
-  accepted : (built vs n es m (is_on a) (is_on b)).refusal ≡ 0
+  accepted : (built vs n es m (is_on a) (is_on b)).refusal ≡ None
   accepted = built_accepted vs n es m before c (is_on a) (is_on b)
 
   given_in : Given vs n es m (is_on a) (is_on b) (state_in state).plan (state_in state).edges.ends

@@ -27,8 +27,7 @@ use Rattle.runs.specs.Walk.{listed, run_listed}
 use Rattle.pages.specs.Lines.{Figures}
 use Rattle.pages.specs.Lines as lines
 use Rattle.pages.proofs.Fields.{regions_few}
-use Rattle.walks.specs.declared.Listed.{Listed}
-use Rattle.walks.specs.declared.Listed.TheVariants.{Past, Missing}
+use Rattle.std.specs.Prelude.{Option, None, Some}
 use Rattle.refusals.specs.Refusals.{state_bad, fetch_refusal}
 use Rattle.refusals.proofs.Accepted.{pick_zero}
 use Rattle.noting.specs.Words.{capped}
@@ -233,10 +232,10 @@ copied_within ws l n b e = pick_ind (Within b) _ _ _ (λ _. zero-le) (λ u.
     let y = ltb-false (length b) (edges_of ws + 2 * vertices_of ws + 4) e in
     let z : n ≤ length b = omega arith in z)
 
-given_within : (ws l : List ℕ) (x : Listed) (b : List ℕ) → reason_short ws (length b) ≡ false → Within b (reason_given ws l x b)
+given_within : (ws l : List ℕ) (x : Option ℕ) (b : List ℕ) → reason_short ws (length b) ≡ false → Within b (reason_given ws l x b)
 unfolding reason_given
-given_within ws l (Past n) b e = copied_within ws l n b e
-given_within ws l Missing b e = zero-le
+given_within ws l (Some n) b e = copied_within ws l n b e
+given_within ws l None b e = zero-le
 
 room_for : (ws : List ℕ) (ends : List (List ℕ)) (noted log : List ℕ) (n : ℕ) (c : Cursor) → fetch_refusal ws ends noted n log c ≡ 0 → reason_short ws n ≡ false
 unfolding fetch_refusal

@@ -31,7 +31,7 @@ use Rattle.views.specs.Cells.{Chosen, separate_ranges}
 use Rattle.views.proofs.Viewed.{viewed_done, viewed_same}
 use Rattle.views.proofs.Separated.{separated}
 use Rattle.reasons.specs.Verdicts.{verdict_of}
-use Rattle.walks.specs.declared.Listed.TheVariants.{Past}
+use Rattle.std.specs.Prelude.{Some}
 use Rattle.walks.specs.Written.{out_of}
 use Rattle.walks.specs.Answers.{answer_of, given}
 use Rattle.lists.specs.Conflicts as lists
@@ -44,8 +44,8 @@ use Rattle.judge.proofs.Agrees.{Agrees, proper, analysis_is}
 use Rattle.judge.proofs.Ranges.{ranges_are}
 
 -- where there is room, a list stands whole from place 0 on, and the answer is its length
-pub given_whole : (m l : List ℕ) → length m ≤ length l → given m (out_of l 0) ≡ answer_of (Past (length m)) (sets l 0 m)
-given_whole m l h = given_fits m l 0 (omega arith) ∙ ap (λ (n : ℕ). answer_of (Past n) (sets l 0 m)) (zero-add (length m))
+pub given_whole : (m l : List ℕ) → length m ≤ length l → given m (out_of l 0) ≡ answer_of (Some (length m)) (sets l 0 m)
+given_whole m l h = given_fits m l 0 (omega arith) ∙ ap (λ (n : ℕ). answer_of (Some n) (sets l 0 m)) (zero-add (length m))
 
 pub list_taken : (m l : List ℕ) → length m ≤ length l → take (length m) (sets l 0 m) ≡ m
 list_taken m l h = ap (take (length m)) (sets-eq m l 0 (omega arith)) ∙ take-append_seam m _

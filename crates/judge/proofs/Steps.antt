@@ -1,25 +1,23 @@
 -- The returns of the functions, by cases.
-use mathlib.Core.Path.{◌≡◌, sym, ap, ap₂, ◌∙◌}
+use mathlib.Core.Path.{◌≡◌, sym, ap, ap₂, ◌∙◌, refl}
 use mathlib.Core.Bool.{Bool, true, false}
 use mathlib.Core.List.{List}
-use Prim.Native.Nat.{ℕ, ◌+◌, ◌-◌, ◌*◌, ◌<◌, ◌≤◌}
-use native.Mathlib.Omega.{arith}
+use Prim.Native.Nat.{ℕ, ◌+◌, ◌*◌, ◌<◌, ◌≤◌}
 use lib.Dec.{ltb}
-use lib.ListN.{length, get_or, take, drop, replicate}
+use lib.ListN.{get_or, replicate}
 use borrow.Author.Tests.{lt-ltb, le-ltb}
 use Rattle.base.specs.Iter.{pick}
 use Rattle.base.proofs.Loop.{pick_yes, pick_no}
-use Rattle.calls.specs.Table.{some_current}
-use Rattle.plan.specs.Words.{vertices_of, edges_of, variables_of}
+use Rattle.plan.specs.Words.{variables_of}
 use Rattle.views.specs.Compute.{Computed, compute_view}
 use Rattle.views.specs.Cells.{Chosen, separate_ranges}
-use Rattle.reasons.specs.declared.Verdict.{Verdict}
-use Rattle.reasons.specs.declared.Verdict.TheVariants.{Crowded}
+use Rattle.std.specs.Prelude.{Err}
+use Rattle.reasons.specs.declared.Stop.{Stop}
+use Rattle.reasons.specs.declared.Stop.TheVariants.{DisconnectedInside, Over, Under, Crowded, Apart, Crossing, ZeroSize, Unfit}
 use Rattle.reasons.specs.declared.reason.Reason.{Reason}
-use Rattle.reasons.specs.Verdicts.{Ran}
+use Rattle.reasons.specs.Verdicts.{Verdict, Ran}
 use Rattle.reasons.specs.Reason.{reason_of}
-use Rattle.walks.specs.declared.Listed.{Listed}
-use Rattle.walks.specs.declared.Listed.TheVariants.{Past, Missing}
+use Rattle.std.specs.Prelude.{Option}
 use Rattle.walks.specs.Written.{out_of}
 use Rattle.walks.specs.Answers.{Answer, answer_of}
 use Rattle.lists.specs.Parts.{and_word}
@@ -27,49 +25,16 @@ use Rattle.lists.specs.Lists.{reason_lits}
 use Rattle.lists.specs.Conflicts.{chosen_of}
 use Rattle.analysis.specs.Analyze.{analyze_words}
 use Rattle.sweep.specs.Sweep.{cleared, first_false_at}
-use Rattle.judge.specs.Judge.{Listing, listing, judged_of, listed, of_list, judge_current, of_false, negation_at, judge_chosen, judge_conflict, ranges_of, crowded_by, judge_crowded, false_lits, judge_false, judge_proposals, judge_found, has_room, with_words, judge_ran, judge_told}
+use Rattle.judge.specs.Judge.{Listing, listing, judged_of, judge_current, of_false, negation_at, judge_chosen, judge_conflict, ranges_of, crowded_by, judge_crowded, false_lits, judge_false, judge_proposals, judge_found, has_room, with_words, judge_ran, judge_told}
 use Rattle.judge.specs.declared.Judgement.{Judgement}
-use Rattle.judge.specs.declared.Judgement.TheVariants.{Fine, Clash, Stopped}
-
-pub list_of : (r : Listed) (m : List ℕ) (j : Judgement) (a : Answer) → answer_of r m ≡ a → j ≡ listed r → listing j m ≡ of_list a
-unfolding of_list
-list_of r m j a e h = ap (λ (x : Judgement). listing x m) h ∙ ap of_list e
-
-pub list_arm : (r q : Listed) (j : Judgement) → r ≡ q → j ≡ listed q → j ≡ listed r
-list_arm r q j e h = h ∙ sym (ap listed e)
-
--- refusal 14
-module _ (t l : List ℕ) (r : Listed) where
-  pub current_some : (n : ℕ) (b : Bool) → r ≡ Past n → b ≡ some_current t (take (n - 0) (drop 0 l)) → b ≡ true → Clash n ≡ judge_current t r l
-  unfolding judge_current
-  current_some n b e h k = let z : n - 0 ≡ n = omega arith in sym (ap (λ (q : Listed). judge_current t q l) e ∙ pick_yes _ _ (ap (λ (m : ℕ). some_current t (take m l)) (sym z) ∙ sym h ∙ k))
-
-  pub current_none : (n : ℕ) (b : Bool) → r ≡ Past n → b ≡ some_current t (take (n - 0) (drop 0 l)) → b ≡ false → Stopped 14 ≡ judge_current t r l
-  unfolding judge_current
-  current_none n b e h k = let z : n - 0 ≡ n = omega arith in sym (ap (λ (q : Listed). judge_current t q l) e ∙ pick_no _ _ (ap (λ (m : ℕ). some_current t (take m l)) (sym z) ∙ sym h ∙ k))
-
-  pub current_missing : r ≡ Missing → Stopped 7 ≡ judge_current t r l
-  unfolding judge_current
-  current_missing e = sym (ap (λ (q : Listed). judge_current t q l) e)
-
-pub room_words : (ws p l : List ℕ) → length p < 68 + 4 * variables_of ws → false ≡ has_room ws p l
-unfolding has_room
-room_words ws p l h = sym (pick_yes _ _ (lt-ltb _ _ h))
-
-pub room_list : (ws p l : List ℕ) → 68 + 4 * variables_of ws ≤ length p → length l < edges_of ws + 2 * vertices_of ws + 4 → false ≡ has_room ws p l
-unfolding has_room
-room_list ws p l h k = sym (pick_no _ _ (le-ltb _ _ h) ∙ pick_yes _ _ (lt-ltb _ _ k))
-
-pub room_both : (ws p l : List ℕ) → 68 + 4 * variables_of ws ≤ length p → edges_of ws + 2 * vertices_of ws + 4 ≤ length l → true ≡ has_room ws p l
-unfolding has_room
-room_both ws p l h k = sym (pick_no _ _ (le-ltb _ _ h) ∙ pick_no _ _ (le-ltb _ _ k))
+use Rattle.judge.specs.declared.Judgement.TheVariants.{Fine, Stopped}
 
 module _ (ws : List ℕ) (es : List (List ℕ)) (noted : List ℕ) where
   pub crowded_some : (r : ℕ) (l : List ℕ) (y : Computed) (c : Chosen) (x : Listing) → y ≡ compute_view ws es noted (replicate 512 0) → y.done ≡ true →
-      c ≡ separate_ranges ws noted y.words r (replicate 64 0) → x ≡ judge_chosen ws es noted (Crowded r) (chosen_of c.list c.count) l → x ≡ judge_crowded ws es noted r l
+      c ≡ separate_ranges ws noted y.words r (replicate 64 0) → x ≡ judge_chosen ws es noted (Err (Crowded r)) (chosen_of c.list c.count) l → x ≡ judge_crowded ws es noted r l
   unfolding judge_crowded crowded_by ranges_of
   crowded_some r l y c x e h k z =
-      z ∙ ap (λ (q : Chosen). judge_chosen ws es noted (Crowded r) (ranges_of ws es noted q) l) k ∙ sym (pick_yes _ _ h) ∙ ap (crowded_by ws es noted r l) e
+      z ∙ ap (λ (q : Chosen). judge_chosen ws es noted (Err (Crowded r)) (ranges_of ws es noted q) l) k ∙ sym (pick_yes _ _ h) ∙ ap (crowded_by ws es noted r l) e
 
   pub crowded_unfit : (r : ℕ) (l : List ℕ) (y : Computed) → y ≡ compute_view ws es noted (replicate 512 0) → y.done ≡ false → listing (Stopped 7) l ≡ judge_crowded ws es noted r l
   unfolding judge_crowded crowded_by
@@ -80,7 +45,7 @@ module _ (ws : List ℕ) (es : List (List ℕ)) (noted : List ℕ) where
   unfolding false_lits
   false_by words l p why n a b e h k z = z ∙ ap₂ and_word k (h ∙ ap (λ (r : Reason). reason_lits ws es noted r (out_of l 0)) e)
 
-  pub false_of : (t words l : List ℕ) (p : ℕ) (r : Listed) (m : List ℕ) (j : Judgement) → answer_of r m ≡ false_lits ws es noted words p l → j ≡ judge_current t r m →
+  pub false_of : (t words l : List ℕ) (p : ℕ) (r : Option ℕ) (m : List ℕ) (j : Judgement) → answer_of r m ≡ false_lits ws es noted words p l → j ≡ judge_current t r m →
       listing j m ≡ judge_false ws es noted t words p l
   unfolding judge_false of_false
   false_of t words l p r m j e h = ap (λ (x : Judgement). listing x m) h ∙ ap (of_false t) e
@@ -101,10 +66,18 @@ module _ (ws : List ℕ) (es : List (List ℕ)) (noted : List ℕ) where
   pub found_arm : (t words l : List ℕ) (v w : Verdict) (x : Listing) → v ≡ w → x ≡ judge_found ws es noted t w words l → x ≡ judge_found ws es noted t v words l
   found_arm t words l v w x e h = h ∙ sym (ap (λ (y : Verdict). judge_found ws es noted t y words l) e)
 
-  -- a judgement of a conflict is of the verdict that was matched
-  pub found_conflict : (t words l : List ℕ) (v w : Verdict) (x : Listing) → v ≡ w → x ≡ judge_conflict ws es noted v l →
-      judge_conflict ws es noted w l ≡ judge_found ws es noted t w words l → x ≡ judge_found ws es noted t v words l
-  found_conflict t words l v w x e h k = h ∙ ap (λ (y : Verdict). judge_conflict ws es noted y l) e ∙ k ∙ sym (ap (λ (y : Verdict). judge_found ws es noted t y words l) e)
+  -- any other end of an analysis is a conflict without separate ranges
+  pub found_other : (t words l : List ℕ) (s : Stop) → ((r : ℕ) → s ≡ Crowded r → ⊥) → (s ≡ ZeroSize → ⊥) → (s ≡ Unfit → ⊥) →
+      judge_conflict ws es noted (Err s) l ≡ judge_found ws es noted t (Err s) words l
+  unfolding judge_found
+  found_other t words l (DisconnectedInside g) f h k = refl
+  found_other t words l (Over v) f h k = refl
+  found_other t words l (Under v) f h k = refl
+  found_other t words l (Crowded r) f h k = absurd (f r refl)
+  found_other t words l (Apart a b) f h k = refl
+  found_other t words l (Crossing v) f h k = refl
+  found_other t words l ZeroSize f h k = absurd (h refl)
+  found_other t words l Unfit f h k = absurd (k refl)
 
   module _ (t p l : List ℕ) (b : Bool) (r : b ≡ has_room ws p l) where
     pub judge_some : (v : ℕ) (q : Ran) (x : Listing) → b ≡ true → q ≡ analyze_words ws es noted v (cleared p) →

@@ -1,5 +1,5 @@
 -- The body of the Rust's `propagate` after noting, up to handing on, on any words: document 01, "Analysis" and refusals 13 and 14.
-use Rattle.std.specs.Prelude.{Bool, true, false, List, [], ℕ, ◌+◌, ◌*◌, ◌%◌, ltb, length, get_or, take, replicate}
+use Rattle.std.specs.Prelude.{Bool, true, false, List, [], ℕ, ◌+◌, ◌*◌, ◌%◌, ltb, length, get_or, take, replicate, Option, None, Some, Ok, Err}
 use Rattle.base.specs.Iter.{pick}
 use Rattle.sat.specs.Literal.{negate}
 use Rattle.calls.specs.Table.{some_current}
@@ -7,12 +7,9 @@ use Rattle.plan.specs.Words.{vertices_of, edges_of, variables_of, unique_lit_at}
 use Rattle.noting.specs.Words.{crossed_in}
 use Rattle.views.specs.Compute.{Computed, compute_view}
 use Rattle.views.specs.Cells.{Chosen, separate_ranges}
-use Rattle.reasons.specs.declared.Verdict.{Verdict}
-use Rattle.reasons.specs.declared.Verdict.TheVariants.{Going, DisconnectedInside, Over, Under, Crowded, Apart, Crossing, ZeroSize, Unfit}
-use Rattle.reasons.specs.Verdicts.{Ran}
+use Rattle.reasons.specs.declared.Stop.TheVariants.{DisconnectedInside, Over, Under, Crowded, Apart, Crossing, ZeroSize, Unfit}
+use Rattle.reasons.specs.Verdicts.{Verdict, Ran}
 use Rattle.reasons.specs.Reason.{reason_of}
-use Rattle.walks.specs.declared.Listed.{Listed}
-use Rattle.walks.specs.declared.Listed.TheVariants.{Past, Missing}
 use Rattle.walks.specs.Written.{out_of}
 use Rattle.walks.specs.Answers.{Answer}
 use Rattle.lists.specs.Parts.{and_word}
@@ -41,17 +38,17 @@ abbrev pub judged_of : Judgement → List ℕ → List ℕ → Judged
 judged_of j p l = record { judgement = j; proposals = p; left = l }
 
 -- a list that could be written is a conflict's
-unfoldable pub listed : Listed → Judgement
-listed (Past n) = Clash n
-listed Missing = Stopped 7
+unfoldable pub listed : Option ℕ → Judgement
+listed (Some n) = Clash n
+listed None = Stopped 7
 
 unfoldable pub of_list : Answer → Listing
 of_list a = listing (listed a.listed) a.text
 
 -- refusal 14, "false proposal, no entry of its list (negation included) coded 3 or 4"
-unfoldable pub judge_current : List ℕ → Listed → List ℕ → Judgement
-judge_current t (Past n) l = pick (some_current t (take n l)) (Clash n) (Stopped 14)
-judge_current t Missing l = Stopped 7
+unfoldable pub judge_current : List ℕ → Option ℕ → List ℕ → Judgement
+judge_current t (Some n) l = pick (some_current t (take n l)) (Clash n) (Stopped 14)
+judge_current t None l = Stopped 7
 
 unfoldable pub of_false : List ℕ → Answer → Listing
 of_false t a = listing (judge_current t a.listed a.text) a.text
@@ -73,7 +70,7 @@ module _ (ws : List ℕ) (es : List (List ℕ)) (noted : List ℕ) where
   ranges_of c = chosen_of c.list c.count
 
   unfoldable pub crowded_by : ℕ → List ℕ → Computed → Listing
-  crowded_by r l c = pick c.done (judge_chosen (Crowded r) (ranges_of (separate_ranges ws noted c.words r (replicate 64 0))) l) (listing (Stopped 7) l)
+  crowded_by r l c = pick c.done (judge_chosen (Err (Crowded r)) (ranges_of (separate_ranges ws noted c.words r (replicate 64 0))) l) (listing (Stopped 7) l)
 
   unfoldable pub judge_crowded : ℕ → List ℕ → Listing
   judge_crowded r l = crowded_by r l (compute_view ws es noted (replicate 512 0))
@@ -90,15 +87,15 @@ module _ (ws : List ℕ) (es : List (List ℕ)) (noted : List ℕ) where
   judge_proposals t words l = pick (ltb (first_false_at ws words t) (2 * variables_of ws)) (judge_false t words (first_false_at ws words t) l) (listing Fine l)
 
   unfoldable pub judge_found : List ℕ → Verdict → List ℕ → List ℕ → Listing
-  judge_found t Going words l = judge_proposals t words l
-  judge_found t (DisconnectedInside g) words l = judge_conflict (DisconnectedInside g) l
-  judge_found t (Over v) words l = judge_conflict (Over v) l
-  judge_found t (Under v) words l = judge_conflict (Under v) l
-  judge_found t (Crowded r) words l = judge_crowded r l
-  judge_found t (Apart a b) words l = judge_conflict (Apart a b) l
-  judge_found t (Crossing v) words l = judge_conflict (Crossing v) l
-  judge_found t ZeroSize words l = listing (Stopped 13) l
-  judge_found t Unfit words l = listing (Stopped 7) l
+  judge_found t (Ok u) words l = judge_proposals t words l
+  judge_found t (Err (DisconnectedInside g)) words l = judge_conflict (Err (DisconnectedInside g)) l
+  judge_found t (Err (Over v)) words l = judge_conflict (Err (Over v)) l
+  judge_found t (Err (Under v)) words l = judge_conflict (Err (Under v)) l
+  judge_found t (Err (Crowded r)) words l = judge_crowded r l
+  judge_found t (Err (Apart a b)) words l = judge_conflict (Err (Apart a b)) l
+  judge_found t (Err (Crossing v)) words l = judge_conflict (Err (Crossing v)) l
+  judge_found t (Err ZeroSize) words l = listing (Stopped 13) l
+  judge_found t (Err Unfit) words l = listing (Stopped 7) l
 
 -- the marks and two words for each distinct literal, and the length that refusal 7 asks of a reason buffer
 unfoldable pub has_room : List ℕ → List ℕ → List ℕ → Bool

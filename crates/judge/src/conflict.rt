@@ -8,22 +8,23 @@ use crate::Judgement;
 use edge_table::Edges;
 use lists::conflict::conflict_lits;
 use noting::Noted;
-use reasons::Verdict;
+use reasons::{Stop, Verdict};
 use views::cells::separate_ranges;
 use views::compute::compute_view;
-use walks::Listed;
 
 // A list that could be written is a conflict's.
-fn judge_list(r: Listed) -> Judgement
+#[tactic(auto, unfolding(crate::specs::Judge::listed))]
+fn judge_list(r: Option<usize>) -> Judgement
     ensures { result ≡ listed r }
 {
     match r {
-        Listed::Past(n) => Judgement::Clash { len: n },
-        Listed::Missing => Judgement::Stopped { refusal: 7 },
+        Some(len) => Judgement::Clash { len },
+        None => Judgement::Stopped { refusal: 7 },
     }
 }
 
 // A conflict whose separate ranges are those of the first `count` of `chosen`.
+#[tactic(auto, unfolding(crate::specs::Judge::judge_chosen, crate::specs::Judge::of_list))]
 fn judge_chosen(
     plan: &[u8],
     edges: Edges,
@@ -35,11 +36,11 @@ fn judge_chosen(
 ) -> Judgement
     ensures { listing result left.new ≡ judge_chosen (words_of plan.now) edges noted.now found (chosen_of chosen.now count) left.old }
 {
-    let r = conflict_lits(plan, edges, noted, found, chosen, count, left, 0);
-    judge_list(r)
+    judge_list(conflict_lits(plan, edges, noted, found, chosen, count, left, 0))
 }
 
 // A conflict without separate ranges.
+#[tactic(auto, unfolding(crate::specs::Judge::judge_conflict, lists::specs::Conflicts::chosen_of, lists::specs::Conflicts::num_chosen, base::specs::Iter::pick, base::specs::Lists::tab))]
 pub(crate) fn judge_conflict(
     plan: &[u8],
     edges: Edges,
@@ -67,7 +68,7 @@ pub(crate) fn judge_crowded(
     if compute_view(plan, edges, noted, &mut view) {
         let mut chosen = [0u8; 64];
         let count = separate_ranges(plan, noted, &view, region, &mut chosen);
-        let found = Verdict::Crowded { region: region };
+        let found = Err(Stop::Crowded { region });
         return judge_chosen(plan, edges, noted, found, &chosen, count, left);
     }
     Judgement::Stopped { refusal: 7 }

@@ -13,7 +13,7 @@ use conflict::{judge_conflict, judge_crowded};
 use edge_table::Edges;
 use noting::Noted;
 use proposal::judge_proposals;
-use reasons::Verdict;
+use reasons::{Stop, Verdict};
 
 #[derive(Clone, Copy)]
 pub enum Judgement {
@@ -25,18 +25,13 @@ pub enum Judgement {
 }
 
 // Room for the words of all distinct literals, and for any list.
+#[tactic(auto, unfolding(crate::specs::Judge::has_room, base::specs::Iter::pick))]
 fn has_room(plan: &[u8], proposals: &[u64], left: &[u32]) -> bool
     ensures { result ≡ has_room (words_of plan.now) proposals.now left.now }
 {
     let words = 68 + 4 * (plan::num_variables(plan) as usize);
-    if proposals.len() < words {
-        return false;
-    }
     let lits = plan::num_edges(plan) as usize + 2 * (plan::num_vertices(plan) as usize) + 4;
-    if left.len() < lits {
-        return false;
-    }
-    true
+    words <= proposals.len() && lits <= left.len()
 }
 
 // What the analysis found, by its verdict.
@@ -51,21 +46,14 @@ fn judge_found(
 ) -> Judgement
     ensures { listing result left.new ≡ judge_found (words_of plan.now) edges noted.now table.now found proposals.now left.old }
 {
-    match found {
-        Verdict::Going => judge_proposals(plan, edges, noted, table, proposals, left),
-        Verdict::DisconnectedInside { edge_idx: _ } => {
-            judge_conflict(plan, edges, noted, found, left)
-        }
-        Verdict::Over { vertex_idx: _ } => judge_conflict(plan, edges, noted, found, left),
-        Verdict::Under { vertex_idx: _ } => judge_conflict(plan, edges, noted, found, left),
-        Verdict::Crowded { region: r } => judge_crowded(plan, edges, noted, r, left),
-        Verdict::Apart {
-            lower_bound_idx: _,
-            upper_bound_idx: _,
-        } => judge_conflict(plan, edges, noted, found, left),
-        Verdict::Crossing { vertex_idx: _ } => judge_conflict(plan, edges, noted, found, left),
-        Verdict::ZeroSize => Judgement::Stopped { refusal: 13 },
-        Verdict::Unfit => Judgement::Stopped { refusal: 7 },
+    let Err(stop) = found else {
+        return judge_proposals(plan, edges, noted, table, proposals, left);
+    };
+    match stop {
+        Stop::Crowded { region } => judge_crowded(plan, edges, noted, region, left),
+        Stop::ZeroSize => Judgement::Stopped { refusal: 13 },
+        Stop::Unfit => Judgement::Stopped { refusal: 7 },
+        _ => judge_conflict(plan, edges, noted, found, left),
     }
 }
 

@@ -15,7 +15,6 @@ use reasons::reason::{Reason, reason_of};
 use sat::negation;
 use sweep::first_false;
 use sweep::table::some_current;
-use walks::Listed;
 
 // The reason that the words of place p hold.
 fn reason_at(proposals: &[u64], p: usize) -> Reason
@@ -26,6 +25,7 @@ fn reason_at(proposals: &[u64], p: usize) -> Reason
 }
 
 // The negation of the literal at place p; a word of the list has 32 bits.
+#[tactic(auto, unfolding(crate::specs::Judge::negation_at))]
 fn negation_at(plan: &[u8], p: usize) -> u32
     ensures { result ≡ negation_at (words_of plan.now) p }
 {
@@ -40,27 +40,23 @@ fn false_lits(
     proposals: &[u64],
     p: usize,
     left: &mut [u32],
-) -> Listed
+) -> Option<usize>
     requires { p < 8589934592 }
     ensures { answer_of result left.new ≡ false_lits (words_of plan.now) edges noted.now proposals.now p left.old }
 {
-    let why = reason_at(proposals, p);
-    let r = reason_lits(plan, edges, noted, why, left, 0);
+    let r = reason_lits(plan, edges, noted, reason_at(proposals, p), left, 0);
     and_word(r, negation_at(plan, p), left)
 }
 
 // Refusal 14: no literal of the list is of the current level.
-fn judge_current(table: &[u8], r: Listed, left: &[u32]) -> Judgement
+#[tactic(auto, unfolding(crate::specs::Judge::judge_current, base::specs::Iter::pick))]
+fn judge_current(table: &[u8], r: Option<usize>, left: &[u32]) -> Judgement
     ensures { result ≡ judge_current table.now r left.now }
 {
     match r {
-        Listed::Past(n) => {
-            if some_current(table, left, 0, n) {
-                return Judgement::Clash { len: n };
-            }
-            Judgement::Stopped { refusal: 14 }
-        }
-        Listed::Missing => Judgement::Stopped { refusal: 7 },
+        Some(len) if some_current(table, left, 0, len) => Judgement::Clash { len },
+        Some(_) => Judgement::Stopped { refusal: 14 },
+        None => Judgement::Stopped { refusal: 7 },
     }
 }
 

@@ -9,7 +9,7 @@ use Rattle.base.proofs.Loop.{pick_yes, pick_no}
 use Rattle.undo_log.specs.declared.Cursor.{Cursor}
 use Rattle.reasons.specs.declared.reason.Reason.{Reason}
 use Rattle.plan.specs.Words.{vertices_of, edges_of}
-use Rattle.walks.specs.declared.Listed.{Listed}
+use Rattle.std.specs.Prelude.{Option}
 use Rattle.walks.specs.Answers as walks
 use Rattle.runs.specs.Walk.{run_listed, vertex_given}
 use Rattle.refusals.specs.Refusals.{literal_refusal, fetch_refusal}
@@ -50,7 +50,7 @@ module _ (s : GraphDivision) (c : Cursor) (log b : List ℕ) (n : ℕ) (e : n �
     run_refused z = ap (λ (k : ℕ). fetched (answer.Refused k) b) e
         ∙ sym (pick_no _ _ (ne_eqb _ _ (λ (f : fetch_refusal s.plan s.edges.ends s.noted (length b) log c ≡ 0). z (e ∙ f))))
 
-    pub run_found : (from' to' : ℤ) (m k p q : ℕ) (l : Listed) (x : Answer) (b' : List ℕ) → n ≡ 0 → from' ≡ from → to' ≡ to →
+    pub run_found : (from' to' : ℤ) (m k p q : ℕ) (l : Option ℕ) (x : Answer) (b' : List ℕ) → n ≡ 0 → from' ≡ from → to' ≡ to →
         m ≡ edges_of s.plan → k ≡ vertices_of s.plan → p ≡ vertex_given from' → q ≡ vertex_given to' →
         walks.answer_of l b' ≡ run_listed s.edges.ends s.noted m k p q b → x ≡ run_answer l → fetched x b' ≡ run_fetched s c log from to b
     unfolding run_fetched best_listed

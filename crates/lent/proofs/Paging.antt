@@ -9,7 +9,8 @@ use Rattle.plan.specs.Words.{vertices_of}
 use Rattle.views.specs.declared.compute.Regions.{Regions}
 use Rattle.views.specs.declared.compute.Bounds.{Bounds}
 use Rattle.views.specs.Compute.{regions_from, bounds_from}
-use Rattle.pages.specs.declared.Printed.{Printed}
+use Rattle.std.specs.Prelude.{Result}
+use Rattle.pages.specs.declared.PageError.{PageError}
 use Rattle.pages.specs.Lines as lines
 use Rattle.refusals.specs.Refusals.{state_bad}
 use Rattle.graph_division.specs.declared.GraphDivision.{GraphDivision}
@@ -23,7 +24,7 @@ module _ (s : GraphDivision) (c : Cursor) (log b : List ℕ) (bad : Bool)
   unfolding page_fetched
   page_refused z = sym (pick_yes _ _ (sym e ∙ z))
 
-  pub page_printed_lem : (n : ℕ) (r : Regions) (lower upper : Bounds) (x : Printed) (a : Answer) (b' : List ℕ) →
+  pub page_printed_lem : (n : ℕ) (r : Regions) (lower upper : Bounds) (x : Result ℕ PageError) (a : Answer) (b' : List ℕ) →
       bad ≡ false → n ≡ vertices_of s.plan → r ≡ regions_from s.plan s.edges.ends s.noted false →
       lower ≡ bounds_from r.labels s.noted 128 n false → upper ≡ bounds_from r.labels s.noted 192 n true →
       lines.page_buffer x b'

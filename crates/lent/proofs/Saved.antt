@@ -3,12 +3,13 @@
 use mathlib.Core.Path.{◌≡◌, refl, sym, ap, ◌∙◌}
 use mathlib.Core.Logic.{inr, ⊎_elim}
 use mathlib.Core.Bool.{Bool, true, false, ◌&&◌}
-use mathlib.Core.List.{List}
-use Prim.Native.Nat.{ℕ, zero, suc, ◌+◌, ◌*◌, ◌/◌, ◌%◌, ◌<◌, ◌≤◌}
+use mathlib.Core.List.{List, ◌++◌}
+use Prim.Native.Nat.{ℕ, zero, suc, ◌+◌, ◌-◌, ◌*◌, ◌/◌, ◌%◌, ◌<◌, ◌≤◌, min}
 use native.Mathlib.Omega.{arith}
 use native.Mathlib.Nat.{not-suc-le-zero, eq-or-lt_of_le}
 use lib.Dec.{eqb, ltb}
-use lib.ListN.{length, get_or, set, replicate, length-set, length-replicate, get_or-replicate, get_or-eq_default}
+use lib.ListN.{length, get_or, set, replicate, take, drop, length-set, length-replicate, get_or-replicate, get_or-eq_default}
+use Rattle.std.proofs.lemmas.List.{length-append, length-take, length-drop, get_or-take, get_or-drop, get_or_append_left, get_or-append_right}
 use lib.Seq.{ext_get_or, get_or-set_same, get_or-set_other}
 use borrow.Author.Tests.{ltb-false}
 use Rattle.base.specs.Iter.{iter, pick}
@@ -20,8 +21,6 @@ use Rattle.base.proofs.Filled.{filled_length, filled_out}
 use Rattle.base.proofs.Some.{some_none}
 use Rattle.noting.proofs.Block.{iter_same}
 use Rattle.noting.proofs.Marks.{tab_length}
-use Rattle.noting.proofs.Sizes.{capped_le}
-use Rattle.noting.specs.Words.{capped}
 use Rattle.noting.specs.Note.{Noting, note}
 use Rattle.plan.specs.Words.{variables_of, variable_at, unique_lit_at}
 use Rattle.plan.specs.Check.{variable_high, variables_high}
@@ -47,34 +46,24 @@ module _ (f : ℕ → ℕ) (l : List ℕ) where
       (λ (k : i < n). get_or-set_other (filled 0 n f l) (0 + n) i (f n) 0 (λ (e : i ≡ 0 + n). omega arith) ∙ stored_at n i k r)
       (eq-or-lt_of_le {n = i} {m = n} (omega arith))
 
--- how far the copy goes: to the table's end, or as far as it has room
-pub capped_end : (len : ℕ) → capped len 4096 ≤ len
-unfolding capped
-capped_end len = pick_ind (λ (k : ℕ). k ≤ len) (ltb len 4096) len 4096 (λ _. omega arith) (λ e. let h = ltb-false len 4096 e in omega arith)
-
-past_all : (len i : ℕ) → capped len 4096 ≤ i → i < 4096 → len ≤ i
-unfolding capped
-past_all len i = pick_ind (λ (k : ℕ). k ≤ i → i < 4096 → len ≤ i) (ltb len 4096) len 4096 (λ _ k h. k) (λ _ k h. omega arith)
-
-past_room : (len i : ℕ) → capped len 4096 ≤ i → i < len → 4096 ≤ i
-unfolding capped
-past_room len i = pick_ind (λ (k : ℕ). k ≤ i → i < len → 4096 ≤ i) (ltb len 4096) len 4096 (λ _ k h. omega arith) (λ _ k h. k)
-
-module _ (t : List ℕ) (n : ℕ) (hn : n ≡ capped (length t) 4096) where
-  pub saved_tab : filled 0 n (λ i. get_or t i 0) (replicate 4096 0) ≡ saved_table t
+-- the copy goes to the table's end, or as far as it has room
+module _ (t : List ℕ) (n : ℕ) (hn : n ≡ min (length t) 4096) where
+  pub saved_tab : (x : List ℕ) → x ≡ take n t → x ++ drop n (replicate 4096 0) ≡ saved_table t
   unfolding saved_table
-  saved_tab =
+  saved_tab x e =
       let f : ℕ → ℕ = λ i. get_or t i 0 in
       let z : List ℕ = replicate 4096 0 in
-      let r = length-replicate {0} {A = ℕ} 4096 0 in
-      ext_get_or 0 (filled 0 n f z) (tab f 4096) (filled_length 0 f z n ∙ r ∙ sym (tab_length f 4096))
+      let r : length z ≡ 4096 = length-replicate {0} {A = ℕ} 4096 0 in
+      let m : length x ≡ n = omega (arith, ap length e, length-take n t) in
+      ext_get_or 0 (x ++ drop n z) (tab f 4096) (omega (arith, length-append x (drop n z), length-drop n z, tab_length f 4096))
       (λ i h.
-      let k : i < 4096 = omega (arith, filled_length 0 f z n) in
+      let k : i < 4096 = omega (arith, length-append x (drop n z), length-drop n z) in
       ⊎_elim
-      (λ (m : n ≤ i).
-      filled_out 0 f z n i (inr (omega arith)) ∙ get_or-replicate {A = ℕ} 4096 i 0 0 k
-      ∙ sym (get_or-eq_default t 0 {n = i} (past_all (length t) i (omega arith) k)))
-      (λ (m : i < n). stored_at f z n i m (omega arith))
+      (λ (q : n ≤ i).
+      let j : n + (i - n) ≡ i = omega arith in
+      get_or-append_right x (drop n z) n i 0 m q ∙ get_or-drop n z (i - n) 0 ∙ ap (λ (y : ℕ). get_or z y 0) j ∙ get_or-replicate {A = ℕ} 4096 i 0 0 k
+      ∙ sym (get_or-eq_default t 0 {n = i} (omega arith)))
+      (λ (q : i < n). get_or_append_left x (drop n z) 0 i (omega arith) ∙ ap (λ (y : List ℕ). get_or y i 0) e ∙ get_or-take n t i 0 q)
       (le_or_lt n i)
       ∙ sym (tab_at f 4096 i k))
 
@@ -86,10 +75,8 @@ module _ (t : List ℕ) (n : ℕ) (hn : n ≡ capped (length t) 4096) where
       (λ i h.
       let k : i < length t = omega (arith, filled_length 0 f t n) in
       ⊎_elim
-      (λ (m : n ≤ i).
-      let e = past_room (length t) i (omega arith) k in
-      filled_out 0 f t n i (inr (omega arith)) ∙ sym (filled_out 0 f t 4096 i (inr (omega arith))))
-      (λ (m : i < n). stored_at f t n i m k ∙ sym (stored_at f t 4096 i (omega (arith, capped_le (length t) 4096)) k))
+      (λ (m : n ≤ i). filled_out 0 f t n i (inr (omega arith)) ∙ sym (filled_out 0 f t 4096 i (inr (omega arith))))
+      (λ (m : i < n). stored_at f t n i m k ∙ sym (stored_at f t 4096 i (omega arith) k))
       (le_or_lt n i))
 
 -- a table of t's length, and with its entries past the copied ones

@@ -3,6 +3,8 @@
 use Rattle.std.specs.Prelude.{◌≡◌, Bool, true, false, List, ℕ, eqb, ℤ, pos, length, replicate}
 use Rattle.base.specs.Iter.{pick}
 use Rattle.base.specs.Range.{in_range}
+use Rattle.base.specs.declared.refusal.Refusal.{Refusal}
+use Rattle.base.specs.Refusal.{number}
 use Rattle.undo_log.specs.declared.Cursor.{Cursor}
 use Rattle.reasons.specs.declared.reason.Reason.{Reason}
 use Rattle.recorded.specs.declared.Reasons.{Reasons}
@@ -35,6 +37,10 @@ pub record Parts (s : GraphDivision) (ws : List ℕ) (ends : List (List ℕ)) (w
   pub plan : ws ≡ s.plan
   pub edges : ends ≡ s.edges.ends
   pub noted : words ≡ s.noted
+
+-- what a refused call on lent arrays answers
+abbrev pub refused : Refusal → Cursor → Done
+refused r c = record { cursor = c; answer = answer.Refused (number r); judged = false; len = 0 }
 
 -- the state after a call: the noted words, and where there was an analysis that is accepted, its proposals recorded and its list last left
 unfoldable pub state_after : GraphDivision → List ℕ → List ℕ → List ℕ → Done → GraphDivision

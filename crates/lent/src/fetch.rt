@@ -15,16 +15,7 @@ use lists::no_list;
 use noting::Noted;
 use reasons::reason::Reason;
 use undo_log::Cursor;
-use walks::{Listed, push};
-
-fn word(list: &[u32], i: usize) -> u32
-    ensures { result ≡ word list.now i }
-{
-    if i < list.len() {
-        return list[i];
-    }
-    0
-}
+use walks::push;
 
 // The first n words of the list, as many as there is room for.
 pub(crate) fn copy(list: &[u32], n: usize, buffer: &mut [u32])
@@ -32,48 +23,14 @@ pub(crate) fn copy(list: &[u32], n: usize, buffer: &mut [u32])
 {
     let mut at = 0;
     for i in 0..n {
-        at = push(buffer, at, word(list, i));
+        at = push(buffer, at, list.get(i).copied().unwrap_or(0));
     }
 }
 
 fn is_none(r: Reason) -> bool
     ensures { result ≡ is_none r }
 {
-    match r {
-        Reason::NotPropagated => true,
-        Reason::EdgeInSameGroup { edge_idx: _ } => false,
-        Reason::EdgeBetweenDifferentGroups {
-            disconnected_edge_idx: _,
-            newly_decided_edge_idx: _,
-            flip: _,
-        } => false,
-        Reason::TooLargeIfRegionsAreMerged {
-            disconnected_edge_idx: _,
-            upper_bound_lit: _,
-        } => false,
-        Reason::RegionAlreadyLarge { vertex_idx: _ } => false,
-        Reason::RegionAlreadySmall { vertex_idx: _ } => false,
-        Reason::InconsistentBoundsIfRegionsAreMerged {
-            disconnected_edge_idx: _,
-            upper_bound_vertex_idx: _,
-            lower_bound_vertex_idx: _,
-            flip: _,
-        } => false,
-        Reason::BoundPropagationWithinRegion {
-            known_bound_lit: _,
-            known_bound_idx: _,
-            unknown_bound_idx: _,
-        } => false,
-        Reason::AdjacentSameSizeRegions {
-            region1_vertex: _,
-            region1_lower_bound: _,
-            region1_upper_bound: _,
-            region2_vertex: _,
-            region2_lower_bound: _,
-            region2_upper_bound: _,
-            region3_vertex: _,
-        } => false,
-    }
+    matches!(r, Reason::NotPropagated)
 }
 
 // More literals than a reason buffer must hold.
@@ -95,12 +52,12 @@ fn give_list(plan: &[u8], list: &[u32], n: usize, buffer: &mut [u32]) -> Answer
 }
 
 // The list, which was made aside, where there is one.
-fn give(plan: &[u8], list: &[u32], listed: Listed, buffer: &mut [u32]) -> Answer
+fn give(plan: &[u8], list: &[u32], listed: Option<usize>, buffer: &mut [u32]) -> Answer
     ensures { fetched result buffer.new ≡ reason_given (words_of plan.now) list.now listed buffer.old }
 {
     match listed {
-        Listed::Past(n) => give_list(plan, list, n, buffer),
-        Listed::Missing => Answer::Refused { number: 16 },
+        Some(n) => give_list(plan, list, n, buffer),
+        None => Answer::Refused { number: 16 },
     }
 }
 
@@ -139,16 +96,17 @@ pub fn calc_reason<'a>(
     ensures { (s : GraphDivision) → Parts s (words_of plan.now) edges noted.now →
         fetched result buffer.new ≡ reason_fetched_by s cursor log.now lit reason buffer.old }
 {
-    let ends = edges;
-    let n = refusals::fetch_refusal(plan, &ends, noted, buffer.len(), log, cursor);
-    if n == 0 {
-        let m = refusals::literal_refusal(plan, lit);
-        if m == 0 {
-            return calc(plan, edges, noted, reason, buffer);
-        }
-        return Answer::Refused { number: m };
+    if let Some(refusal) = refusals::fetch_refusal(plan, &edges, noted, buffer.len(), log, cursor) {
+        return Answer::Refused {
+            number: refusal.number(),
+        };
     }
-    Answer::Refused { number: n }
+    if let Some(refusal) = refusals::literal_refusal(plan, lit) {
+        return Answer::Refused {
+            number: refusal.number(),
+        };
+    }
+    calc(plan, edges, noted, reason, buffer)
 }
 
 // The list last left, which stands in `last`, up to `len`: empty before any analysis and after a consistent notification.
@@ -165,9 +123,10 @@ pub fn calc_last<'a>(
     ensures { (s : GraphDivision) → Parts s (words_of plan.now) edges noted.now → last.now ≡ s.last → len ≡ s.last_len →
         fetched result buffer.new ≡ last_fetched s cursor log.now buffer.old }
 {
-    let n = refusals::fetch_refusal(plan, &edges, noted, buffer.len(), log, cursor);
-    if n == 0 {
-        return give_list(plan, last, len, buffer);
+    if let Some(refusal) = refusals::fetch_refusal(plan, &edges, noted, buffer.len(), log, cursor) {
+        return Answer::Refused {
+            number: refusal.number(),
+        };
     }
-    Answer::Refused { number: n }
+    give_list(plan, last, len, buffer)
 }

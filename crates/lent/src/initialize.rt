@@ -8,9 +8,9 @@ ghost use Rattle.graph_division.specs.Initialize.{restored_table, noted_at, note
 ghost use Rattle.lent.specs.Lent.{state_of, Parts, begun_of, begun_over, initialized_over};
 ghost use Rattle.plan.specs.Words.{words_of};
 
-use crate::Done;
 use crate::fetch::copy;
 use crate::table::{restore, save};
+use crate::{Done, refused};
 use edge_table::Edges;
 use graph_division::Answer;
 use judge::Judgement;
@@ -31,8 +31,7 @@ fn note_at(
     ensures { noting noted.new log.new result ≡ noted_at (words_of plan.now) entry.now p (noting noted.old log.old cursor) }
 {
     if sweep::table::is_true(entry, plan::unique_lit(plan, p)) {
-        let told = noting::note::note(plan, noted, log, cursor, lit_at(plan, p));
-        return told.cursor;
+        return noting::note::note(plan, noted, log, cursor, lit_at(plan, p)).cursor;
     }
     cursor
 }
@@ -49,18 +48,10 @@ fn note_up_to(
     ensures { noting noted.new log.new result ≡ noted_up_to (words_of plan.now) entry.now past (noting noted.old log.old cursor) }
 {
     let mut c = cursor;
-    let mut p = 0;
-    while p < past {
+    for p in 0..past {
         c = note_at(plan, entry, noted, log, c, p);
-        p += 1;
     }
     c
-}
-
-fn no_handed() -> [u32; 8704]
-    ensures { result ≡ replicate 8704 0 }
-{
-    [0u32; 8704]
 }
 
 // What was tried out is taken over into the noted words and the log, or taken back.
@@ -79,21 +70,19 @@ fn finish(
         begun_of (state_of (words_of plan.now) ends noted.old rs last len b) noted.new words left result table.new list.new log.new
         ≡ ended_by (state_of (words_of plan.now) ends noted.old rs last len b) cursor entry.now log.old words left x x.judgement (restored_table entry.now table.old) table.old handed.now list.old }
 {
-    let found = x.judgement;
-    let n = x.handed;
-    match found {
+    match x.judgement {
         Judgement::Fine => {
-            copy(handed, n, list);
+            copy(handed, x.handed, list);
             let c = note_up_to(plan, entry, noted, log, cursor, x.past);
             Done {
                 cursor: c,
-                answer: Answer::Consistent { handed: n },
+                answer: Answer::Consistent { handed: x.handed },
                 judged: true,
                 len: x.len,
             }
         }
         Judgement::Clash { len: _ } => {
-            copy(handed, n, list);
+            copy(handed, x.handed, list);
             let c = note_up_to(plan, entry, noted, log, cursor, x.past);
             Done {
                 cursor: c,
@@ -105,7 +94,7 @@ fn finish(
         Judgement::Stopped { refusal } => {
             restore(entry, table);
             Done {
-                cursor: cursor,
+                cursor,
                 answer: Answer::Refused { number: refusal },
                 judged: false,
                 len: 0,
@@ -134,7 +123,7 @@ fn begin(
 {
     let entry = save(table);
     let mut trial = *noted;
-    let mut handed = no_handed();
+    let mut handed = [0u32; 8704];
     let mut proposals = no_words();
     let x = go_through(
         plan,
@@ -173,16 +162,19 @@ pub fn initialize(
         begun_of s noted.new words.new left.new result table.new list.new log.new
         ≡ initialized_over s cursor words.old table.old log.old list.old }
 {
-    let n = refusals::initialize_refusal(plan, &edges, noted, table, list.len(), log, cursor, done);
-    if n == 0 {
-        return begin(
-            plan, edges, noted, words, left, table, list, log, cursor, last_len,
-        );
+    if let Some(refusal) = refusals::initialize_refusal(
+        plan,
+        &edges,
+        noted,
+        table,
+        list.len(),
+        log,
+        cursor,
+        done,
+    ) {
+        return refused(refusal, cursor);
     }
-    Done {
-        cursor: cursor,
-        answer: Answer::Refused { number: n },
-        judged: false,
-        len: 0,
-    }
+    begin(
+        plan, edges, noted, words, left, table, list, log, cursor, last_len,
+    )
 }

@@ -8,17 +8,18 @@ ghost use Rattle.plan.specs.Words.{words_of};
 use edge_table::Edges;
 use graph_division::Answer;
 use noting::Noted;
-use pages::Printed;
+use pages::PageError;
 use undo_log::Cursor;
+use views::compute::Regions;
 
 // The page that was written, or 19.
-fn answer_of(printed: Printed) -> Answer
+fn answer_of(printed: Result<usize, PageError>) -> Answer
     ensures { result ≡ page_answer printed }
 {
     match printed {
-        Printed::Bytes(n) => Answer::Page { len: n },
-        Printed::TooSmall => Answer::Refused { number: 19 },
-        Printed::Unknown => Answer::Refused { number: 7 },
+        Ok(n) => Answer::Page { len: n },
+        Err(PageError::TooSmall) => Answer::Refused { number: 19 },
+        Err(PageError::Unknown) => Answer::Refused { number: 7 },
     }
 }
 
@@ -34,14 +35,15 @@ pub fn page<'a>(
     ensures { (s : GraphDivision) → Parts s (words_of plan.now) edges noted.now →
         fetched result buffer.new ≡ page_fetched s cursor log.now buffer.old }
 {
-    let ends = edges;
-    if refusals::state_bad(plan, &ends, noted, log, cursor) {
+    if refusals::state_bad(plan, &edges, noted, log, cursor) {
         return Answer::Refused { number: 7 };
     }
     let n = plan::num_vertices(plan) as usize;
-    let regions = views::compute::compute(plan, edges, noted, false);
-    let labels = regions.labels;
-    let weights = regions.weights;
+    let Regions {
+        labels,
+        weights,
+        ..
+    } = views::compute::compute(plan, edges, noted, false);
     let lowers = views::compute::lower_bounds(&labels, noted, n).bounds;
     let uppers = views::compute::upper_bounds(&labels, noted, n).bounds;
     let printed = pages::print_page(&labels, &weights, &lowers, &uppers, n, buffer);

@@ -6,7 +6,7 @@ ghost use Rattle.graph_division.specs.Calls.{adding};
 ghost use Rattle.lent.specs.Lent.{state_of, Parts, called_of, settled_over, propagated_over};
 ghost use Rattle.plan.specs.Words.{words_of};
 
-use crate::Done;
+use crate::{Done, refused};
 use edge_table::Edges;
 use graph_division::Answer;
 use judge::Judgement;
@@ -22,9 +22,8 @@ fn add(plan: &[u8], noted: &mut Noted, log: &mut [u64], cursor: Cursor, lit: u16
         ≡ adding (state_of (words_of plan.now) ends noted.old rs last len b) cursor lit t list log.old }
 {
     let added = note(plan, noted, log, cursor, lit);
-    let moved = added.cursor;
     Done {
-        cursor: moved,
+        cursor: added.cursor,
         answer: Answer::Noted,
         judged: false,
         len: 0,
@@ -55,26 +54,24 @@ fn settle(
         Judgement::Fine => {
             let handed = sweep::hand_on(plan, proposals, table, list, 0);
             let told = note(plan, noted, log, cursor, lit);
-            let c = told.cursor;
             Done {
-                cursor: c,
-                answer: Answer::Consistent { handed: handed },
+                cursor: told.cursor,
+                answer: Answer::Consistent { handed },
                 judged: true,
                 len: 0,
             }
         }
         Judgement::Clash { len } => {
             let told = note(plan, noted, log, cursor, lit);
-            let c = told.cursor;
             Done {
-                cursor: c,
+                cursor: told.cursor,
                 answer: Answer::Conflict,
                 judged: true,
-                len: len,
+                len,
             }
         }
         Judgement::Stopped { refusal } => Done {
-            cursor: cursor,
+            cursor,
             answer: Answer::Refused { number: refusal },
             judged: false,
             len: 0,
@@ -101,20 +98,23 @@ pub fn propagate(
         called_of s noted.new proposals.new left.new result table.new list.new log.new
         ≡ propagated_over s cursor proposals.old left.old lit num_pending_propagations table.old list.old log.old }
 {
-    let n = refusals::propagate_refusal(plan, &edges, noted, table, list.len(), log, cursor, lit);
-    if n == 0 {
-        let l = refusals::lit_number(lit);
-        if base::in_range(num_pending_propagations, 0) {
-            return settle(
-                plan, edges, noted, proposals, left, table, list, log, cursor, l,
-            );
-        }
-        return add(plan, noted, log, cursor, l);
+    if let Some(refusal) = refusals::propagate_refusal(
+        plan,
+        &edges,
+        noted,
+        table,
+        list.len(),
+        log,
+        cursor,
+        lit,
+    ) {
+        return refused(refusal, cursor);
     }
-    Done {
-        cursor: cursor,
-        answer: Answer::Refused { number: n },
-        judged: false,
-        len: 0,
+    let l = refusals::lit_number(lit);
+    if base::in_range(num_pending_propagations, 0) {
+        return settle(
+            plan, edges, noted, proposals, left, table, list, log, cursor, l,
+        );
     }
+    add(plan, noted, log, cursor, l)
 }

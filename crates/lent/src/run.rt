@@ -10,15 +10,14 @@ use edge_table::Edges;
 use graph_division::Answer;
 use noting::Noted;
 use undo_log::Cursor;
-use walks::Listed;
 
 // The run that was written, or 18.
-fn answer_of(listed: Listed) -> Answer
+fn answer_of(listed: Option<usize>) -> Answer
     ensures { result ≡ run_answer listed }
 {
     match listed {
-        Listed::Past(n) => Answer::Run { len: n },
-        Listed::Missing => Answer::Refused { number: 18 },
+        Some(n) => Answer::Run { len: n },
+        None => Answer::Refused { number: 18 },
     }
 }
 
@@ -37,15 +36,15 @@ pub fn run<'a>(
     ensures { (s : GraphDivision) → Parts s (words_of plan.now) edges noted.now →
         fetched result buffer.new ≡ run_fetched s cursor log.now from to buffer.old }
 {
-    let ends = edges;
-    let n = refusals::fetch_refusal(plan, &ends, noted, buffer.len(), log, cursor);
-    if n == 0 {
-        let num_edges = plan::num_edges(plan) as usize;
-        let num_vertices = plan::num_vertices(plan) as usize;
-        let p = runs::vertex_given(from);
-        let q = runs::vertex_given(to);
-        let listed = runs::best_run(edges, noted, num_edges, num_vertices, p, q, buffer);
-        return answer_of(listed);
+    if let Some(refusal) = refusals::fetch_refusal(plan, &edges, noted, buffer.len(), log, cursor) {
+        return Answer::Refused {
+            number: refusal.number(),
+        };
     }
-    Answer::Refused { number: n }
+    let num_edges = plan::num_edges(plan) as usize;
+    let num_vertices = plan::num_vertices(plan) as usize;
+    let p = runs::vertex_given(from);
+    let q = runs::vertex_given(to);
+    let listed = runs::best_run(edges, noted, num_edges, num_vertices, p, q, buffer);
+    answer_of(listed)
 }

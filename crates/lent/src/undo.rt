@@ -5,7 +5,7 @@ ghost use Rattle.graph_division.specs.Calls.{outcome, with_noted, undone};
 ghost use Rattle.lent.specs.Lent.{Parts};
 ghost use Rattle.plan.specs.Words.{words_of};
 
-use crate::Done;
+use crate::{Done, refused};
 use edge_table::Edges;
 use graph_division::Answer;
 use noting::Noted;
@@ -24,19 +24,12 @@ pub fn undo<'a>(
         outcome (with_noted noted.new s) result.cursor result.answer ≡ undone s cursor lit log.now }
     ensures judged_value { (result.judged ≡ false) × (result.len ≡ 0) }
 {
-    let n = refusals::undo_refusal(plan, &edges, noted, log, cursor, lit);
-    if n == 0 {
-        let c = noting::undo::undo(noted, log, cursor);
-        return Done {
-            cursor: c,
-            answer: Answer::Undone,
-            judged: false,
-            len: 0,
-        };
+    if let Some(refusal) = refusals::undo_refusal(plan, &edges, noted, log, cursor, lit) {
+        return refused(refusal, cursor);
     }
     Done {
-        cursor: cursor,
-        answer: Answer::Refused { number: n },
+        cursor: noting::undo::undo(noted, log, cursor),
+        answer: Answer::Undone,
         judged: false,
         len: 0,
     }

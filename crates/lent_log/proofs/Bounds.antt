@@ -1,5 +1,5 @@
--- The least of three numbers is no more than each of them.
-use Prim.Native.Nat.{ℕ, ◌≤◌}
+-- The least of three numbers, and when there is a newest record.
+use Prim.Native.Nat.{ℕ, ◌≤◌, min}
 use native.Mathlib.Omega.{arith}
 use mathlib.Core.Path.{◌≡◌}
 use mathlib.Core.Bool.{true}
@@ -9,15 +9,16 @@ use Rattle.base.proofs.Loop.{pick_ind}
 use Rattle.base.proofs.Tests.{and_left, and_right}
 use Rattle.lent_log.specs.Records.{has_newest, least}
 
-pub least_of : (a b c : ℕ) → (least a b c ≤ a) × (least a b c ≤ b) × (least a b c ≤ c)
+-- as the library takes it
+pub least_min : (a b c : ℕ) → least a b c ≡ min (min a b) c
 unfolding least
-least_of a b c = pick_ind (λ m. (m ≤ a) × (m ≤ b) × (m ≤ c)) (ltb b a) _ _
-    (λ e. pick_ind (λ m. (m ≤ a) × (m ≤ b) × (m ≤ c)) (ltb c b) c b
-    (λ f. (omega (arith, ltb-true b a e, ltb-true c b f), omega (arith, ltb-true c b f), omega arith))
-    (λ f. (omega (arith, ltb-true b a e), omega arith, omega (arith, ltb-false c b f))))
-    (λ e. pick_ind (λ m. (m ≤ a) × (m ≤ b) × (m ≤ c)) (ltb c a) c a
-    (λ f. (omega (arith, ltb-true c a f), omega (arith, ltb-true c a f, ltb-false b a e), omega arith))
-    (λ f. (omega arith, omega (arith, ltb-false b a e), omega (arith, ltb-false c a f))))
+least_min a b c = pick_ind (λ m. m ≡ min (min a b) c) (ltb b a) _ _
+    (λ e. pick_ind (λ m. m ≡ min (min a b) c) (ltb c b) c b
+    (λ f. omega (arith, ltb-true b a e, ltb-true c b f))
+    (λ f. omega (arith, ltb-true b a e, ltb-false c b f)))
+    (λ e. pick_ind (λ m. m ≡ min (min a b) c) (ltb c a) c a
+    (λ f. omega (arith, ltb-true c a f, ltb-false b a e))
+    (λ f. omega (arith, ltb-false b a e, ltb-false c a f)))
 
 -- the first, where it is no more than the others
 pub least_first : (a b c : ℕ) → a ≤ b → a ≤ c → least a b c ≡ a

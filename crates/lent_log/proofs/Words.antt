@@ -9,10 +9,7 @@ use Rattle.base.specs.Iter.{pick}
 use Rattle.base.proofs.Loop.{pick_yes, pick_no, tested}
 use Rattle.undo_log.specs.declared.Record.{Record}
 use Rattle.undo_log.specs.declared.Cursor.{Cursor}
-use Rattle.undo_log.specs.declared.Pushed.{Pushed}
-use Rattle.undo_log.specs.declared.Pushed.TheVariants.{Moved, Full}
-use Rattle.undo_log.specs.declared.Popped.{Popped}
-use Rattle.undo_log.specs.declared.Popped.TheVariants.{Taken, Nothing}
+use Rattle.std.specs.Prelude.{Option, None, Some}
 use Rattle.undo_log.specs.Log.{word_of, record_of, push_words, push_answer, pop_answer, moved_to}
 use Rattle.undo_log.proofs.Words.{InRange, word_back}
 use Rattle.lent_log.specs.Records.{no_record, Pushing, push_record, has_newest, Popping, pop_record}
@@ -29,11 +26,15 @@ map_set (s ∷ log) zero r = refl
 map_set (s ∷ log) (suc i) r = ap (λ (l : List ℕ). word_of s ∷ l) (map_set log i r)
 
 -- the flat answers, told from what a push and a pop on records leave
-unfoldable pub pushed_as : Pushing → Pushed
-pushed_as x = pick x.room (Moved x.cursor) Full
+unfoldable pub pushed_as : Pushing → Option Cursor
+pushed_as x = pick x.room (Some x.cursor) None
 
-unfoldable pub popped_as : Popping → Popped
-popped_as x = pick x.newest.taken (Taken x.newest.«record» x.cursor) Nothing
+abbrev with_cursor : Cursor → Option Record → Option (Record × Cursor)
+with_cursor c (Some r) = Some (r, c)
+with_cursor c None = None
+
+unfoldable pub popped_as : Popping → Option (Record × Cursor)
+popped_as x = with_cursor x.cursor x.newest
 
 module _ (log : List Record) (c : Cursor) where
   pub push_words_lem : (r : Record) → map word_of (push_record log c r).log ≡ push_words (map word_of log) c r
@@ -58,8 +59,8 @@ module _ (log : List Record) (c : Cursor) where
   pub pop_answer_lem : InRange (get_or log (c.used - 1) no_record) → popped_as (pop_record log c) ≡ pop_answer (map word_of log) c
   unfolding pop_record pop_answer popped_as has_newest
   pop_answer_lem ok = tested (ltb 0 c.used && leb c.used (length log))
-      (λ e. ap popped_as (pick_yes _ _ e) ∙ pick_yes _ _ refl ∙ ap (λ (r : Record). Taken r (moved_to c (c.used - 1))) (sym (ap record_of (word_at log (c.used - 1)) ∙ word_back _ ok)) ∙ sym (pick_yes _ _ (long ∙ e)))
-      (λ e. ap popped_as (pick_no _ _ e) ∙ pick_no _ _ refl ∙ sym (pick_no _ _ (long ∙ e)))
+      (λ e. ap popped_as (pick_yes _ _ e) ∙ ap (λ (r : Record). Some (r, moved_to c (c.used - 1))) (sym (ap record_of (word_at log (c.used - 1)) ∙ word_back _ ok)) ∙ sym (pick_yes _ _ (long ∙ e)))
+      (λ e. ap popped_as (pick_no _ _ e) ∙ sym (pick_no _ _ (long ∙ e)))
     where
       long : (ltb 0 c.used && leb c.used (length (map word_of log))) ≡ (ltb 0 c.used && leb c.used (length log))
       long = ap (λ (n : ℕ). ltb 0 c.used && leb c.used n) (length-map log word_of)

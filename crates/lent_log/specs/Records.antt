@@ -1,10 +1,9 @@
 -- The undo log as a list of records, oldest first. Each definition is joined to the flat one in proofs/Words.antt.
-use Rattle.std.specs.Prelude.{Bool, true, false, ◌&&◌, List, ℕ, ◌+◌, ◌-◌, ltb, leb, length, get_or, set}
+use Rattle.std.specs.Prelude.{Bool, true, false, ◌&&◌, List, ℕ, ◌+◌, ◌-◌, ltb, leb, length, get_or, set, Option, None, Some}
 use Rattle.base.specs.Iter.{iter, pick}
 use Rattle.undo_log.specs.declared.Record.{Record}
 use Rattle.undo_log.specs.declared.Cursor.{Cursor}
 use Rattle.undo_log.specs.Log.{word_of, record_of, moved_to}
-use Rattle.lent_log.specs.declared.Newest.{Newest}
 
 -- what stands past the end of a log; its word is 0
 abbrev pub no_record : Record
@@ -31,20 +30,17 @@ has_newest used len = ltb 0 used && leb used len
 
 -- a pop: the newest record, if there is one, and the cursor after it
 pub record Popping : Type 0 where
-  pub newest : Newest
+  pub newest : Option Record
   pub cursor : Cursor
 
-abbrev pub popping : Newest → Cursor → Popping
+abbrev pub popping : Option Record → Cursor → Popping
 popping x c = record { newest = x; cursor = c }
-
-abbrev pub newest : Bool → Record → Newest
-newest b r = record { taken = b; «record» = r }
 
 unfoldable pub pop_record : List Record → Cursor → Popping
 pop_record log c =
     pick (has_newest c.used (length log))
-    (popping (newest true (get_or log (c.used - 1) no_record)) (moved_to c (c.used - 1)))
-    (popping (newest false no_record) c)
+    (popping (Some (get_or log (c.used - 1) no_record)) (moved_to c (c.used - 1)))
+    (popping None c)
 
 unfoldable pub least : ℕ → ℕ → ℕ → ℕ
 least a b c = pick (ltb b a) (pick (ltb c b) c b) (pick (ltb c a) c a)

@@ -2,21 +2,15 @@
 // functions that are lent records are thin: the flat form, crate undo_log, does the work on words.
 #![tactic(auto)]
 
-ghost use Rattle.std.specs.Prelude.{◌≡◌, get_or, set};
-ghost use Rattle.undo_log.specs.Log.{word_of, record_of};
-ghost use Rattle.lent_log.specs.Records.{pushing, push_record, has_newest, popping, pop_record, least, loaded};
+ghost use Rattle.std.specs.Prelude.{◌≡◌, get_or};
+ghost use Rattle.undo_log.specs.Log.{record_of};
+ghost use Rattle.lent_log.specs.Records.{pushing, push_record, has_newest, popping, pop_record, loaded};
 ghost use Rattle.lent_log.specs.Records.{lent, pushed_run, popped_to};
 
 use undo_log::{Cursor, Record};
 
-// What a pop found: the newest record, or, where `taken` is false, none.
-#[derive(Clone, Copy)]
-pub struct Newest {
-    pub taken: bool,
-    pub record: Record,
-}
-
 // Stores the record at the cursor, which moves on, and says whether there was room. A full log stays as it is.
+#[tactic(auto, unfolding(crate::specs::Records::push_record, base::specs::Iter::pick))]
 pub fn push(log: &mut [Record], cursor: &mut Cursor, r: Record) -> bool
     ensures { pushing result log.new cursor.new ≡ push_record log.old cursor.old r }
 {
@@ -29,17 +23,15 @@ pub fn push(log: &mut [Record], cursor: &mut Cursor, r: Record) -> bool
     false
 }
 
+#[tactic(auto, unfolding(crate::specs::Records::has_newest))]
 pub(crate) fn has_newest(used: usize, len: usize) -> bool
     ensures { result ≡ has_newest used len }
 {
-    if 0 < used {
-        return used <= len;
-    }
-    false
+    0 < used && used <= len
 }
 
-// Reads the newest record and moves the cursor back over it. The record stays where it is.
-pub fn pop(log: &[Record], cursor: &mut Cursor) -> Newest
+// The newest record, if there is one, and moves the cursor back over it. The record stays where it is.
+pub fn pop(log: &[Record], cursor: &mut Cursor) -> Option<Record>
     ensures { popping result cursor.new ≡ pop_record log.now cursor.old }
 {
     let used = cursor.used;
@@ -47,67 +39,24 @@ pub fn pop(log: &[Record], cursor: &mut Cursor) -> Newest
         let at = used - 1;
         cursor.used = at;
         let r = log[at];
-        return Newest {
-            taken: true,
-            record: r,
-        };
+        return Some(r);
     }
-    Newest {
-        taken: false,
-        record: Record {
-            kind: 0,
-            index: 0,
-            bound: 0,
-            lit: 0,
-        },
-    }
-}
-
-pub(crate) fn least(a: usize, b: usize, c: usize) -> usize
-    ensures { result ≡ least a b c }
-{
-    if b < a {
-        if c < b {
-            return c;
-        }
-        return b;
-    }
-    if c < a {
-        return c;
-    }
-    a
-}
-
-// A record's word is stored at a place; past the end nothing is.
-pub(crate) fn put(words: &mut [u64], at: usize, r: Record)
-    ensures { words.new ≡ set words.old at (word_of r) }
-{
-    if at < words.len() {
-        let w = undo_log::word_of(r);
-        words[at] = w;
-    }
+    None
 }
 
 // The record of the word at a place; past the end the record of 0.
 pub(crate) fn get(words: &[u64], at: usize) -> Record
     ensures { result ≡ record_of (get_or words.now at 0) }
 {
-    if at < words.len() {
-        return undo_log::record_of(words[at]);
-    }
-    undo_log::record_of(0)
+    undo_log::record_of(words.get(at).copied().unwrap_or(0))
 }
 
 // The first n records as words, as many as there are and as there is room for.
 pub fn load(log: &[Record], n: usize, words: &mut [u64])
     ensures { words.new ≡ loaded log.now n words.old }
 {
-    let m = least(n, log.len(), words.len());
-    let mut i = 0;
-    while i < m {
-        let r = log[i];
-        put(words, i, r);
-        i += 1;
+    for i in 0..n.min(log.len()).min(words.len()) {
+        words[i] = undo_log::word_of(log[i]);
     }
 }
 
@@ -115,11 +64,8 @@ pub fn load(log: &[Record], n: usize, words: &mut [u64])
 pub fn push_run(words: &[u64], to: usize, log: &mut [Record], cursor: &mut Cursor)
     ensures { lent log.new cursor.new ≡ pushed_run words.now to (lent log.old cursor.old) }
 {
-    let mut i = cursor.used;
-    while i < to {
-        let r = get(words, i);
-        push(log, cursor, r);
-        i += 1;
+    for i in cursor.used..to {
+        push(log, cursor, get(words, i));
     }
 }
 
@@ -127,9 +73,7 @@ pub fn push_run(words: &[u64], to: usize, log: &mut [Record], cursor: &mut Curso
 pub fn pop_to(log: &[Record], to: usize, cursor: &mut Cursor)
     ensures { cursor.new ≡ popped_to log.now to cursor.old }
 {
-    let mut i = cursor.used;
-    while to < i {
+    for _ in to..cursor.used {
         pop(log, cursor);
-        i -= 1;
     }
 }

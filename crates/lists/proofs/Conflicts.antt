@@ -3,9 +3,9 @@ use Prim.Native.Nat.{ℕ}
 use mathlib.Core.Path.{◌≡◌, refl, sym, ◌∙◌, ap, subst}
 use mathlib.Core.Bool.{true, false, not, false≢true}
 use mathlib.Core.List.{List, [], ◌∷◌, ◌++◌, append-nil, append_assoc}
+use Rattle.std.specs.Prelude.{Ok, Err}
 use Rattle.division.specs.Plan.{Plan, Proper}
 use Rattle.division.specs.State.{State}
-use Rattle.division.specs.Reasons as abstract
 use Rattle.division.specs.Conflicts.{spans, Conflict, disconnected_inside, crossing, over, under, crowded, apart, conflict_list}
 use Rattle.division.specs.Analysis as analysis
 use Rattle.division.proofs.Walk.{joined_within}
@@ -13,10 +13,9 @@ use Rattle.division.specs.Proposed.{IsConflict, is_disconnected, is_crossing, is
 use Rattle.calls.specs.Look.{unjoined}
 use Rattle.plan.specs.Plan.{plan_of}
 use Rattle.noting.specs.Words.{state_of, lits_of, lower_lit_of, upper_lit_of}
-use Rattle.reasons.specs.Verdicts.{verdict_of}
-use Rattle.reasons.specs.declared.Verdict.{Verdict}
-use Rattle.reasons.specs.declared.Verdict.TheVariants.{Going, DisconnectedInside, Over, Under, Crowded, Apart, Crossing, ZeroSize, Unfit}
-use Rattle.walks.specs.declared.Listed.TheVariants.{Missing}
+use Rattle.reasons.specs.Verdicts.{Verdict, verdict_of}
+use Rattle.reasons.specs.declared.Stop.TheVariants.{DisconnectedInside, Over, Under, Crowded, Apart, Crossing, ZeroSize, Unfit}
+use Rattle.std.specs.Prelude.{None}
 use Rattle.walks.specs.Written.{Out}
 use Rattle.walks.specs.Answers.{given, missing}
 use Rattle.lists.specs.Conflicts.{span_after, spans_after, crossing_lits, apart_lits, conflict_lits, conflicts_of, Chosen, ConflictWithin, path_gone}
@@ -52,15 +51,15 @@ module _ (ws : List ℕ) (es : List (List ℕ)) (noted : List ℕ) (k : Held ws 
 
   writes : (v : Verdict) (ps : List ℕ) (o : Out) → Writes v ps o (conflicts_of v ps)
   unfolding conflicts_of conflict_lits apart_lits conflict_list path_gone
-  writes Going ps o = tt
-  writes (DisconnectedInside g) ps o = λ h e. word_after _ _ _ _ o (inside_there ws es noted k g o h e) refl
-  writes (Over v) ps o = λ h e. lit_after _ _ _ _ o (decided_there ws es noted k v o h) refl
-  writes (Under v) ps o = λ h e. lit_after _ _ _ _ o (potential_there ws es noted k v o h) refl
-  writes (Crowded r) ps o = λ h e. ap (spans_after noted ps) (potential_there ws es noted k r o h) ∙ spans_given noted ps _ o
-  writes (Apart a b) ps o = λ (h, i) e. lit_after _ _ _ _ o (lit_after _ _ _ _ o (path_there ws es noted k a b o h i e) refl) (simp append_assoc)
-  writes (Crossing v) ps o = λ h e. crossing_given noted v o
-  writes ZeroSize ps o = tt
-  writes Unfit ps o = tt
+  writes (Ok u) ps o = tt
+  writes (Err (DisconnectedInside g)) ps o = λ h e. word_after _ _ _ _ o (inside_there ws es noted k g o h e) refl
+  writes (Err (Over v)) ps o = λ h e. lit_after _ _ _ _ o (decided_there ws es noted k v o h) refl
+  writes (Err (Under v)) ps o = λ h e. lit_after _ _ _ _ o (potential_there ws es noted k v o h) refl
+  writes (Err (Crowded r)) ps o = λ h e. ap (spans_after noted ps) (potential_there ws es noted k r o h) ∙ spans_given noted ps _ o
+  writes (Err (Apart a b)) ps o = λ (h, i) e. lit_after _ _ _ _ o (lit_after _ _ _ _ o (path_there ws es noted k a b o h i e) refl) (simp append_assoc)
+  writes (Err (Crossing v)) ps o = λ h e. crossing_given noted v o
+  writes (Err ZeroSize) ps o = tt
+  writes (Err Unfit) ps o = tt
 
   -- the list of a conflict is written where its path is there; ps are the vertices of separate ranges
   pub conflict_listed : (v : Verdict) (ps : List ℕ) (c : Conflict) (o : Out) → conflicts_of v ps ≡ c ∷ [] → ConflictWithin d c → path_gone d s c ≡ false →
@@ -69,22 +68,22 @@ module _ (ws : List ℕ) (es : List (List ℕ)) (noted : List ℕ) (k : Held ws 
 
   abbrev Misses : Verdict → List ℕ → Out → List Conflict → Type 0
   Misses v ps o [] = conflict_lits ws es noted v ps o ≡ missing o
-  Misses v ps o (c ∷ cs) = ConflictWithin d c → path_gone d s c ≡ true → (conflict_lits ws es noted v ps o).listed ≡ Missing
+  Misses v ps o (c ∷ cs) = ConflictWithin d c → path_gone d s c ≡ true → (conflict_lits ws es noted v ps o).listed ≡ None
 
   misses : (v : Verdict) (ps : List ℕ) (o : Out) → Misses v ps o (conflicts_of v ps)
   unfolding conflicts_of conflict_lits apart_lits path_gone
-  misses Going ps o = refl
-  misses (DisconnectedInside g) ps o = λ h e. word_lost _ _ (inside_gone ws es noted k g o h e)
-  misses (Over v) ps o = λ h e. absurd (false≢true e)
-  misses (Under v) ps o = λ h e. absurd (false≢true e)
-  misses (Crowded r) ps o = λ h e. absurd (false≢true e)
-  misses (Apart a b) ps o = λ (h, i) e. lit_lost _ _ (lit_lost _ _ (path_gone_lem ws es noted k a b o h i e))
-  misses (Crossing v) ps o = λ h e. absurd (false≢true e)
-  misses ZeroSize ps o = refl
-  misses Unfit ps o = refl
+  misses (Ok u) ps o = refl
+  misses (Err (DisconnectedInside g)) ps o = λ h e. word_lost _ _ (inside_gone ws es noted k g o h e)
+  misses (Err (Over v)) ps o = λ h e. absurd (false≢true e)
+  misses (Err (Under v)) ps o = λ h e. absurd (false≢true e)
+  misses (Err (Crowded r)) ps o = λ h e. absurd (false≢true e)
+  misses (Err (Apart a b)) ps o = λ (h, i) e. lit_lost _ _ (lit_lost _ _ (path_gone_lem ws es noted k a b o h i e))
+  misses (Err (Crossing v)) ps o = λ h e. absurd (false≢true e)
+  misses (Err ZeroSize) ps o = refl
+  misses (Err Unfit) ps o = refl
 
   -- and not where it is gone
-  pub conflict_missing : (v : Verdict) (ps : List ℕ) (c : Conflict) (o : Out) → conflicts_of v ps ≡ c ∷ [] → ConflictWithin d c → path_gone d s c ≡ true → (conflict_lits ws es noted v ps o).listed ≡ Missing
+  pub conflict_missing : (v : Verdict) (ps : List ℕ) (c : Conflict) (o : Out) → conflicts_of v ps ≡ c ∷ [] → ConflictWithin d c → path_gone d s c ≡ true → (conflict_lits ws es noted v ps o).listed ≡ None
   conflict_missing v ps c o e = subst (Misses v ps o) e (misses v ps o)
 
   -- nor where there is no conflict

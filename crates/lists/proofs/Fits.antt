@@ -9,6 +9,7 @@ use lib.Seq.{sets}
 use borrow.Author.Tests.{not-false}
 use Rattle.base.proofs.Loop.{pick_ind}
 use Rattle.base.proofs.Tests.{or_none}
+use Rattle.sat.specs.declared.Lit.{Lit}
 use Rattle.division.specs.Plan.{Plan}
 use Rattle.division.specs.State.{State}
 use Rattle.division.specs.Reasons as abstract
@@ -20,13 +21,11 @@ use Rattle.calls.specs.Look.{unjoined, gone}
 use Rattle.plan.specs.Words.{vertices_of, edges_of}
 use Rattle.plan.specs.Plan.{plan_of}
 use Rattle.plan.proofs.Abstract.{proper_plan}
-use Rattle.sat.specs.declared.OptLit.{OptLit}
-use Rattle.sat.specs.declared.OptLit.TheVariants.{Some, Nothing}
+use Rattle.std.specs.Prelude.{Option, None, Some}
 use Rattle.noting.specs.Words.{state_of, lits_of, lower_lit_of, upper_lit_of}
 use Rattle.reasons.specs.Reason.{lits_in, meaning}
 use Rattle.reasons.specs.declared.reason.Reason.{Reason}
 use Rattle.reasons.specs.declared.reason.Reason.TheVariants.{NotPropagated, EdgeInSameGroup, EdgeBetweenDifferentGroups, TooLargeIfRegionsAreMerged, RegionAlreadyLarge, RegionAlreadySmall, InconsistentBoundsIfRegionsAreMerged, BoundPropagationWithinRegion, AdjacentSameSizeRegions}
-use Rattle.walks.specs.declared.Listed.TheVariants.{Past}
 use Rattle.walks.specs.Written.{Out, out_of}
 use Rattle.walks.specs.Answers.{answer_of, given}
 use Rattle.walks.proofs.Written.{written_fits}
@@ -34,9 +33,9 @@ use Rattle.lists.specs.Within.{Held, Within}
 use Rattle.lists.proofs.Walks.{near_in, far_in}
 
 -- where there is room, the list stands whole from the place on, and the answer is the place past it
-pub given_fits : (l t : List ℕ) (n : ℕ) → n + length l ≤ length t → given l (out_of t n) ≡ answer_of (Past (n + length l)) (sets t n l)
+pub given_fits : (l t : List ℕ) (n : ℕ) → n + length l ≤ length t → given l (out_of t n) ≡ answer_of (Some (n + length l)) (sets t n l)
 unfolding given
-given_fits l t n h = ap (λ (x : Out). answer_of (Past x.place) x.text) (written_fits l t n h)
+given_fits l t n h = ap (λ (x : Out). answer_of (Some x.place) x.text) (written_fits l t n h)
 
 -- a reason that an analysis records names edges and vertices of the plan
 pub explained_within : (d : Plan) (s : State) (l : ℕ) (r : abstract.Reason) → Explains d s l r → Within d r
@@ -62,10 +61,10 @@ proposed_within d s l r (rule_spread_low p u j hp hu i a b c) = (hp, hu)
 proposed_within d s l r (rule_spread_high p u j hp hu i a b c) = (hp, hu)
 proposed_within d s l r (rule_same_size a la ua b lb ub u g x h z ha hla hua hb hlb hub hu) = (ha, hb, hu)
 
-pub one_opt : (x : OptLit) → length (lits_in x) ≤ 1
+pub one_opt : (x : Option Lit) → length (lits_in x) ≤ 1
 unfolding lits_in
 one_opt (Some l) = omega arith
-one_opt Nothing = omega arith
+one_opt None = omega arith
 
 pub one_lit : (x : ℕ) → length (lits_of x) ≤ 1
 unfolding lits_of

@@ -1,23 +1,22 @@
 -- What `reason_lits` writes: the list of the reason, where its paths are there, and none where one is gone.
-use Prim.Native.Nat.{ℕ, ◌+◌, ◌<◌}
+use Prim.Native.Nat.{ℕ, ◌<◌}
 use mathlib.Core.Path.{◌≡◌, refl, ◌∙◌, ap, ap₂, subst}
 use mathlib.Core.Bool.{Bool, true, false, ◌||◌, false≢true}
 use mathlib.Core.List.{List, [], ◌∷◌, ◌++◌, append_assoc}
 use Rattle.base.specs.Iter.{pick}
 use Rattle.base.proofs.Tests.{or_none}
+use Rattle.sat.specs.declared.Lit.{Lit}
 use Rattle.division.specs.Plan.{Plan, left, right}
-use Rattle.division.specs.Regions.{within}
 use Rattle.division.specs.State.{State}
 use Rattle.division.specs.Reasons as abstract
 use Rattle.calls.specs.Look.{unjoined, gone}
 use Rattle.plan.specs.Words.{vertices_of, edges_of, edge_lit_of}
 use Rattle.plan.specs.Plan.{plan_of}
-use Rattle.sat.specs.declared.OptLit.{OptLit}
+use Rattle.std.specs.Prelude.{Option, None}
 use Rattle.noting.specs.Words.{state_of, lits_of, lower_lit_of, upper_lit_of}
 use Rattle.reasons.specs.Reason.{lits_in, meaning}
 use Rattle.reasons.specs.declared.reason.Reason.{Reason}
 use Rattle.reasons.specs.declared.reason.Reason.TheVariants.{NotPropagated, EdgeInSameGroup, EdgeBetweenDifferentGroups, TooLargeIfRegionsAreMerged, RegionAlreadyLarge, RegionAlreadySmall, InconsistentBoundsIfRegionsAreMerged, BoundPropagationWithinRegion, AdjacentSameSizeRegions}
-use Rattle.walks.specs.declared.Listed.TheVariants.{Missing}
 use Rattle.walks.specs.Written.{Out, written}
 use Rattle.walks.specs.Answers.{Answer, given}
 use Rattle.lists.specs.declared.Ends.{Ends}
@@ -30,7 +29,7 @@ use Rattle.lists.proofs.Walks.{then_given, word_given, opt_given, lit_given, the
 pub word_after : (x : ℕ) (a : Answer) (l m : List ℕ) (o : Out) → a ≡ given l o → l ++ (x ∷ []) ≡ m → and_word x a ≡ given m o
 word_after x a l m o e q = ap (and_word x) e ∙ word_given x l o ∙ ap (λ (n : List ℕ). given n o) q
 
-opt_after : (x : OptLit) (a : Answer) (l m : List ℕ) (o : Out) → a ≡ given l o → l ++ lits_in x ≡ m → and_opt x a ≡ given m o
+opt_after : (x : Option Lit) (a : Answer) (l m : List ℕ) (o : Out) → a ≡ given l o → l ++ lits_in x ≡ m → and_opt x a ≡ given m o
 opt_after x a l m o e q = ap (and_opt x) e ∙ opt_given x l o ∙ ap (λ (n : List ℕ). given n o) q
 
 pub lit_after : (x : ℕ) (a : Answer) (l m : List ℕ) (o : Out) → a ≡ given l o → l ++ lits_of x ≡ m → and_lit x a ≡ given m o
@@ -56,7 +55,7 @@ module _ (ws : List ℕ) (es : List (List ℕ)) (noted : List ℕ) (k : Held ws 
   unfolding inside pick
   inside_there g o h e = ap (λ (p : Ends). path ws es noted p o) (ends_are ws es noted k g false h) ∙ path_there ws es noted k _ _ o (k.proper.fine.within g h).a (k.proper.fine.within g h).b e
 
-  pub inside_gone : (g : ℕ) (o : Out) → g < edges_of ws → unjoined d s (left d g) (right d g) ≡ true → (inside ws es noted g o).listed ≡ Missing
+  pub inside_gone : (g : ℕ) (o : Out) → g < edges_of ws → unjoined d s (left d g) (right d g) ≡ true → (inside ws es noted g o).listed ≡ None
   unfolding inside pick
   inside_gone g o h e =
       ap (λ (p : Ends). (path ws es noted p o).listed) (ends_are ws es noted k g false h) ∙ path_gone_lem ws es noted k _ _ o (k.proper.fine.within g h).a (k.proper.fine.within g h).b e
@@ -68,7 +67,7 @@ module _ (ws : List ℕ) (es : List (List ℕ)) (noted : List ℕ) (k : Held ws 
         let n = or_none (unjoined d s u v) _ e in
         then_after _ _ _ _ o (path_there ws es noted k u v o hu hv n.0) (path_there ws es noted k w x _ hw hx n.1)
 
-    paths_gone : (unjoined d s u v || unjoined d s w x) ≡ true → (two_paths ws es noted (ends_from u v) (ends_from w x) o).listed ≡ Missing
+    paths_gone : (unjoined d s u v || unjoined d s w x) ≡ true → (two_paths ws es noted (ends_from u v) (ends_from w x) o).listed ≡ None
     unfolding two_paths
     paths_gone e = or_next_cases (unjoined d s u v) _ e
         (λ a. then_lost _ _ (path_gone_lem ws es noted k u v o hu hv a))
@@ -90,7 +89,7 @@ module _ (ws : List ℕ) (es : List (List ℕ)) (noted : List ℕ) (k : Held ws 
   between_ends h g flip o hh hg =
       ap₂ (λ (p : Ends) (q : Ends). and_word (edge_lit_of ws h) (two_paths ws es noted (ends_from p.u q.u) (ends_from p.v q.v) o)) (ends_are ws es noted k h false hh) (ends_are ws es noted k g flip hg)
 
-  large_ends : (g : ℕ) (l : OptLit) (o : Out) → g < edges_of ws → too_large ws es noted g l o ≡ and_opt l (two_regions ws es noted (left d g) (right d g) o)
+  large_ends : (g : ℕ) (l : Option Lit) (o : Out) → g < edges_of ws → too_large ws es noted g l o ≡ and_opt l (two_regions ws es noted (left d g) (right d g) o)
   unfolding too_large pick
   large_ends g l o h = ap (λ (p : Ends). and_opt l (two_regions ws es noted p.u p.v o)) (ends_are ws es noted k g false h)
 
@@ -129,7 +128,7 @@ module _ (ws : List ℕ) (es : List (List ℕ)) (noted : List ℕ) (k : Held ws 
 
   abbrev Misses : Reason → Out → List abstract.Reason → Type 0
   Misses r o [] = Unit {0}
-  Misses r o (q ∷ qs) = Within d q → gone d s q ≡ true → (reason_lits ws es noted r o).listed ≡ Missing
+  Misses r o (q ∷ qs) = Within d q → gone d s q ≡ true → (reason_lits ws es noted r o).listed ≡ None
 
   misses : (r : Reason) (o : Out) → Misses r o (meaning r)
   unfolding meaning reason_lits gone spread
@@ -148,10 +147,10 @@ module _ (ws : List ℕ) (es : List (List ℕ)) (noted : List ℕ) (k : Held ws 
   misses (AdjacentSameSizeRegions a la ua b lb ub u) o = λ h e. absurd (false≢true e)
 
   -- Refusal 16, "recorded path gone": then there is none
-  pub reason_missing : (r : Reason) (q : abstract.Reason) (o : Out) → meaning r ≡ q ∷ [] → Within d q → gone d s q ≡ true → (reason_lits ws es noted r o).listed ≡ Missing
+  pub reason_missing : (r : Reason) (q : abstract.Reason) (o : Out) → meaning r ≡ q ∷ [] → Within d q → gone d s q ≡ true → (reason_lits ws es noted r o).listed ≡ None
   reason_missing r q o e = subst (Misses r o) e (misses r o)
 
 -- Refusal 15, "no reason recorded"
-pub reason_none : (ws : List ℕ) (es : List (List ℕ)) (noted : List ℕ) (o : Out) → (reason_lits ws es noted NotPropagated o).listed ≡ Missing
+pub reason_none : (ws : List ℕ) (es : List (List ℕ)) (noted : List ℕ) (o : Out) → (reason_lits ws es noted NotPropagated o).listed ≡ None
 unfolding reason_lits Rattle.walks.specs.Answers.missing
 reason_none ws es noted o = refl

@@ -1,37 +1,43 @@
 -- The bound literals of the vertices chosen, and the ways through the functions of a conflict's list.
-use Prim.Native.Nat.{ℕ, zero, suc, ◌≤◌}
+use Prim.Native.Nat.{ℕ, zero, suc, ◌≤◌, min}
 use native.Mathlib.Omega.{arith}
 use mathlib.Core.Path.{◌≡◌, refl, sym, ◌∙◌, ap, ap₂}
 use mathlib.Core.List.{List}
 use lib.Dec.{ltb}
 use lib.ListN.{length, get_or}
-use borrow.Author.Tests.{ltb-true}
+use borrow.Author.Tests.{ltb-true, ltb-false}
 use Rattle.base.specs.Iter.{iter, pick}
 use Rattle.base.specs.Lists.{tab}
-use Rattle.base.proofs.Loop.{iter_zero, iter_done, pick_ind}
-use Rattle.noting.specs.Words.{lits_of, lower_lit_of, upper_lit_of}
-use Rattle.reasons.specs.declared.Verdict.{Verdict}
-use Rattle.walks.specs.declared.Listed.{Listed}
-use Rattle.walks.specs.declared.Listed.TheVariants.{Past, Missing}
+use Rattle.base.proofs.Loop.{iter_zero, iter_done, pick_yes, pick_no, tested}
+use Rattle.noting.specs.Words.{capped, lits_of, lower_lit_of, upper_lit_of}
+use Rattle.reasons.specs.Verdicts.{Verdict}
+use Rattle.std.specs.Prelude.{Option, None, Some}
 use Rattle.walks.specs.Written.{Out, out_of}
 use Rattle.walks.specs.Answers.{Answer, answer_of, given}
 use Rattle.walks.proofs.Written.{written_length}
 use Rattle.lists.specs.Parts.{ends_from, after, then, path, and_lit}
 use Rattle.lists.specs.Conflicts.{num_chosen, chosen_of, span_after, spans_after, apart_lits, conflict_lits}
 
--- no more than there are
-pub chosen_few : (count n : ℕ) → n ≡ num_chosen count → n ≤ 64
+-- the lesser of two numbers
+pub min_pick : (a b : ℕ) → min a b ≡ pick (ltb a b) a b
+min_pick a b =
+    tested (ltb a b)
+    (λ t. let h : min a b ≡ a = omega (arith, ltb-true a b t) in h ∙ sym (pick_yes a b t))
+    (λ t. let h : min a b ≡ b = omega (arith, ltb-false a b t) in h ∙ sym (pick_no a b t))
+
+pub chosen_min : (count : ℕ) → min count 64 ≡ num_chosen count
 unfolding num_chosen
-chosen_few count n e = omega (arith, e, few)
-  where
-    few : pick (ltb count 64) count 64 ≤ 64
-    few = pick_ind (λ m. m ≤ 64) _ _ _ (λ t. omega (arith, ltb-true count 64 t)) (λ _. omega arith)
+chosen_min count = min_pick count 64
+
+pub capped_min : (n m : ℕ) → min n m ≡ capped n m
+unfolding capped
+capped_min n m = min_pick n m
 
 -- the buffer's length stays
-lit_keeps : (x : ℕ) (r : Listed) (t : List ℕ) → length (and_lit x (answer_of r t)).text ≡ length t
+lit_keeps : (x : ℕ) (r : Option ℕ) (t : List ℕ) → length (and_lit x (answer_of r t)).text ≡ length t
 unfolding and_lit then after given
-lit_keeps x (Past n) t = written_length (lits_of x) (out_of t n)
-lit_keeps x Missing t = refl
+lit_keeps x (Some n) t = written_length (lits_of x) (out_of t n)
+lit_keeps x None t = refl
 
 pub span_keeps : (noted : List ℕ) (v : ℕ) (a b : Answer) → b ≡ span_after noted v a → length b.text ≡ length a.text
 unfolding span_after

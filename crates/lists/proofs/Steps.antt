@@ -1,20 +1,17 @@
 -- What the code's calls, one after the other, leave: each lemma is one way through a function.
 use mathlib.Core.Path.{◌≡◌, refl, sym, ◌∙◌, ap, ap₂}
 use mathlib.Core.Bool.{Bool, false}
-use mathlib.Core.List.{List, [], ◌∷◌}
+use mathlib.Core.List.{List, []}
 use Prim.Native.Nat.{ℕ}
 use borrow.Author.Tests.{eq-eqb, ne_eqb}
 use Rattle.base.proofs.Loop.{pick_yes, pick_no}
 use Rattle.plan.specs.Words.{edge_lit_of}
 use Rattle.sat.specs.declared.Lit.{Lit}
-use Rattle.sat.specs.declared.OptLit.{OptLit}
-use Rattle.sat.specs.declared.OptLit.TheVariants.{Some, Nothing}
+use Rattle.std.specs.Prelude.{Option, None, Some}
 use Rattle.noting.specs.Words.{lits_of, lower_lit_of, upper_lit_of}
 use Rattle.reasons.specs.Reason.{lits_in}
 use Rattle.reasons.specs.declared.reason.Reason.{Reason}
 use Rattle.reasons.specs.declared.reason.Reason.TheVariants.{NotPropagated, EdgeInSameGroup, EdgeBetweenDifferentGroups, TooLargeIfRegionsAreMerged, RegionAlreadyLarge, RegionAlreadySmall, InconsistentBoundsIfRegionsAreMerged, BoundPropagationWithinRegion, AdjacentSameSizeRegions}
-use Rattle.walks.specs.declared.Listed.{Listed}
-use Rattle.walks.specs.declared.Listed.TheVariants.{Past, Missing}
 use Rattle.walks.specs.declared.Shape.{Shape}
 use Rattle.walks.specs.Written.{Out, out_of, pushed, written}
 use Rattle.walks.specs.Answers.{Answer, answer_of, given, missing, connected_path, decided_region, potential_region}
@@ -23,29 +20,29 @@ use Rattle.lists.specs.Parts.{edge_lits, shape_of, ends_from, ends_of, after, th
 use Rattle.lists.specs.Lists.{between, too_large, mismatched, spread, same_sized, reason_lits, mismatch, same_size}
 
 -- a part after a list, and after none
-pub then_past : (a : Answer) (f : Out → Answer) (r : Listed) (t : List ℕ) (n : ℕ) (b : Answer) → answer_of r t ≡ a → r ≡ Past n → b ≡ f (out_of t n) → b ≡ then a f
+pub then_past : (a : Answer) (f : Out → Answer) (r : Option ℕ) (t : List ℕ) (n : ℕ) (b : Answer) → answer_of r t ≡ a → r ≡ Some n → b ≡ f (out_of t n) → b ≡ then a f
 unfolding then after
-then_past a f r t n b e h k = k ∙ sym (ap (λ (q : Listed). after f q t) h) ∙ ap (λ (x : Answer). then x f) e
+then_past a f r t n b e h k = k ∙ sym (ap (λ (q : Option ℕ). after f q t) h) ∙ ap (λ (x : Answer). then x f) e
 
-pub then_stop : (a : Answer) (f : Out → Answer) (r : Listed) (t : List ℕ) → answer_of r t ≡ a → r ≡ Missing → answer_of Missing t ≡ then a f
+pub then_stop : (a : Answer) (f : Out → Answer) (r : Option ℕ) (t : List ℕ) → answer_of r t ≡ a → r ≡ None → answer_of None t ≡ then a f
 unfolding then after
-then_stop a f r t e h = sym (ap (λ (q : Listed). after f q t) h) ∙ ap (λ (x : Answer). then x f) e
+then_stop a f r t e h = sym (ap (λ (q : Option ℕ). after f q t) h) ∙ ap (λ (x : Answer). then x f) e
 
-pub word_past : (r : Listed) (x n : ℕ) (t : List ℕ) (o : Out) → r ≡ Past n → o ≡ pushed x (out_of t n) → answer_of (Past o.place) o.text ≡ and_word x (answer_of r t)
+pub word_past : (r : Option ℕ) (x n : ℕ) (t : List ℕ) (o : Out) → r ≡ Some n → o ≡ pushed x (out_of t n) → answer_of (Some o.place) o.text ≡ and_word x (answer_of r t)
 unfolding and_word given written
-word_past r x n t o h k = then_past _ _ r t n _ refl h (ap (λ (y : Out). answer_of (Past y.place) y.text) k)
+word_past r x n t o h k = then_past _ _ r t n _ refl h (ap (λ (y : Out). answer_of (Some y.place) y.text) k)
 
-pub word_stop : (r : Listed) (x : ℕ) (t : List ℕ) → r ≡ Missing → answer_of Missing t ≡ and_word x (answer_of r t)
+pub word_stop : (r : Option ℕ) (x : ℕ) (t : List ℕ) → r ≡ None → answer_of None t ≡ and_word x (answer_of r t)
 unfolding and_word
 word_stop r x t h = then_stop _ _ r t refl h
 
 -- nothing more after a list
-pub then_nothing : (r : Listed) (t : List ℕ) → answer_of r t ≡ then (answer_of r t) (given [])
+pub then_nothing : (r : Option ℕ) (t : List ℕ) → answer_of r t ≡ then (answer_of r t) (given [])
 unfolding then after given written
-then_nothing (Past n) t = refl
-then_nothing Missing t = refl
+then_nothing (Some n) t = refl
+then_nothing None t = refl
 
-pub lit_none : (r : Listed) (x : ℕ) (t : List ℕ) → x ≡ 65535 → answer_of r t ≡ and_lit x (answer_of r t)
+pub lit_none : (r : Option ℕ) (x : ℕ) (t : List ℕ) → x ≡ 65535 → answer_of r t ≡ and_lit x (answer_of r t)
 unfolding and_lit lits_of
 lit_none r x t h = then_nothing r t ∙ ap (λ (l : List ℕ). then (answer_of r t) (given l)) (sym (pick_yes _ _ (eq-eqb x 65535 h)))
 
@@ -53,13 +50,13 @@ pub lit_some : (x : ℕ) (a b : Answer) → (x ≡ 65535 → ⊥) → b ≡ and_
 unfolding and_word and_lit lits_of
 lit_some x a b h k = k ∙ ap (λ (l : List ℕ). then a (given l)) (sym (pick_no _ _ (ne_eqb x 65535 h)))
 
-pub opt_none : (r : Listed) (x : OptLit) (t : List ℕ) → x ≡ Nothing → answer_of r t ≡ and_opt x (answer_of r t)
+pub opt_none : (r : Option ℕ) (x : Option Lit) (t : List ℕ) → x ≡ None → answer_of r t ≡ and_opt x (answer_of r t)
 unfolding and_opt lits_in
-opt_none r x t h = then_nothing r t ∙ ap (λ (l : OptLit). then (answer_of r t) (given (lits_in l))) (sym h)
+opt_none r x t h = then_nothing r t ∙ ap (λ (l : Option Lit). then (answer_of r t) (given (lits_in l))) (sym h)
 
-pub opt_some : (x : OptLit) (l : Lit) (a b : Answer) → x ≡ Some l → b ≡ and_word l.0 a → b ≡ and_opt x a
+pub opt_some : (x : Option Lit) (l : Lit) (a b : Answer) → x ≡ Some l → b ≡ and_word l.0 a → b ≡ and_opt x a
 unfolding and_word and_opt lits_in
-opt_some x l a b h k = k ∙ ap (λ (m : OptLit). then a (given (lits_in m))) (sym h)
+opt_some x l a b h k = k ∙ ap (λ (m : Option Lit). then a (given (lits_in m))) (sym h)
 
 module _ (ws : List ℕ) (es : List (List ℕ)) (noted : List ℕ) where
   -- the walks, with the shape that was made
@@ -85,11 +82,11 @@ module _ (ws : List ℕ) (es : List (List ℕ)) (noted : List ℕ) where
   between_by h g flip o d e a b x p q k l m =
       m ∙ ap₂ and_word l (k ∙ ap₂ (λ (d : Ends) (e : Ends). two_paths ws es noted (ends_from d.u e.u) (ends_from d.v e.v) o) p q)
 
-  pub large_by : (g : ℕ) (l : OptLit) (o : Out) (e : Ends) (a b : Answer) → e ≡ ends_of es g false → a ≡ two_regions ws es noted e.u e.v o → b ≡ and_opt l a → b ≡ too_large ws es noted g l o
+  pub large_by : (g : ℕ) (l : Option Lit) (o : Out) (e : Ends) (a b : Answer) → e ≡ ends_of es g false → a ≡ two_regions ws es noted e.u e.v o → b ≡ and_opt l a → b ≡ too_large ws es noted g l o
   unfolding too_large
   large_by g l o e a b p k m = m ∙ ap (and_opt l) (k ∙ ap (λ (e : Ends). two_regions ws es noted e.u e.v o) p)
 
-  pub spread_by : (k u : ℕ) (l : OptLit) (o : Out) (a b : Answer) → a ≡ path ws es noted (ends_from k u) o → b ≡ and_opt l a → b ≡ spread ws es noted k u l o
+  pub spread_by : (k u : ℕ) (l : Option Lit) (o : Out) (a b : Answer) → a ≡ path ws es noted (ends_from k u) o → b ≡ and_opt l a → b ≡ spread ws es noted k u l o
   unfolding spread
   spread_by k u l o a b h m = m ∙ ap (and_opt l) h
 
@@ -99,7 +96,7 @@ module _ (ws : List ℕ) (es : List (List ℕ)) (noted : List ℕ) where
   mismatch_by r g a b flip o e l m x y z h p k hl i hm j =
       j ∙ ap₂ and_lit hm (i ∙ ap₂ and_lit hl (k ∙ ap (λ (e : Ends). two_paths ws es noted (ends_from e.u a) (ends_from e.v b) o) p)) ∙ sym (ap (λ (q : Reason). mismatch ws es noted q o) h)
 
-  pub same_by : (r : Reason) (a : ℕ) (la ua : OptLit) (b : ℕ) (lb ub : OptLit) (u : ℕ) (o : Out) (x y z v w : Answer) → r ≡ AdjacentSameSizeRegions a la ua b lb ub u → x ≡ three_regions ws es noted a b u o → y ≡ and_opt la x →
+  pub same_by : (r : Reason) (a : ℕ) (la ua : Option Lit) (b : ℕ) (lb ub : Option Lit) (u : ℕ) (o : Out) (x y z v w : Answer) → r ≡ AdjacentSameSizeRegions a la ua b lb ub u → x ≡ three_regions ws es noted a b u o → y ≡ and_opt la x →
       z ≡ and_opt ua y → v ≡ and_opt lb z → w ≡ and_opt ub v → w ≡ same_size ws es noted r o
   unfolding same_size same_sized
   same_by r a la ua b lb ub u o x y z v w h e₁ e₂ e₃ e₄ e₅ =
@@ -118,7 +115,7 @@ module _ (ws : List ℕ) (es : List (List ℕ)) (noted : List ℕ) where
   mismatch_other (BoundPropagationWithinRegion l k u) o z = refl
   mismatch_other (AdjacentSameSizeRegions a la ua b lb ub u) o k = refl
 
-  pub same_other : (r : Reason) (o : Out) → ((a : ℕ) (la ua : OptLit) (b : ℕ) (lb ub : OptLit) (u : ℕ) → r ≡ AdjacentSameSizeRegions a la ua b lb ub u → ⊥) → missing o ≡ same_size ws es noted r o
+  pub same_other : (r : Reason) (o : Out) → ((a : ℕ) (la ua : Option Lit) (b : ℕ) (lb ub : Option Lit) (u : ℕ) → r ≡ AdjacentSameSizeRegions a la ua b lb ub u → ⊥) → missing o ≡ same_size ws es noted r o
   unfolding same_size
   same_other NotPropagated o k = refl
   same_other (EdgeInSameGroup g) o k = refl
@@ -138,6 +135,6 @@ module _ (ws : List ℕ) (es : List (List ℕ)) (noted : List ℕ) where
   unfolding reason_lits mismatch
   mismatch_arm r g a b flip o x e k = arm r _ o x e (k ∙ ap (λ (q : Reason). mismatch ws es noted q o) e)
 
-  pub same_arm : (r : Reason) (a : ℕ) (la ua : OptLit) (b : ℕ) (lb ub : OptLit) (u : ℕ) (o : Out) (x : Answer) → r ≡ AdjacentSameSizeRegions a la ua b lb ub u → x ≡ same_size ws es noted r o → x ≡ reason_lits ws es noted r o
+  pub same_arm : (r : Reason) (a : ℕ) (la ua : Option Lit) (b : ℕ) (lb ub : Option Lit) (u : ℕ) (o : Out) (x : Answer) → r ≡ AdjacentSameSizeRegions a la ua b lb ub u → x ≡ same_size ws es noted r o → x ≡ reason_lits ws es noted r o
   unfolding reason_lits same_size
   same_arm r a la ua b lb ub u o x e k = arm r _ o x e (k ∙ ap (λ (q : Reason). same_size ws es noted q o) e)

@@ -10,6 +10,7 @@ use borrow.Author.Tests.{lt-ltb, ltb-false, not-true, not-false}
 use Rattle.base.specs.Iter.{pick}
 use Rattle.base.proofs.Loop.{pick_yes, pick_no, pick_ind}
 use Rattle.base.proofs.Filled.{filled_length, filled_in}
+use Rattle.sat.specs.declared.Lit.{Lit}
 use Rattle.graph.specs.Search.{graph}
 use Rattle.graph.specs.Lists.{number_of}
 use Rattle.graph.proofs.Walkable.{fine_walkable}
@@ -22,11 +23,9 @@ use Rattle.calls.specs.Look.{unjoined}
 use Rattle.plan.specs.Words.{vertices_of, edges_of, edge_lit_of}
 use Rattle.plan.specs.Plan.{plan_of}
 use Rattle.plan.proofs.Abstract.{proper_plan}
-use Rattle.sat.specs.declared.OptLit.{OptLit}
+use Rattle.std.specs.Prelude.{Option, None, Some}
 use Rattle.noting.specs.Words.{state_of, lits_of, capped}
 use Rattle.reasons.specs.Reason.{lits_in}
-use Rattle.walks.specs.declared.Listed.{Listed}
-use Rattle.walks.specs.declared.Listed.TheVariants.{Past, Missing}
 use Rattle.walks.specs.Written.{Out, written}
 use Rattle.walks.specs.Walk as walk
 use Rattle.walks.specs.Answers.{Answer, answer_of, given, missing, startable, ready, connected_path, decided_region, potential_region}
@@ -39,13 +38,13 @@ use Rattle.lists.specs.Within.{Held}
 -- ---- one list after the other
 pub then_given : (l m : List ℕ) (o : Out) (f : Out → Answer) → f (written l o) ≡ given m (written l o) → then (given l o) f ≡ given (l ++ m) o
 unfolding then after given
-then_given l m o f e = e ∙ ap (λ (x : Out). answer_of (Past x.place) x.text) (sym (written_append l m o))
+then_given l m o f e = e ∙ ap (λ (x : Out). answer_of (Some x.place) x.text) (sym (written_append l m o))
 
 pub word_given : (x : ℕ) (l : List ℕ) (o : Out) → and_word x (given l o) ≡ given (l ++ (x ∷ [])) o
 unfolding and_word
 word_given x l o = then_given l (x ∷ []) o _ refl
 
-pub opt_given : (x : OptLit) (l : List ℕ) (o : Out) → and_opt x (given l o) ≡ given (l ++ lits_in x) o
+pub opt_given : (x : Option Lit) (l : List ℕ) (o : Out) → and_opt x (given l o) ≡ given (l ++ lits_in x) o
 unfolding and_opt
 opt_given x l o = then_given l (lits_in x) o _ refl
 
@@ -54,27 +53,27 @@ unfolding and_lit
 lit_given x l o = then_given l (lits_of x) o _ refl
 
 -- a part that is missing
-after_lost : (f : Out → Answer) (r : Listed) (t : List ℕ) → r ≡ Missing → (after f r t).listed ≡ Missing
+after_lost : (f : Out → Answer) (r : Option ℕ) (t : List ℕ) → r ≡ None → (after f r t).listed ≡ None
 unfolding after
-after_lost f r t e = ap (λ (q : Listed). (after f q t).listed) e
+after_lost f r t e = ap (λ (q : Option ℕ). (after f q t).listed) e
 
-pub then_lost : (a : Answer) (f : Out → Answer) → a.listed ≡ Missing → (then a f).listed ≡ Missing
+pub then_lost : (a : Answer) (f : Out → Answer) → a.listed ≡ None → (then a f).listed ≡ None
 unfolding then
 then_lost a f e = after_lost f a.listed a.text e
 
-pub word_lost : (x : ℕ) (a : Answer) → a.listed ≡ Missing → (and_word x a).listed ≡ Missing
+pub word_lost : (x : ℕ) (a : Answer) → a.listed ≡ None → (and_word x a).listed ≡ None
 unfolding and_word
 word_lost x a e = then_lost a _ e
 
-pub opt_lost : (x : OptLit) (a : Answer) → a.listed ≡ Missing → (and_opt x a).listed ≡ Missing
+pub opt_lost : (x : Option Lit) (a : Answer) → a.listed ≡ None → (and_opt x a).listed ≡ None
 unfolding and_opt
 opt_lost x a e = then_lost a _ e
 
-pub lit_lost : (x : ℕ) (a : Answer) → a.listed ≡ Missing → (and_lit x a).listed ≡ Missing
+pub lit_lost : (x : ℕ) (a : Answer) → a.listed ≡ None → (and_lit x a).listed ≡ None
 unfolding and_lit
 lit_lost x a e = then_lost a _ e
 
-pub next_lost : (l : List ℕ) (o : Out) (a : Answer) (f : Out → Answer) → a ≡ given l o → (f (written l o)).listed ≡ Missing → (then a f).listed ≡ Missing
+pub next_lost : (l : List ℕ) (o : Out) (a : Answer) (f : Out → Answer) → a ≡ given l o → (f (written l o)).listed ≡ None → (then a f).listed ≡ None
 unfolding then after given
 next_lost l o a f e h = ap (λ (x : Answer). (then x f).listed) e ∙ h
 
@@ -117,7 +116,7 @@ module _ (ws : List ℕ) (es : List (List ℕ)) (noted : List ℕ) (k : Held ws 
       ap (λ (l : List ℕ). given l o)
       (path_same (number_of (edge_lits ws) 0) (edge_lit_of ws) (graph es noted false) (edges_of ws) (vertices_of ws) u lits_same k.proper.fine hu v (within_joined d (proper_plan ws es k.proper) noted false u hu v t))
 
-  pub path_gone_lem : (u v : ℕ) (o : Out) → u < vertices_of ws → v < vertices_of ws → unjoined d s u v ≡ true → (path ws es noted (ends_from u v) o).listed ≡ Missing
+  pub path_gone_lem : (u v : ℕ) (o : Out) → u < vertices_of ws → v < vertices_of ws → unjoined d s u v ≡ true → (path ws es noted (ends_from u v) o).listed ≡ None
   unfolding path connected_path unjoined within missing
   path_gone_lem u v o hu hv e =
       ap (λ (a : Answer). a.listed) (pick_yes _ _ (ready_from u hu) ∙ pick_yes _ _ (lt-ltb v (vertices_of ws) hv) ∙ pick_no _ _ (not-true _ e))

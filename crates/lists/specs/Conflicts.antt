@@ -1,5 +1,5 @@
 -- The list that a conflict leaves, part by part.
-use Rattle.std.specs.Prelude.{ℕ, ◌<◌, ◌≡◌, Bool, false, List, [], ◌∷◌, ltb, get_or}
+use Rattle.std.specs.Prelude.{ℕ, ◌<◌, ◌≡◌, Bool, false, List, [], ◌∷◌, ltb, get_or, Ok, Err}
 use Rattle.base.specs.Iter.{pick}
 use Rattle.base.specs.Lists.{tab}
 use Rattle.division.specs.Plan.{Plan, left, right}
@@ -8,8 +8,8 @@ use Rattle.division.specs.Conflicts.{Conflict, disconnected_inside, crossing, ov
 use Rattle.calls.specs.Look.{unjoined}
 use Rattle.plan.specs.Words.{edge_lit_of}
 use Rattle.noting.specs.Words.{lower_lit_of, upper_lit_of}
-use Rattle.reasons.specs.declared.Verdict.{Verdict}
-use Rattle.reasons.specs.declared.Verdict.TheVariants.{Going, DisconnectedInside, Over, Under, Crowded, Apart, Crossing, ZeroSize, Unfit}
+use Rattle.reasons.specs.declared.Stop.TheVariants.{DisconnectedInside, Over, Under, Crowded, Apart, Crossing, ZeroSize, Unfit}
+use Rattle.reasons.specs.Verdicts.{Verdict}
 use Rattle.walks.specs.Written.{Out}
 use Rattle.walks.specs.Answers.{Answer, given, missing}
 use Rattle.lists.specs.Parts.{ends_from, path, decided, potential, inside, and_word, and_lit}
@@ -39,27 +39,27 @@ module _ (ws : List ℕ) (es : List (List ℕ)) (noted : List ℕ) where
 
   -- `inconsistency_reason`; what is no conflict has no list
   unfoldable pub conflict_lits : Verdict → List ℕ → Out → Answer
-  conflict_lits Going ps o = missing o
-  conflict_lits (DisconnectedInside g) ps o = and_word (edge_lit_of ws g) (inside ws es noted g o)
-  conflict_lits (Over v) ps o = and_lit (upper_lit_of noted v) (decided ws es noted v o)
-  conflict_lits (Under v) ps o = and_lit (lower_lit_of noted v) (potential ws es noted v o)
-  conflict_lits (Crowded r) ps o = spans_after noted ps (potential ws es noted r o)
-  conflict_lits (Apart a b) ps o = apart_lits a b o
-  conflict_lits (Crossing v) ps o = crossing_lits noted v o
-  conflict_lits ZeroSize ps o = missing o
-  conflict_lits Unfit ps o = missing o
+  conflict_lits (Ok u) ps o = missing o
+  conflict_lits (Err (DisconnectedInside g)) ps o = and_word (edge_lit_of ws g) (inside ws es noted g o)
+  conflict_lits (Err (Over v)) ps o = and_lit (upper_lit_of noted v) (decided ws es noted v o)
+  conflict_lits (Err (Under v)) ps o = and_lit (lower_lit_of noted v) (potential ws es noted v o)
+  conflict_lits (Err (Crowded r)) ps o = spans_after noted ps (potential ws es noted r o)
+  conflict_lits (Err (Apart a b)) ps o = apart_lits a b o
+  conflict_lits (Err (Crossing v)) ps o = crossing_lits noted v o
+  conflict_lits (Err ZeroSize) ps o = missing o
+  conflict_lits (Err Unfit) ps o = missing o
 
 -- the conflict that is meant, none for a verdict that is none; ps are the vertices chosen
 unfoldable pub conflicts_of : Verdict → List ℕ → List Conflict
-conflicts_of Going ps = []
-conflicts_of (DisconnectedInside g) ps = disconnected_inside g ∷ []
-conflicts_of (Over v) ps = over v ∷ []
-conflicts_of (Under v) ps = under v ∷ []
-conflicts_of (Crowded r) ps = crowded r ps ∷ []
-conflicts_of (Apart a b) ps = apart a b ∷ []
-conflicts_of (Crossing v) ps = crossing v ∷ []
-conflicts_of ZeroSize ps = []
-conflicts_of Unfit ps = []
+conflicts_of (Ok u) ps = []
+conflicts_of (Err (DisconnectedInside g)) ps = disconnected_inside g ∷ []
+conflicts_of (Err (Over v)) ps = over v ∷ []
+conflicts_of (Err (Under v)) ps = under v ∷ []
+conflicts_of (Err (Crowded r)) ps = crowded r ps ∷ []
+conflicts_of (Err (Apart a b)) ps = apart a b ∷ []
+conflicts_of (Err (Crossing v)) ps = crossing v ∷ []
+conflicts_of (Err ZeroSize) ps = []
+conflicts_of (Err Unfit) ps = []
 
 -- ps are the vertices of a conflict's separate ranges, if it has any
 abbrev pub Chosen : Conflict → List ℕ → Type 0

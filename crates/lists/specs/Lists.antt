@@ -1,6 +1,6 @@
 -- `get_reason_lits`, part by part.
-use Rattle.std.specs.Prelude.{Bool, false, List, ℕ}
-use Rattle.sat.specs.declared.OptLit.{OptLit}
+use Rattle.std.specs.Prelude.{Bool, false, List, ℕ, Option}
+use Rattle.sat.specs.declared.Lit.{Lit}
 use Rattle.plan.specs.Words.{edge_lit_of}
 use Rattle.noting.specs.Words.{lower_lit_of, upper_lit_of}
 use Rattle.reasons.specs.declared.reason.Reason.{Reason}
@@ -16,7 +16,7 @@ module _ (ws : List ℕ) (es : List (List ℕ)) (noted : List ℕ) where
       let e = ends_of es g flip in
       and_word (edge_lit_of ws h) (two_paths ws es noted (ends_from d.u e.u) (ends_from d.v e.v) o)
 
-  unfoldable pub too_large : ℕ → OptLit → Out → Answer
+  unfoldable pub too_large : ℕ → Option Lit → Out → Answer
   too_large g l o =
       let e = ends_of es g false in
       and_opt l (two_regions ws es noted e.u e.v o)
@@ -27,10 +27,10 @@ module _ (ws : List ℕ) (es : List (List ℕ)) (noted : List ℕ) where
       let e = ends_of es g flip in
       and_lit (lower_lit_of noted b) (and_lit (upper_lit_of noted a) (two_paths ws es noted (ends_from e.u a) (ends_from e.v b) o))
 
-  unfoldable pub spread : ℕ → ℕ → OptLit → Out → Answer
+  unfoldable pub spread : ℕ → ℕ → Option Lit → Out → Answer
   spread k u l o = and_opt l (path ws es noted (ends_from k u) o)
 
-  unfoldable pub same_sized : ℕ → OptLit → OptLit → ℕ → OptLit → OptLit → ℕ → Out → Answer
+  unfoldable pub same_sized : ℕ → Option Lit → Option Lit → ℕ → Option Lit → Option Lit → ℕ → Out → Answer
   same_sized a la ua b lb ub u o = and_opt ub (and_opt lb (and_opt ua (and_opt la (three_regions ws es noted a b u o))))
 
   -- `get_reason_lits`; no reason has no list

@@ -1,13 +1,11 @@
 -- The parts of a list, written one after the other.
-use Rattle.std.specs.Prelude.{Bool, false, List, [], ◌∷◌, ℕ, ltb, get_or, replicate}
+use Rattle.std.specs.Prelude.{Bool, false, List, [], ◌∷◌, ℕ, ltb, get_or, replicate, Option, None, Some}
 use Rattle.base.specs.Iter.{pick}
 use Rattle.base.specs.Lists.{filled}
+use Rattle.sat.specs.declared.Lit.{Lit}
 use Rattle.plan.specs.Words.{vertices_of, edges_of, edge_lit_of}
-use Rattle.sat.specs.declared.OptLit.{OptLit}
 use Rattle.noting.specs.Words.{lits_of, capped}
 use Rattle.reasons.specs.Reason.{lits_in}
-use Rattle.walks.specs.declared.Listed.{Listed}
-use Rattle.walks.specs.declared.Listed.TheVariants.{Past, Missing}
 use Rattle.walks.specs.declared.Shape.{Shape}
 use Rattle.walks.specs.Written.{Out, out_of}
 use Rattle.walks.specs.Answers.{Answer, answer_of, given, connected_path, decided_region, potential_region}
@@ -31,9 +29,9 @@ ends_of es g flip =
     pick (ltb g 128) (pick flip (ends_from b a) (ends_from a b)) (ends_from 0 0)
 
 -- the next part, if there is a list so far; else nothing more is written
-unfoldable pub after : (Out → Answer) → Listed → List ℕ → Answer
-after f (Past n) t = f (out_of t n)
-after f Missing t = answer_of Missing t
+unfoldable pub after : (Out → Answer) → Option ℕ → List ℕ → Answer
+after f (Some n) t = f (out_of t n)
+after f None t = answer_of None t
 
 unfoldable pub then : Answer → (Out → Answer) → Answer
 then a f = after f a.listed a.text
@@ -71,5 +69,5 @@ unfoldable pub and_lit : ℕ → Answer → Answer
 and_lit x a = then a (given (lits_of x))
 
 -- one that a reason holds, if it holds one
-unfoldable pub and_opt : OptLit → Answer → Answer
+unfoldable pub and_opt : Option Lit → Answer → Answer
 and_opt l a = then a (given (lits_in l))

@@ -2,43 +2,36 @@
 ghost use Rattle.std.specs.Prelude.{◌≡◌};
 ghost use Rattle.walks.specs.Written.{out_of};
 ghost use Rattle.walks.specs.Answers.{answer_of};
-ghost use Rattle.lists.specs.Conflicts.{num_chosen, span_after, spans_after, chosen_of, crossing_lits, apart_lits, conflict_lits};
+ghost use Rattle.lists.specs.Conflicts.{span_after, spans_after, chosen_of, crossing_lits, apart_lits, conflict_lits};
 ghost use Rattle.plan.specs.Words.{words_of};
 
 use crate::{Ends, and_lit, and_word, decided, inside, path, potential};
 use edge_table::Edges;
-use graph::bounds::wide;
 use noting::Noted;
-use reasons::Verdict;
-use walks::Listed;
+use reasons::{Stop, Verdict};
 
 // The bound literals of vertex v after a list.
-fn span(noted: &Noted, v: usize, r: Listed, out: &mut [u32]) -> Listed
+fn span(noted: &Noted, v: usize, r: Option<usize>, out: &mut [u32]) -> Option<usize>
     ensures { answer_of result out.new ≡ span_after noted.now v (answer_of r out.old) }
 {
     let s = and_lit(r, noting::lower_bound_lit(noted, v), out);
     and_lit(s, noting::upper_bound_lit(noted, v), out)
 }
 
-fn num_chosen(count: usize) -> usize
-    ensures { result ≡ num_chosen count }
-{
-    if count < 64 {
-        return count;
-    }
-    64
-}
-
 // Those of the vertices chosen.
-fn spans(noted: &Noted, chosen: &[u8; 64], count: usize, r: Listed, out: &mut [u32]) -> Listed
+fn spans(
+    noted: &Noted,
+    chosen: &[u8; 64],
+    count: usize,
+    r: Option<usize>,
+    out: &mut [u32],
+) -> Option<usize>
     ensures { answer_of result out.new ≡ spans_after noted.now (chosen_of chosen.now count) (answer_of r out.old) }
 {
-    let n = num_chosen(count);
+    let n = count.min(64);
     let mut a = r;
-    let mut i = 0;
-    while i < n {
-        a = span(noted, wide(chosen[i]), a, out);
-        i += 1;
+    for i in 0..n {
+        a = span(noted, usize::from(chosen[i]), a, out);
     }
     a
 }
@@ -52,7 +45,7 @@ fn apart(
     b: usize,
     out: &mut [u32],
     at: usize,
-) -> Listed
+) -> Option<usize>
     ensures { answer_of result out.new ≡ apart_lits (words_of plan.now) edges noted.now a b (out_of out.old at) }
 {
     let p = Ends { u: a, v: b };
@@ -62,10 +55,10 @@ fn apart(
 }
 
 // The bounds of vertex v, which cross: its lower literal, then its upper literal.
-fn crossing(noted: &Noted, v: usize, out: &mut [u32], at: usize) -> Listed
+fn crossing(noted: &Noted, v: usize, out: &mut [u32], at: usize) -> Option<usize>
     ensures { answer_of result out.new ≡ crossing_lits noted.now v (out_of out.old at) }
 {
-    span(noted, v, Listed::Past(at), out)
+    span(noted, v, Some(at), out)
 }
 
 // The list of a conflict. Of a potential region whose ranges need more than it weighs, the vertices of these ranges are the first
@@ -79,33 +72,34 @@ pub fn conflict_lits(
     count: usize,
     out: &mut [u32],
     at: usize,
-) -> Listed
+) -> Option<usize>
     ensures { answer_of result out.new ≡ conflict_lits (words_of plan.now) edges noted.now verdict (chosen_of chosen.now count) (out_of out.old at) }
 {
-    match verdict {
-        Verdict::Going => Listed::Missing,
-        Verdict::DisconnectedInside { edge_idx: g } => {
+    let Err(stop) = verdict else {
+        return None;
+    };
+    match stop {
+        Stop::DisconnectedInside { edge_idx: g } => {
             let r = inside(plan, edges, noted, g, out, at);
             and_word(r, plan::edge_lit(plan, g), out)
         }
-        Verdict::Over { vertex_idx: v } => {
+        Stop::Over { vertex_idx: v } => {
             let r = decided(plan, edges, noted, v, out, at);
             and_lit(r, noting::upper_bound_lit(noted, v), out)
         }
-        Verdict::Under { vertex_idx: v } => {
+        Stop::Under { vertex_idx: v } => {
             let r = potential(plan, edges, noted, v, out, at);
             and_lit(r, noting::lower_bound_lit(noted, v), out)
         }
-        Verdict::Crowded { region: v } => {
+        Stop::Crowded { region: v } => {
             let r = potential(plan, edges, noted, v, out, at);
             spans(noted, chosen, count, r, out)
         }
-        Verdict::Apart {
+        Stop::Apart {
             lower_bound_idx: a,
             upper_bound_idx: b,
         } => apart(plan, edges, noted, a, b, out, at),
-        Verdict::Crossing { vertex_idx: v } => crossing(noted, v, out, at),
-        Verdict::ZeroSize => Listed::Missing,
-        Verdict::Unfit => Listed::Missing,
+        Stop::Crossing { vertex_idx: v } => crossing(noted, v, out, at),
+        Stop::ZeroSize | Stop::Unfit => None,
     }
 }

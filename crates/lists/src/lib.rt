@@ -12,11 +12,10 @@ ghost use Rattle.lists.specs.Lists.{between, too_large, mismatch, spread, same_s
 ghost use Rattle.plan.specs.Words.{words_of};
 
 use edge_table::Edges;
-use graph::bounds::wide;
 use noting::Noted;
 use reasons::reason::Reason;
-use sat::OptLit;
-use walks::{Listed, Shape, push};
+use sat::Lit;
+use walks::{Shape, push};
 
 // The reason buffer of the largest plan: its gates + 2 x its pens + 4.
 pub const LONGEST_LIST: usize = 260;
@@ -50,23 +49,22 @@ fn shape_of(plan: &[u8]) -> Shape
 fn edge_lits(plan: &[u8]) -> [u32; 128]
     ensures { result ≡ edge_lits (words_of plan.now) }
 {
-    let n = noting::capped(plan::num_edges(plan), 128);
+    let n = (plan::num_edges(plan) as usize).min(128);
     let mut lits = [0u32; 128];
-    let mut g = 0;
-    while g < n {
+    for g in 0..n {
         lits[g] = plan::edge_lit(plan, g);
-        g += 1;
     }
     lits
 }
 
 // The ends of edge g, the right one first with flip.
+#[tactic(auto, unfolding(crate::specs::Parts::ends_of, base::specs::Iter::pick))]
 fn ends_of(edges: Edges, g: usize, flip: bool) -> Ends
     ensures { result ≡ ends_of edges g flip }
 {
     if g < 128 {
-        let a = wide(edges[g][0]);
-        let b = wide(edges[g][1]);
+        let a = usize::from(edges[g][0]);
+        let b = usize::from(edges[g][1]);
         if flip {
             return Ends { u: b, v: a };
         }
@@ -75,14 +73,28 @@ fn ends_of(edges: Edges, g: usize, flip: bool) -> Ends
     Ends { u: 0, v: 0 }
 }
 
-fn path(plan: &[u8], edges: Edges, noted: &Noted, p: Ends, out: &mut [u32], at: usize) -> Listed
+fn path(
+    plan: &[u8],
+    edges: Edges,
+    noted: &Noted,
+    p: Ends,
+    out: &mut [u32],
+    at: usize,
+) -> Option<usize>
     ensures { answer_of result out.new ≡ path (words_of plan.now) edges noted.now p (out_of out.old at) }
 {
     let lits = edge_lits(plan);
     walks::reason_connected_path(edges, noted, &lits, shape_of(plan), p.u, p.v, out, at)
 }
 
-fn decided(plan: &[u8], edges: Edges, noted: &Noted, u: usize, out: &mut [u32], at: usize) -> Listed
+fn decided(
+    plan: &[u8],
+    edges: Edges,
+    noted: &Noted,
+    u: usize,
+    out: &mut [u32],
+    at: usize,
+) -> Option<usize>
     ensures { answer_of result out.new ≡ decided (words_of plan.now) edges noted.now u (out_of out.old at) }
 {
     let lits = edge_lits(plan);
@@ -96,7 +108,7 @@ fn potential(
     u: usize,
     out: &mut [u32],
     at: usize,
-) -> Listed
+) -> Option<usize>
     ensures { answer_of result out.new ≡ potential (words_of plan.now) edges noted.now u (out_of out.old at) }
 {
     let lits = edge_lits(plan);
@@ -104,27 +116,24 @@ fn potential(
 }
 
 // One literal after a list.
-pub fn and_word(r: Listed, x: u32, out: &mut [u32]) -> Listed
+pub fn and_word(r: Option<usize>, x: u32, out: &mut [u32]) -> Option<usize>
     ensures { answer_of result out.new ≡ and_word x (answer_of r out.old) }
 {
-    match r {
-        Listed::Past(n) => Listed::Past(push(out, n, x)),
-        Listed::Missing => Listed::Missing,
-    }
+    Some(push(out, r?, x))
 }
 
 // A bound's literal after a list, if it is due to one.
-fn and_opt(r: Listed, l: OptLit, out: &mut [u32]) -> Listed
+fn and_opt(r: Option<usize>, l: Option<Lit>, out: &mut [u32]) -> Option<usize>
     ensures { answer_of result out.new ≡ and_opt l (answer_of r out.old) }
 {
     match l {
-        OptLit::Some(lit) => and_word(r, lit.0 as u32, out),
-        OptLit::Nothing => r,
+        Some(lit) => and_word(r, lit.0 as u32, out),
+        None => r,
     }
 }
 
 // The same of a noted word.
-fn and_lit(r: Listed, x: u32, out: &mut [u32]) -> Listed
+fn and_lit(r: Option<usize>, x: u32, out: &mut [u32]) -> Option<usize>
     ensures { answer_of result out.new ≡ and_lit x (answer_of r out.old) }
 {
     if x == 65535 {
@@ -141,14 +150,11 @@ fn two_paths(
     q: Ends,
     out: &mut [u32],
     at: usize,
-) -> Listed
+) -> Option<usize>
     ensures { answer_of result out.new ≡ two_paths (words_of plan.now) edges noted.now p q (out_of out.old at) }
 {
-    let r = path(plan, edges, noted, p, out, at);
-    match r {
-        Listed::Past(n) => path(plan, edges, noted, q, out, n),
-        Listed::Missing => Listed::Missing,
-    }
+    let n = path(plan, edges, noted, p, out, at)?;
+    path(plan, edges, noted, q, out, n)
 }
 
 fn two_regions(
@@ -159,18 +165,22 @@ fn two_regions(
     v: usize,
     out: &mut [u32],
     at: usize,
-) -> Listed
+) -> Option<usize>
     ensures { answer_of result out.new ≡ two_regions (words_of plan.now) edges noted.now u v (out_of out.old at) }
 {
-    let r = decided(plan, edges, noted, u, out, at);
-    match r {
-        Listed::Past(n) => decided(plan, edges, noted, v, out, n),
-        Listed::Missing => Listed::Missing,
-    }
+    let n = decided(plan, edges, noted, u, out, at)?;
+    decided(plan, edges, noted, v, out, n)
 }
 
 // The path from one end of edge g to the other.
-fn inside(plan: &[u8], edges: Edges, noted: &Noted, g: usize, out: &mut [u32], at: usize) -> Listed
+fn inside(
+    plan: &[u8],
+    edges: Edges,
+    noted: &Noted,
+    g: usize,
+    out: &mut [u32],
+    at: usize,
+) -> Option<usize>
     ensures { answer_of result out.new ≡ inside (words_of plan.now) edges noted.now g (out_of out.old at) }
 {
     path(plan, edges, noted, ends_of(edges, g, false), out, at)
@@ -186,7 +196,7 @@ fn between(
     flip: bool,
     out: &mut [u32],
     at: usize,
-) -> Listed
+) -> Option<usize>
     ensures { answer_of result out.new ≡ between (words_of plan.now) edges noted.now h g flip (out_of out.old at) }
 {
     let d = ends_of(edges, h as usize, false);
@@ -203,10 +213,10 @@ fn too_large(
     edges: Edges,
     noted: &Noted,
     g: u8,
-    l: OptLit,
+    l: Option<Lit>,
     out: &mut [u32],
     at: usize,
-) -> Listed
+) -> Option<usize>
     ensures { answer_of result out.new ≡ too_large (words_of plan.now) edges noted.now g l (out_of out.old at) }
 {
     let e = ends_of(edges, g as usize, false);
@@ -222,7 +232,7 @@ fn mismatch(
     reason: Reason,
     out: &mut [u32],
     at: usize,
-) -> Listed
+) -> Option<usize>
     ensures { answer_of result out.new ≡ mismatch (words_of plan.now) edges noted.now reason (out_of out.old at) }
 {
     if let Reason::InconsistentBoundsIfRegionsAreMerged {
@@ -245,7 +255,7 @@ fn mismatch(
         let s = and_lit(r, noting::upper_bound_lit(noted, a as usize), out);
         return and_lit(s, noting::lower_bound_lit(noted, b as usize), out);
     }
-    Listed::Missing
+    None
 }
 
 // BoundPropagationWithinRegion.
@@ -255,10 +265,10 @@ fn spread(
     noted: &Noted,
     k: u8,
     u: u8,
-    l: OptLit,
+    l: Option<Lit>,
     out: &mut [u32],
     at: usize,
-) -> Listed
+) -> Option<usize>
     ensures { answer_of result out.new ≡ spread (words_of plan.now) edges noted.now k u l (out_of out.old at) }
 {
     let p = Ends {
@@ -279,14 +289,11 @@ fn three_regions(
     u: usize,
     out: &mut [u32],
     at: usize,
-) -> Listed
+) -> Option<usize>
     ensures { answer_of result out.new ≡ three_regions (words_of plan.now) edges noted.now a b u (out_of out.old at) }
 {
-    let r = two_regions(plan, edges, noted, a, b, out, at);
-    match r {
-        Listed::Past(n) => decided(plan, edges, noted, u, out, n),
-        Listed::Missing => Listed::Missing,
-    }
+    let n = two_regions(plan, edges, noted, a, b, out, at)?;
+    decided(plan, edges, noted, u, out, n)
 }
 
 // AdjacentSameSizeRegions; no list for any other reason.
@@ -297,7 +304,7 @@ fn same_size(
     reason: Reason,
     out: &mut [u32],
     at: usize,
-) -> Listed
+) -> Option<usize>
     ensures { answer_of result out.new ≡ same_size (words_of plan.now) edges noted.now reason (out_of out.old at) }
 {
     if let Reason::AdjacentSameSizeRegions {
@@ -318,7 +325,7 @@ fn same_size(
         let w = and_opt(t, lb, out);
         return and_opt(w, ub, out);
     }
-    Listed::Missing
+    None
 }
 
 // The Rust's `get_reason_lits`, where the edges and bounds are as noted. There is no list where a path is gone; if it is the second
@@ -330,11 +337,11 @@ pub fn reason_lits(
     reason: Reason,
     out: &mut [u32],
     at: usize,
-) -> Listed
+) -> Option<usize>
     ensures { answer_of result out.new ≡ reason_lits (words_of plan.now) edges noted.now reason (out_of out.old at) }
 {
     match reason {
-        Reason::NotPropagated => Listed::Missing,
+        Reason::NotPropagated => None,
         Reason::EdgeInSameGroup { edge_idx: g } => inside(plan, edges, noted, g as usize, out, at),
         Reason::EdgeBetweenDifferentGroups {
             disconnected_edge_idx: h,

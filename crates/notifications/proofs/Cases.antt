@@ -38,16 +38,6 @@ module _ (proposals words : List ℕ) where
   pub merged_length : (n : ℕ) → length (iter (merged_at proposals) n words) ≡ length words
   merged_length n = iter_ind (λ _ (m : List ℕ). length m ≡ length words) (merged_at proposals) words n refl (λ i m _ e. merged_at_length i m ∙ e)
 
--- ---- whose turn it is
-module _ (ws t : List ℕ) (j : Judgement) (p : ℕ) where
-  pub due_yes : (l : ℕ) (b : Bool) → is_fine j ≡ true → l ≡ unique_lit_at ws p → b ≡ true_in t l → b ≡ is_due ws t j p
-  unfolding is_due
-  due_yes l b f e h = h ∙ ap (true_in t) e ∙ sym (ap (λ (x : Bool). x && true_in t (unique_lit_at ws p)) f)
-
-  pub due_no : is_fine j ≡ false → false ≡ is_due ws t j p
-  unfolding is_due
-  due_no f = sym (ap (λ (x : Bool). x && true_in t (unique_lit_at ws p)) f)
-
 -- ---- a literal that is notified, by what the judgement is
 module _ (ws : List ℕ) (ends : List (List ℕ)) (past : ℕ) (w : Way) (r : Judgement) (p left : List ℕ)
     (e : judged_of r p left ≡ judge_words ws ends w.noted w.table w.proposals w.left) where

@@ -30,6 +30,7 @@ pub struct Progress {
 }
 
 // The literal at place p; a literal has 16 bits.
+#[tactic(auto, unfolding(crate::specs::Notifications::lit_at))]
 pub fn lit_at(plan: &[u8], p: usize) -> u16
     ensures { result ≡ lit_at (words_of plan.now) p }
 {
@@ -77,20 +78,20 @@ fn join(
                 judgement: Judgement::Fine,
                 handed: at,
                 len: 0,
-                past: past,
+                past,
             }
         }
         Judgement::Clash { len } => {
             merge(plan, proposals, words);
             Progress {
-                judgement: Judgement::Clash { len: len },
-                handed: handed,
-                len: len,
-                past: past,
+                judgement: Judgement::Clash { len },
+                handed,
+                len,
+                past,
             }
         }
         Judgement::Stopped { refusal } => Progress {
-            judgement: Judgement::Stopped { refusal: refusal },
+            judgement: Judgement::Stopped { refusal },
             ..x
         },
     }
@@ -141,24 +142,19 @@ fn notify(
 fn is_fine(j: Judgement) -> bool
     ensures { result ≡ is_fine j }
 {
-    match j {
-        Judgement::Fine => true,
-        Judgement::Clash { len: _ } => false,
-        Judgement::Stopped { refusal: _ } => false,
-    }
+    matches!(j, Judgement::Fine)
 }
 
 // Whether it is the turn of the literal at place p: `entry` is the table on entry.
+#[tactic(auto, unfolding(crate::specs::Notifications::is_due))]
 fn is_due(plan: &[u8], entry: &[u8], j: Judgement, p: usize) -> bool
     ensures { result ≡ is_due (words_of plan.now) entry.now j p }
 {
-    if is_fine(j) {
-        return sweep::table::is_true(entry, plan::unique_lit(plan, p));
-    }
-    false
+    is_fine(j) && sweep::table::is_true(entry, plan::unique_lit(plan, p))
 }
 
 // The literal at place p is notified where it is true in the table on entry, unless there was a conflict or a refusal.
+#[tactic(auto, unfolding(crate::specs::Notifications::notified_at, base::specs::Iter::pick))]
 fn notify_at(
     plan: &[u8],
     edges: Edges,
@@ -177,8 +173,7 @@ fn notify_at(
     requires { p < 8589934592 }
     ensures { way result noted.new table.new list.new words.new proposals.new left.new ≡ notified_at (words_of plan.now) edges entry.now log.now used p (way x noted.old table.old list.old words.old proposals.old left.old) }
 {
-    let j = x.judgement;
-    if is_due(plan, entry, j, p) {
+    if is_due(plan, entry, x.judgement, p) {
         return notify(
             plan, edges, log, used, noted, table, list, words, proposals, left, x, p,
         );
@@ -205,12 +200,10 @@ fn notify_all(
 {
     let n = 2 * (plan::num_variables(plan) as usize);
     let mut y = x;
-    let mut p = 0;
-    while p < n {
+    for p in 0..n {
         y = notify_at(
             plan, edges, entry, log, used, noted, table, list, words, proposals, left, y, p,
         );
-        p += 1;
     }
     y
 }
@@ -238,19 +231,20 @@ fn analyze_once_more(
         Judgement::Clash { len } => {
             merge(plan, proposals, words);
             Progress {
-                judgement: Judgement::Clash { len: len },
-                len: len,
+                judgement: Judgement::Clash { len },
+                len,
                 ..x
             }
         }
         Judgement::Stopped { refusal } => Progress {
-            judgement: Judgement::Stopped { refusal: refusal },
+            judgement: Judgement::Stopped { refusal },
             ..x
         },
     }
 }
 
 // The last pass, unless there was a conflict or a refusal before it.
+#[tactic(auto, unfolding(crate::specs::Notifications::last_pass, base::specs::Iter::pick))]
 fn last_pass(
     plan: &[u8],
     edges: Edges,
@@ -262,8 +256,7 @@ fn last_pass(
 ) -> Progress
     ensures { ending result words.new proposals.new left.new ≡ last_pass (words_of plan.now) edges noted.now x words.old proposals.old left.old }
 {
-    let j = x.judgement;
-    if is_fine(j) {
+    if is_fine(x.judgement) {
         return analyze_once_more(plan, edges, noted, words, proposals, left, x);
     }
     x
@@ -289,7 +282,7 @@ pub fn go_through(
     let start = Progress {
         judgement: Judgement::Fine,
         handed: 0,
-        len: len,
+        len,
         past: 0,
     };
     let x = notify_all(

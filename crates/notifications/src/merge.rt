@@ -22,6 +22,7 @@ pub fn merge(plan: &[u8], proposals: &[u64], words: &mut [u64])
 {
     let n = 2 * (plan::num_variables(plan) as usize);
     let mut p = sweep::next_proposed(proposals, 0, n);
+    // From one place that is proposed to the next one.
     while p < n {
         merge_at(proposals, words, p);
         p = sweep::next_proposed(proposals, p + 1, n);

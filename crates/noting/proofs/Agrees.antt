@@ -1,29 +1,18 @@
 -- Noting a literal in the words is noting it in the state that they stand for.
-use mathlib.Core.Path.{◌≡◌, refl, sym, ap, ap₂, subst, ◌∙◌}
-use mathlib.Core.Logic.{◌⊎◌, inl, inr, ⊎_elim}
-use mathlib.Core.Bool.{Bool, true, false, not, ◌&&◌, true≢false, false≢true}
-use mathlib.Core.List.{List, [], ◌∷◌}
-use Prim.Native.Nat.{ℕ, zero, suc, pred, ◌+◌, ◌-◌, ◌*◌, ◌/◌, ◌%◌, ◌≤◌, ◌<◌}
+use mathlib.Core.Path.{◌≡◌, refl, sym, ap, ◌∙◌}
+use mathlib.Core.List.{List}
+use Prim.Native.Nat.{ℕ, zero, suc, ◌+◌, ◌/◌, ◌≤◌, ◌<◌}
 use native.Mathlib.Omega.{arith}
-use native.Mathlib.Numerals.{add-one}
 use lib.Dec.{eqb, ltb}
-use lib.ListN.{length, get_or, set, length-set}
+use lib.ListN.{length, set, length-set}
 use lib.Seq.{get_or-set_same, get_or-set_other}
-use borrow.Author.Tests.{lt-ltb, le-ltb, ltb-true, ltb-false, eq-eqb, ne_eqb, eqb-true, eqb-false}
+use borrow.Author.Tests.{lt-ltb, ltb-true, ne_eqb, eqb-true}
 use Rattle.base.specs.Iter.{iter, pick}
-use Rattle.base.proofs.Loop.{pick_ind, pick_yes, pick_no, tested, eq_or_not}
-use Rattle.base.proofs.Tests.{and_left, and_right, and_next, and_no}
-use Rattle.sat.specs.Literal.{negate}
-use Rattle.plan.specs.Words.{word, entry, cell, vertices_of, edges_of, domain_len_of, domain_of, lit_of, dom_lit_of, edge_lit_of}
-use Rattle.plan.specs.Check.{used_slot}
-use Rattle.plan.specs.Proper.{ProperWords}
-use Rattle.division.specs.Noting.{Bound}
+use Rattle.base.proofs.Loop.{pick_ind, pick_yes, pick_no}
+use Rattle.plan.specs.Words.{word}
 use Rattle.noting.specs.declared.note.Effect.{Effect}
-use Rattle.noting.specs.Words.{edge_state_of, bound_at, lower_of, upper_of, lower_lit_of, upper_lit_of, lits_of}
-use Rattle.noting.specs.Note.{Noting, noting, effect, nothing, size_effect, edge_effect, effect_of, bound_set, edge_set, applied, note_slot, is_of, level_pushed, note_lit}
-use Rattle.noting.specs.Ready.{Effective, idle, edge, low, high}
-use Rattle.noting.proofs.Effects.{effective}
-use Rattle.noting.proofs.Block.{block, iter_same}
+use Rattle.noting.specs.Words.{bound_at}
+use Rattle.noting.specs.Note.{Noting, nothing, effect_of, bound_set, edge_set, applied, note_slot, is_of}
 
 -- the noted words after slot s
 unfoldable pub slot_noted : List ℕ → ℕ → ℕ → List ℕ → List ℕ

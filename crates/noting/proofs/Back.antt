@@ -1,19 +1,17 @@
 -- The log read backwards: what is left from here is what was left from the start.
 use mathlib.Core.Path.{◌≡◌, refl, sym, ap, ap₂, ◌∙◌}
-use mathlib.Core.Bool.{Bool, true, false, ◌||◌}
+use mathlib.Core.Bool.{true, false}
 use mathlib.Core.List.{List, [], ◌∷◌}
-use Prim.Native.Nat.{ℕ, zero, suc, ◌+◌, ◌-◌, ◌/◌, ◌≤◌, ◌<◌}
+use Prim.Native.Nat.{ℕ, zero, suc, ◌-◌, ◌/◌, ◌≤◌, ◌<◌}
 use native.Mathlib.Omega.{arith}
-use lib.Dec.{eqb}
 use lib.ListN.{length, get_or}
 use borrow.Author.Tests.{eq-eqb, ne_eqb}
-use Rattle.base.specs.Iter.{pick}
 use Rattle.base.proofs.Loop.{pick_yes, pick_no}
 use Rattle.base.proofs.Tests.{or_yes, or_next}
 use Rattle.undo_log.specs.declared.Record.{Record}
 use Rattle.undo_log.specs.declared.Cursor.{Cursor}
 use Rattle.undo_log.specs.Log.{record_of}
-use Rattle.noting.specs.Note.{Noting, noting, effect, applied}
+use Rattle.noting.specs.Note.{noting}
 use Rattle.noting.specs.Undo.{records_of, restored, undone, kept, undo}
 use Rattle.noting.specs.Standing.{standing, has_variable, newest}
 
@@ -81,14 +79,6 @@ module _ (log : List ℕ) (n : ℕ) (h : 0 < n) (r : Record) (e : r ≡ record_o
   pub newest_found : r.kind ≡ 0 → r.lit ≡ newest (standing (records_of log n))
   unfolding newest
   newest_found z = sym (ap newest (standing_more z))
-
-pub restored_edge : (r : Record) (noted : List ℕ) → r.kind ≡ 1 → applied (effect r.kind r.index 0) r.lit noted ≡ restored r noted
-unfolding restored
-restored_edge r noted h = ap (λ (x : ℕ). applied (effect r.kind r.index x) r.lit noted) (sym (pick_yes 0 r.bound (eq-eqb r.kind 1 h)))
-
-pub restored_bound : (r : Record) (noted : List ℕ) → (r.kind ≡ 1 → ⊥) → applied (effect r.kind r.index r.bound) r.lit noted ≡ restored r noted
-unfolding restored
-restored_bound r noted h = ap (λ (x : ℕ). applied (effect r.kind r.index x) r.lit noted) (sym (pick_no 0 r.bound (ne_eqb r.kind 1 h)))
 
 pub undo_is : (noted log noted₁ : List ℕ) (c : Cursor) (used left : ℕ) → noted₁ ≡ undone (records_of log c.used) noted → used ≡ kept (records_of log c.used) → left ≡ c.standing - 1 → noting noted₁ log (record { used = used; standing = left }) ≡ undo (noting noted log c)
 unfolding undo

@@ -1,29 +1,18 @@
 -- The bounds of a vertex after a literal is noted: `raise` and `lessen` of the abstract state.
-use mathlib.Core.Path.{◌≡◌, refl, sym, ap, ap₂, subst, ◌∙◌}
-use mathlib.Core.Logic.{◌⊎◌, inl, inr, ⊎_elim}
-use mathlib.Core.Bool.{Bool, true, false, not, ◌&&◌, true≢false, false≢true}
+use mathlib.Core.Path.{◌≡◌, refl, ap, ap₂, ◌∙◌}
 use mathlib.Core.List.{List, [], ◌∷◌}
-use Prim.Native.Nat.{ℕ, zero, suc, pred, ◌+◌, ◌-◌, ◌*◌, ◌/◌, ◌%◌, ◌≤◌, ◌<◌}
+use Prim.Native.Nat.{ℕ, ◌+◌, ◌-◌, ◌/◌, ◌<◌}
 use native.Mathlib.Omega.{arith}
-use native.Mathlib.Numerals.{add-one}
-use lib.Dec.{eqb, ltb}
-use lib.ListN.{length, get_or}
-use borrow.Author.Tests.{lt-ltb, le-ltb, ltb-true, ltb-false, eq-eqb, ne_eqb, eqb-true, eqb-false}
-use Rattle.base.specs.Iter.{iter, pick}
-use Rattle.base.proofs.Loop.{pick_ind, pick_yes, pick_no, tested, eq_or_not}
-use Rattle.base.proofs.Tests.{and_left, and_right, and_next, and_no}
-use Rattle.sat.specs.Literal.{negate}
-use Rattle.plan.specs.Words.{word, entry, cell, vertices_of, edges_of, domain_len_of, domain_of, lit_of, dom_lit_of, edge_lit_of}
-use Rattle.plan.specs.Check.{used_slot}
-use Rattle.plan.specs.Proper.{ProperWords}
+use lib.ListN.{length}
+use borrow.Author.Tests.{ne_eqb}
+use Rattle.base.specs.Iter.{pick}
+use Rattle.base.proofs.Loop.{pick_no}
 use Rattle.division.specs.Noting.{Bound}
 use Rattle.noting.specs.declared.note.Effect.{Effect}
-use Rattle.noting.specs.Words.{bound_at, lower_of, upper_of, lower_lit_of, upper_lit_of, lits_of}
-use Rattle.noting.specs.Note.{effect, nothing, size_effect, effect_of, bound_set, edge_set, applied, is_of}
+use Rattle.noting.specs.Words.{lower_of, upper_of, lower_lit_of, upper_lit_of, lits_of}
+use Rattle.noting.specs.Note.{effect, applied}
 use Rattle.noting.specs.Ready.{Effective, idle, edge, low, high}
-use Rattle.noting.proofs.Effects.{effective}
-use Rattle.noting.proofs.Block.{block}
-use Rattle.noting.proofs.Agrees.{slot_noted, slot_noted_length, bound_other, bound_now, lit_now, edge_keeps}
+use Rattle.noting.proofs.Agrees.{bound_other, bound_now, lit_now, edge_keeps}
 
 abbrev pub low_part : ℕ → List ℕ → Bound
 low_part v noted = record { bound = lower_of noted v; lits = lits_of (lower_lit_of noted v) }

@@ -1,18 +1,29 @@
 -- Which variables stand, the log read forwards, a word at a time.
 use mathlib.Core.Path.{◌≡◌, refl, sym, ap, ap₂, ◌∙◌}
-use mathlib.Core.Bool.{Bool, true, false}
+use mathlib.Core.Bool.{Bool, true, false, ◌||◌}
 use mathlib.Core.List.{List}
 use mathlib.Core.Logic.{⊎_elim}
 use Prim.Native.Nat.{ℕ, zero, suc, ◌+◌, ◌-◌, ◌*◌, ◌/◌, ◌%◌, ◌≤◌, ◌<◌}
 use native.Mathlib.Omega.{arith}
 use lib.ListN.{length, get_or, get_or-eq_default}
-use Rattle.base.proofs.Loop.{eq_or_not}
+use lib.Dec.{eqb}
+use borrow.Author.Tests.{eqb-true}
+use Rattle.std.proofs.lemmas.Bool.{eqb-false}
+use Rattle.base.proofs.Loop.{eq_or_not, tested}
 use Rattle.base.proofs.Tests.{le_or_lt}
 use Rattle.undo_log.specs.declared.Record.{Record}
 use Rattle.undo_log.specs.Log.{record_of}
 use Rattle.noting.specs.Undo.{records_of}
 use Rattle.noting.specs.Standing.{standing, has_variable}
 use Rattle.noting.proofs.Back.{standing_none, variable_none, standing_on, variable_found, variable_on}
+
+or_true : (a : Bool) → (a || true) ≡ true
+or_true true = refl
+or_true false = refl
+
+or_false : (a : Bool) → (a || false) ≡ a
+or_false true = refl
+or_false false = refl
 
 -- a word's kind and variable as one number, which is a variable's where the kind is 0
 abbrev key : ℕ → ℕ
@@ -76,6 +87,11 @@ module _ (log : List ℕ) (x : ℕ) where
         (λ (z : r.kind ≡ 0). variable_on log (i + 1) (omega arith) r refl x z (λ (e : r.lit / 2 ≡ x). n (key_of (get_or log i 0) x (sym (ap (λ (s : Record). s.kind) there) ∙ z) (sym (ap (λ (s : Record). s.lit / 2) there) ∙ e))))
         (λ (z : r.kind ≡ 0 → ⊥). ap (has_variable x) (standing_on log (i + 1) (omega arith) r refl z))
         (eq_or_not r.kind 0)
+
+    pub stands_or : (found : Bool) → x < 65536 → found ≡ stands i → (found || eqb (key (get_or log i 0)) x) ≡ stands (i + 1)
+    stands_or found h q = tested (eqb (key (get_or log i 0)) x)
+        (λ e. ap (λ (b : Bool). found || b) e ∙ or_true found ∙ stands_found h (eqb-true (key (get_or log i 0)) x e))
+        (λ e. ap (λ (b : Bool). found || b) e ∙ or_false found ∙ stands_on found q (eqb-false (key (get_or log i 0)) x e))
 
 -- past the log's end are zero words, which start notifications of literal 0
 module _ (log : List ℕ) where

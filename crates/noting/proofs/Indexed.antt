@@ -1,20 +1,20 @@
 -- On a proper plan the index is right: the search finds each distinct variable, its occurrences are the slots of that
 -- variable, and `note` is `note_lit`.
-use mathlib.Core.Path.{◌≡◌, refl, sym, ap, ap₂, subst, ◌∙◌}
-use mathlib.Core.Logic.{◌⊎◌, inl, inr, ⊎_elim}
-use mathlib.Core.Bool.{Bool, true, false, ◌&&◌, true≢false, false≢true}
+use mathlib.Core.Path.{◌≡◌, refl, sym, ap, subst, ◌∙◌}
+use mathlib.Core.Logic.{⊎_elim}
+use mathlib.Core.Bool.{Bool, true, false, true≢false}
 use mathlib.Core.List.{List}
-use Prim.Native.Nat.{ℕ, zero, suc, ◌+◌, ◌-◌, ◌*◌, ◌/◌, ◌%◌, ◌≤◌, ◌<◌}
+use Prim.Native.Nat.{ℕ, zero, suc, ◌+◌, ◌-◌, ◌/◌, ◌≤◌, ◌<◌}
 use native.Mathlib.Omega.{arith}
 use native.Mathlib.Numerals.{add-one}
-use lib.Dec.{eqb, ltb}
+use lib.Dec.{ltb}
 use borrow.Author.Tests.{lt-ltb, ltb-true, ltb-false, eq-eqb, eqb-true}
 use Rattle.base.specs.Iter.{iter, pick}
-use Rattle.base.proofs.Loop.{pick_ind, pick_yes, pick_no, tested, iter_ind}
+use Rattle.base.proofs.Loop.{pick_ind, pick_no, tested}
 use Rattle.base.proofs.Tests.{le_or_lt, and_left, and_right, and_next}
-use Rattle.plan.specs.Words.{edges_of, variables_of, slots_of, lit_of, place_of, position_of, variable_at, start_at, occurrence_at}
+use Rattle.plan.specs.Words.{edges_of, variables_of, lit_of, place_of, position_of, variable_at, start_at, occurrence_at}
 use Rattle.plan.specs.Check.{used_slot}
-use Rattle.plan.specs.Proper.{Filed, Listed, ProperWords}
+use Rattle.plan.specs.Proper.{Listed, ProperWords}
 use Rattle.noting.specs.declared.note.Span.{Span}
 use Rattle.noting.specs.Note.{Noting, note_slot, level_pushed, halved, searched_in, place_from_first, place_from_last, is_at, place_in, known, note_at, note, is_of, note_lit}
 use Rattle.noting.proofs.Rising.{rises, rises_once, locate, loop_over}

@@ -15,7 +15,7 @@ use Rattle.plan.specs.Proper.{ProperWords}
 use Rattle.noting.specs.Words.{fresh}
 use Rattle.noting.specs.Note.{Noting, noting, boundary, one_more, level_pushed, place_in, known, note_at, note, cursor_at}
 use Rattle.noting.specs.Undo.{undo}
-use Rattle.noting.specs.Standing.{standing, has_variable}
+use Rattle.noting.specs.Standing.{has_variable}
 use Rattle.noting.specs.Replay.{Followed, followed, place, follow_at, log_bad}
 use Rattle.noting.specs.Buffers.{log_short}
 use Rattle.noting.proofs.Pushing.{push_length}

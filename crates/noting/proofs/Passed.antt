@@ -1,16 +1,16 @@
 -- How far a notification of the log reaches and what stands then, whatever the plan and the noted words are; and the replay's answer
 -- from a loop that ends where the log is read through or is other.
-use mathlib.Core.Path.{◌≡◌, refl, sym, ap, ap₂, subst, ◌∙◌}
-use mathlib.Core.Bool.{Bool, true, false, true≢false, false≢true, ◌&&◌}
-use mathlib.Core.List.{List, ◌∷◌}
-use Prim.Native.Nat.{ℕ, zero, suc, ◌+◌, ◌-◌, ◌*◌, ◌/◌, ◌%◌, ◌≤◌, ◌<◌}
+use mathlib.Core.Path.{◌≡◌, refl, sym, ap, subst, ◌∙◌}
+use mathlib.Core.Bool.{true, false, true≢false, false≢true, ◌&&◌}
+use mathlib.Core.List.{List}
+use Prim.Native.Nat.{ℕ, zero, suc, ◌+◌, ◌-◌, ◌/◌, ◌%◌, ◌≤◌, ◌<◌}
 use native.Mathlib.Omega.{arith}
 use native.Mathlib.Numerals.{add-one}
 use lib.Dec.{eqb, ltb}
 use lib.ListN.{length, get_or}
 use borrow.Author.Tests.{lt-ltb, ltb-true, eq-eqb, eqb-true, eqb-false, ne_eqb}
-use Rattle.base.specs.Iter.{iter, pick}
-use Rattle.base.proofs.Loop.{pick_ind, pick_yes, pick_no, iter_done, iter_more}
+use Rattle.base.specs.Iter.{iter}
+use Rattle.base.proofs.Loop.{pick_ind, pick_yes, pick_no}
 use Rattle.base.proofs.Tests.{and_left, and_right, and_no, and_next}
 use Rattle.undo_log.specs.declared.Record.{Record}
 use Rattle.undo_log.specs.Log.{record_of, word_of}

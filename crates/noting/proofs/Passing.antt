@@ -19,7 +19,7 @@ use Rattle.plan.specs.Words.{variable_at}
 use Rattle.plan.specs.Proper.{ProperWords}
 use Rattle.noting.specs.Words.{fresh}
 use Rattle.noting.specs.Note.{boundary, place_in, known}
-use Rattle.noting.specs.Standing.{standing, has_variable, AllKnown}
+use Rattle.noting.specs.Standing.{has_variable, AllKnown}
 use Rattle.noting.specs.Replay.{Replayed, replayed, place, marked, set_mark, lit_at, replay_level, replay, noted_differs, afresh, log_bad}
 use Rattle.noting.proofs.Follow.{opens_known, level_past, level_yes}
 use Rattle.noting.specs.Logged.{Logged}

@@ -1,14 +1,13 @@
 -- The search in the distinct variables: its steps over plain variables.
-use mathlib.Core.Path.{◌≡◌, refl, sym, ap, ap₂, ◌∙◌}
-use mathlib.Core.Bool.{Bool, true, false}
+use mathlib.Core.Path.{◌≡◌, refl, sym, ap, ◌∙◌}
+use mathlib.Core.Bool.{true, false}
 use mathlib.Core.List.{List}
-use Prim.Native.Nat.{ℕ, zero, suc, ◌+◌, ◌-◌, ◌*◌, ◌/◌, ◌≤◌, ◌<◌}
+use Prim.Native.Nat.{ℕ, ◌+◌, ◌-◌, ◌/◌, ◌≤◌, ◌<◌}
 use native.Mathlib.Omega.{arith}
-use lib.Dec.{ltb, eqb}
-use borrow.Author.Tests.{lt-ltb, le-ltb, ltb-true, ltb-false}
-use Rattle.base.specs.Iter.{iter, pick}
+use lib.Dec.{ltb}
+use borrow.Author.Tests.{lt-ltb, le-ltb, ltb-true}
 use Rattle.base.proofs.Loop.{pick_ind, pick_yes, pick_no}
-use Rattle.plan.specs.Words.{variables_of, variable_at}
+use Rattle.plan.specs.Words.{variable_at}
 use Rattle.noting.specs.declared.note.Span.{Span}
 use Rattle.noting.specs.Note.{halved, searched_in, place_from_first, place_from_last, is_at, place_in}
 
@@ -53,9 +52,3 @@ module _ (ws : List ℕ) (x a b : ℕ) (first : a ≡ place_from_first ws x) (la
   pub place_halved : is_at ws a x ≡ false → is_at ws b x ≡ false → searched_in ws x ≡ place_in ws x
   unfolding place_in
   place_halved f g = sym (pick_no _ _ (ap (λ (k : ℕ). is_at ws k x) (sym first) ∙ f) ∙ pick_no _ _ (ap (λ (k : ℕ). is_at ws k x) (sym last) ∙ g))
-
-pub from_last : (ws : List ℕ) (x n last at back : ℕ) → n ≡ variables_of ws → last ≡ n - 1 → at ≡ variable_at ws last → back ≡ at - x → last - back ≡ place_from_last ws x
-from_last ws x n last at back hn hl ha hb =
-    let e : last ≡ variables_of ws - 1 = hl ∙ ap (λ (i : ℕ). i - 1) hn in
-    let f : back ≡ variable_at ws (variables_of ws - 1) - x = hb ∙ ap (λ (i : ℕ). i - x) (ha ∙ ap (variable_at ws) e) in
-    ap₂ (λ (i j : ℕ). i - j) e f

@@ -2,7 +2,7 @@
 use mathlib.Core.Path.{◌≡◌, refl, sym, ap, ◌∙◌}
 use mathlib.Core.Bool.{true, false≢true}
 use mathlib.Core.List.{List}
-use Prim.Native.Nat.{ℕ, zero, suc, ◌+◌, ◌-◌, ◌≤◌, ◌<◌}
+use Prim.Native.Nat.{ℕ, zero, suc, ◌+◌, ◌≤◌, ◌<◌}
 use native.Mathlib.Omega.{arith}
 use lib.Dec.{eqb, ltb}
 use lib.ListN.{get_or}
@@ -12,7 +12,7 @@ use Rattle.base.proofs.Loop.{pick_ind, pick_yes, pick_no, tested}
 use Rattle.base.proofs.Tests.{and_right, and_next}
 use Rattle.undo_log.specs.declared.Record.{Record}
 use Rattle.noting.specs.Note.{effect_of, undo_record}
-use Rattle.noting.specs.Replay.{Followed, place, holds_at, follow_slot}
+use Rattle.noting.specs.Replay.{Followed, holds_at, follow_slot}
 
 module _ (ws log : List ℕ) (used l : ℕ) where
   -- what does not agree stays so

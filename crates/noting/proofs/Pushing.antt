@@ -1,42 +1,26 @@
 -- A push: the cursor that it answers, and the log's length.
 use mathlib.Core.Path.{◌≡◌, refl, sym, ap, ◌∙◌}
-use mathlib.Core.Bool.{Bool, true, false}
+use mathlib.Core.Bool.{true, false}
 use mathlib.Core.List.{List}
 use Prim.Native.Nat.{ℕ, ◌+◌}
-use lib.Dec.{ltb, eqb}
-use lib.ListN.{length, set, length-set}
+use lib.Dec.{eqb}
+use lib.ListN.{length, length-set}
 use Rattle.base.specs.Iter.{iter, pick}
 use Rattle.base.proofs.Loop.{pick_ind, pick_yes, pick_no, tested, iter_ind}
 use Rattle.undo_log.specs.declared.Record.{Record}
 use Rattle.undo_log.specs.declared.Cursor.{Cursor}
-use Rattle.undo_log.specs.declared.Pushed.{Pushed}
-use Rattle.undo_log.specs.declared.Pushed.TheVariants.{Moved, Full}
+use Rattle.std.specs.Prelude.{Option}
+use Rattle.std.specs.Option.{unwrap_or}
 use Rattle.undo_log.specs.Log.{push_words, push_answer, has_room, moved_to}
 use Rattle.noting.specs.Note.{Noting, pushed_to, note_slot, note_at, effect_of}
 
 module _ (log : List ℕ) (c : Cursor) where
-  pub moved_to_lem : (d : Cursor) → Moved d ≡ push_answer log c → d ≡ pushed_to log c
+  -- a full log leaves the cursor where it is
+  pub moved_or_here : unwrap_or (push_answer log c) c ≡ pushed_to log c
   unfolding push_answer pushed_to
-  moved_to_lem d e = tested (has_room log c) yes no
-    where
-      yes : has_room log c ≡ true → d ≡ pick (has_room log c) (moved_to c (c.used + 1)) c
-      yes h =
-          let q : Moved d ≡ Moved (moved_to c (c.used + 1)) = e ∙ pick_yes _ _ h in
-          (cc) ∙ sym (pick_yes (moved_to c (c.used + 1)) c h)
-
-      no : has_room log c ≡ false → d ≡ pick (has_room log c) (moved_to c (c.used + 1)) c
-      no h =
-          let q : Moved d ≡ Full = e ∙ pick_no _ _ h in
-          (cc)
-
-  pub stays : Full ≡ push_answer log c → c ≡ pushed_to log c
-  unfolding push_answer pushed_to
-  stays e = tested (has_room log c) yes (λ h. sym (pick_no (moved_to c (c.used + 1)) c h))
-    where
-      yes : has_room log c ≡ true → c ≡ pick (has_room log c) (moved_to c (c.used + 1)) c
-      yes h =
-          let q : Full ≡ Moved (moved_to c (c.used + 1)) = e ∙ pick_yes _ _ h in
-          (cc)
+  moved_or_here = tested (has_room log c)
+      (λ h. ap (λ (x : Option Cursor). unwrap_or x c) (pick_yes _ _ h) ∙ sym (pick_yes _ _ h))
+      (λ h. ap (λ (x : Option Cursor). unwrap_or x c) (pick_no _ _ h) ∙ sym (pick_no _ _ h))
 
   pub push_length : (r : Record) → length (push_words log c r) ≡ length log
   unfolding push_words

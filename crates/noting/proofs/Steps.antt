@@ -1,44 +1,17 @@
 -- One step of code each, over plain variables.
-use mathlib.Core.Path.{◌≡◌, refl, sym, ap, ap₂, ◌∙◌}
+use mathlib.Core.Path.{◌≡◌, sym, ap, ap₂, ◌∙◌}
 use mathlib.Core.Bool.{Bool, true, false}
 use mathlib.Core.List.{List}
-use Prim.Native.Nat.{ℕ, ◌+◌, ◌/◌, ◌%◌, ◌≤◌, ◌<◌}
+use Prim.Native.Nat.{ℕ, ◌+◌, ◌/◌, ◌≤◌, ◌<◌}
 use native.Mathlib.Omega.{arith}
 use lib.ListN.{length}
-use lib.Dec.{ltb, eqb}
 use borrow.Author.Tests.{eq-eqb, ne_eqb, lt-ltb, le-ltb}
-use Rattle.base.specs.Iter.{pick}
 use Rattle.base.proofs.Loop.{pick_yes, pick_no}
 use Rattle.undo_log.specs.declared.Record.{Record}
 use Rattle.undo_log.specs.declared.Cursor.{Cursor}
 use Rattle.undo_log.specs.Log.{push_words}
 use Rattle.noting.specs.declared.note.Effect.{Effect}
-use Rattle.noting.specs.Words.{lower_of, upper_of, lower_lit_of, upper_lit_of}
 use Rattle.noting.specs.Note.{Noting, noting, undo_record, applied, effect_of, note_slot, pushed_to, boundary, one_more, level_pushed, place_in, known, note_at, note}
-
-abbrev record_for : Effect → ℕ → ℕ → Record
-record_for e b l = record { kind = e.kind; index = e.index; bound = b; lit = l }
-
-module _ (noted : List ℕ) (e : Effect) where
-  pub record_low : (b l : ℕ) → e.kind ≡ 2 → b ≡ lower_of noted e.index → l ≡ lower_lit_of noted e.index → record_for e b (l % 65536) ≡ undo_record noted e
-  unfolding undo_record
-  record_low b l h p q =
-      let y = eq-eqb e.kind 2 h in
-      ap₂ (record_for e) (p ∙ sym (pick_yes _ _ y)) (ap (λ (x : ℕ). x % 65536) q ∙ sym (pick_yes _ _ y))
-
-  pub record_high : (b l : ℕ) → (e.kind ≡ 2 → ⊥) → e.kind ≡ 3 → b ≡ upper_of noted e.index → l ≡ upper_lit_of noted e.index → record_for e b (l % 65536) ≡ undo_record noted e
-  unfolding undo_record
-  record_high b l n h p q =
-      let y = ne_eqb e.kind 2 n in
-      let z = eq-eqb e.kind 3 h in
-      ap₂ (record_for e) (p ∙ sym (pick_no _ _ y ∙ pick_yes _ _ z)) (ap (λ (x : ℕ). x % 65536) q ∙ sym (pick_no _ _ y ∙ pick_yes _ _ z))
-
-  pub record_edge : (e.kind ≡ 2 → ⊥) → (e.kind ≡ 3 → ⊥) → record_for e 0 65535 ≡ undo_record noted e
-  unfolding undo_record
-  record_edge n m =
-      let y = ne_eqb e.kind 2 n in
-      let z = ne_eqb e.kind 3 m in
-      ap₂ (record_for e) (sym (pick_no _ _ y ∙ pick_no _ _ z)) (sym (pick_no _ _ y ∙ pick_no _ _ z))
 
 module _ (ws noted log : List ℕ) (c : Cursor) (l s : ℕ) (e : Effect) (h : e ≡ effect_of ws noted l s) where
   pub slot_idle : e.kind ≡ 0 → noting noted log c ≡ note_slot ws l s (noting noted log c)

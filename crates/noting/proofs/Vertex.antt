@@ -1,25 +1,25 @@
 -- A vertex's bounds after every slot: `raise` and `lessen` over the entries of its domain.
 use mathlib.Core.Path.{◌≡◌, refl, sym, ap, ap₂, subst, ◌∙◌}
-use mathlib.Core.Logic.{◌⊎◌, inl, inr, ⊎_elim}
-use mathlib.Core.Bool.{Bool, true, false, not, ◌&&◌, true≢false, false≢true}
+use mathlib.Core.Logic.{◌⊎◌, ⊎_elim}
+use mathlib.Core.Bool.{Bool, true, false, ◌&&◌}
 use mathlib.Core.List.{List, [], ◌∷◌}
 use Prim.Native.Nat.{ℕ, zero, suc, pred, ◌+◌, ◌-◌, ◌*◌, ◌/◌, ◌%◌, ◌≤◌, ◌<◌}
 use native.Mathlib.Omega.{arith}
 use native.Mathlib.Numerals.{add-one}
 use lib.Dec.{eqb, ltb}
-use lib.ListN.{length, get_or}
-use borrow.Author.Tests.{lt-ltb, le-ltb, ltb-true, ltb-false, eq-eqb, ne_eqb, eqb-true, eqb-false}
+use lib.ListN.{length}
+use borrow.Author.Tests.{lt-ltb, ltb-true, eq-eqb, ne_eqb, eqb-true, eqb-false}
 use Rattle.base.specs.Iter.{iter, pick}
 use Rattle.base.proofs.Loop.{pick_ind, pick_yes, pick_no, tested, eq_or_not}
-use Rattle.base.proofs.Tests.{and_left, and_right, and_next, and_no, and_either}
+use Rattle.base.proofs.Tests.{and_left, and_right, and_next, and_no}
 use Rattle.sat.specs.Literal.{negate}
-use Rattle.plan.specs.Words.{word, entry, cell, vertices_of, edges_of, domain_len_of, domain_of, lit_of, dom_lit_of, edge_lit_of}
+use Rattle.plan.specs.Words.{word, entry, cell, vertices_of, domain_len_of, domain_of, lit_of, dom_lit_of}
 use Rattle.plan.specs.Check.{used_slot}
 use Rattle.plan.specs.Proper.{ProperWords}
 use Rattle.division.specs.Noting.{Bound}
 use Rattle.noting.specs.declared.note.Effect.{Effect}
-use Rattle.noting.specs.Words.{bound_at, lower_of, upper_of, lits_of}
-use Rattle.noting.specs.Note.{effect, nothing, size_effect, effect_of, applied, is_of}
+use Rattle.noting.specs.Words.{lower_of, upper_of}
+use Rattle.noting.specs.Note.{size_effect, effect_of, applied, is_of}
 use Rattle.noting.proofs.Effects.{effective}
 use Rattle.noting.proofs.Block.{block}
 use Rattle.noting.proofs.Agrees.{slot_noted, slot_noted_length, nothing_applied}

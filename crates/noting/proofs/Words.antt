@@ -5,15 +5,12 @@ use mathlib.Core.List.{List}
 use mathlib.Core.Logic.{⊎_elim}
 use Prim.Native.Nat.{ℕ, zero, suc, ◌+◌, ◌≤◌, ◌<◌}
 use native.Mathlib.Omega.{arith}
-use native.Mathlib.Numerals.{add-one}
 use lib.Dec.{eqb, ltb}
 use lib.ListN.{get_or}
-use borrow.Author.Tests.{lt-ltb, le-ltb, ltb-true, ltb-false, eq-eqb, ne_eqb}
-use Rattle.base.specs.Iter.{pick}
+use borrow.Author.Tests.{lt-ltb, le-ltb, ltb-false, eq-eqb}
 use Rattle.base.specs.Lists.{some}
 use Rattle.base.proofs.Loop.{pick_ind, pick_yes, pick_no}
 use Rattle.base.proofs.Tests.{or_both, le_or_lt}
-use Rattle.base.proofs.Some.{some_found}
 use Rattle.plan.specs.Words.{vertices_of, edges_of}
 use Rattle.noting.specs.Words.{edge_state_of, bound_at, capped}
 use Rattle.noting.proofs.Sizes.{capped_le}
@@ -57,17 +54,6 @@ some_capped t n m f =
     pick_ind (λ (k : ℕ). some t n ≡ some t k) (ltb n m) n m (λ _. refl) (λ h. sym (some_rest t m n (ltb-false n m h) f))
 
 -- one word more
-module _ (a b : List ℕ) (from i : ℕ) where
-  pub same_next : (found : Bool) → found ≡ some (word_differs a b from) i → get_or a (from + i) 0 ≡ get_or b (from + i) 0 → found ≡ some (word_differs a b from) (i + 1)
-  unfolding some word_differs
-  same_next found q e =
-      q ∙ or_no (some (word_differs a b from) i)
-      ∙ ap (λ (c : Bool). some (word_differs a b from) i || c) (sym (ap not (eq-eqb (get_or a (from + i) 0) (get_or b (from + i) 0) e)))
-      ∙ ap (some (word_differs a b from)) (sym (add-one i))
-
-  pub other_next : (get_or a (from + i) 0 ≡ get_or b (from + i) 0 → ⊥) → true ≡ some (word_differs a b from) (i + 1)
-  unfolding word_differs
-  other_next n = sym (some_found (word_differs a b from) (i + 1) i (omega arith) (ap not (ne_eqb (get_or a (from + i) 0) (get_or b (from + i) 0) n)))
 
 module _ (a b : List ℕ) where
   edge_past : (g : ℕ) → 128 ≤ g → edge_differs a b g ≡ false

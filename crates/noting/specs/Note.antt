@@ -1,10 +1,10 @@
 -- The Rust's `notify` on the noted words and the undo log. Only the occurrences of the literal's variable are looked at.
-use Rattle.std.specs.Prelude.{Bool, ◌&&◌, List, [], ◌∷◌, ℕ, suc, ◌+◌, ◌-◌, ◌*◌, ◌/◌, ◌%◌, eqb, ltb, length, set}
+use Rattle.std.specs.Prelude.{Bool, ◌&&◌, List, ℕ, ◌+◌, ◌-◌, ◌/◌, ◌%◌, eqb, ltb, length, set}
 use Rattle.base.specs.Iter.{iter, pick}
 use Rattle.undo_log.specs.declared.Record.{Record}
 use Rattle.undo_log.specs.declared.Cursor.{Cursor}
 use Rattle.undo_log.specs.Log.{push_words, has_room, moved_to}
-use Rattle.plan.specs.Words.{word, variables_of, domain_of, lit_of, variable_at, start_at, occurrence_at}
+use Rattle.plan.specs.Words.{variables_of, domain_of, lit_of, variable_at, start_at, occurrence_at}
 use Rattle.plan.specs.Check.{used_slot}
 use Rattle.noting.specs.declared.note.Effect.{Effect}
 use Rattle.noting.specs.declared.note.Span.{Span}

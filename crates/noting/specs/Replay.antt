@@ -1,6 +1,6 @@
 -- Refusal 7, "log, cursor, gates and bounds other than noting the log's literals afresh, oldest first, would give": the log's
 -- literals are noted afresh, and each record that noting would push is to stand in the log already.
-use Rattle.std.specs.Prelude.{Bool, true, false, not, ◌&&◌, ◌||◌, List, ℕ, ◌+◌, ◌-◌, ◌/◌, ◌<◌, eqb, ltb, length, get_or, set, replicate}
+use Rattle.std.specs.Prelude.{Bool, true, false, not, ◌&&◌, ◌||◌, List, ℕ, ◌+◌, ◌-◌, ◌/◌, eqb, ltb, length, get_or, set, replicate}
 use Rattle.base.specs.Iter.{iter, pick}
 use Rattle.base.specs.Lists.{some}
 use Rattle.undo_log.specs.declared.Record.{Record}

@@ -2,7 +2,6 @@
 use Rattle.std.specs.Prelude.{List, [], ◌∷◌, ℕ, zero, suc, ◌-◌, eqb, length, get_or}
 use Rattle.base.specs.Iter.{pick}
 use Rattle.undo_log.specs.declared.Record.{Record}
-use Rattle.undo_log.specs.declared.Cursor.{Cursor}
 use Rattle.undo_log.specs.Log.{record_of}
 use Rattle.noting.specs.Note.{Noting, noting, effect, applied}
 

@@ -6,7 +6,7 @@ use Rattle.base.specs.Iter.{pick}
 use Rattle.base.specs.Lists.{filled}
 use Rattle.division.specs.Regions.{lowest}
 use Rattle.division.specs.State.{State}
-use Rattle.plan.specs.Words.{word, entry, vertices_of, edges_of, domain_len_of, domain_of}
+use Rattle.plan.specs.Words.{word, vertices_of, edges_of, domain_len_of, domain_of}
 
 -- 0 undecided, 1 disconnected, 2 connected (document 01: shut, open)
 unfoldable pub edge_state_of : List ℕ → ℕ → ℕ

@@ -14,6 +14,8 @@ ghost use Rattle.noting.specs.Words.{edge_state_of, bound_at, lower_of, upper_of
 ghost use Rattle.noting.specs.Following.{fresh_bounds};
 ghost use Rattle.plan.specs.Words.{words_of};
 
+use base::fill::fill;
+
 pub const NOTED_WORDS: usize = 384;
 
 pub type Noted = [u32; NOTED_WORDS];
@@ -34,23 +36,19 @@ pub const CONNECTED: u32 = 2;
 // The word of a bound that is due to no literal: undo_log::NO_LIT.
 pub const NO_BOUND_LIT: u32 = 65535;
 
+#[tactic(auto, unfolding(crate::specs::Words::edge_state_of, base::specs::Iter::pick))]
 pub fn edge_state(noted: &Noted, g: usize) -> u32
     ensures { result ≡ edge_state_of noted.now g }
 {
-    if g < 128 {
-        return noted[g];
-    }
-    0
+    if g < 128 { noted[g] } else { 0 }
 }
 
+#[tactic(auto, unfolding(crate::specs::Words::bound_at, base::specs::Iter::pick))]
 fn bound_at(noted: &Noted, from: usize, past: u32, v: usize) -> u32
     requires { from + 64 ≤ 384 }
     ensures { result ≡ bound_at from past noted.now v }
 {
-    if v < 64 {
-        return noted[from + v];
-    }
-    past
+    if v < 64 { noted[from + v] } else { past }
 }
 
 pub fn lower_bound(noted: &Noted, v: usize) -> u32
@@ -79,43 +77,33 @@ pub fn upper_bound_lit(noted: &Noted, v: usize) -> u32
 }
 
 // n, but no more than `most`.
+#[tactic(auto, unfolding(crate::specs::Words::capped, base::specs::Iter::pick))]
 pub fn capped(n: u32, most: u32) -> usize
     ensures { result ≡ capped n most }
 {
-    if n < most {
-        return n as usize;
-    }
-    most as usize
+    n.min(most) as usize
 }
 
+#[tactic(auto, unfolding(crate::specs::Words::first_size, base::specs::Iter::pick))]
 fn first_size(plan: &[u8], v: usize) -> u32
     ensures { result ≡ first_size (words_of plan.now) v }
 {
     if 0 < plan::domain_len(plan, v) {
-        return plan::domain(plan, v, 0);
+        plan::domain(plan, v, 0)
+    } else {
+        0
     }
-    0
 }
 
+#[tactic(auto, unfolding(crate::specs::Words::last_size, base::specs::Iter::pick))]
 fn last_size(plan: &[u8], v: usize) -> u32
     ensures { result ≡ last_size (words_of plan.now) v }
 {
     let len = plan::domain_len(plan, v);
     if 0 < len {
-        return plan::domain(plan, v, (len - 1) as usize);
-    }
-    2147483647
-}
-
-// The n words from `from` on become x.
-fn fill(noted: &mut Noted, from: usize, n: usize, x: u32)
-    requires { from + n ≤ 384 }
-    ensures { noted.new ≡ filled from n (λ v. x) noted.old }
-{
-    let mut i = 0;
-    while i < n {
-        noted[from + i] = x;
-        i += 1;
+        plan::domain(plan, v, (len - 1) as usize)
+    } else {
+        2147483647
     }
 }
 
@@ -124,13 +112,11 @@ fn fill_sizes(plan: &[u8], noted: &mut Noted, n: usize)
     requires { n ≤ 64 }
     ensures { noted.new ≡ filled 192 n (last_size (words_of plan.now)) (filled 128 n (first_size (words_of plan.now)) noted.old) }
 {
-    let mut i = 0;
-    while i < n {
+    for i in 0..n {
         let x = first_size(plan, i);
         let y = last_size(plan, i);
         noted[128 + i] = x;
         noted[192 + i] = y;
-        i += 1;
     }
 }
 
@@ -140,8 +126,8 @@ pub(crate) fn fresh_bounds(plan: &[u8], noted: &mut Noted)
 {
     let vertices = capped(plan::num_vertices(plan), 64);
     fill_sizes(plan, noted, vertices);
-    fill(noted, 320, vertices, NO_BOUND_LIT);
-    fill(noted, 256, vertices, NO_BOUND_LIT);
+    fill(noted, 320, vertices, |_| NO_BOUND_LIT);
+    fill(noted, 256, vertices, |_| NO_BOUND_LIT);
 }
 
 // Nothing noted. Words that the plan does not use stay as they are.
@@ -149,6 +135,6 @@ pub fn fresh(plan: &[u8], noted: &mut Noted)
     ensures { noted.new ≡ fresh (words_of plan.now) noted.old }
 {
     let edges = capped(plan::num_edges(plan), 128);
-    fill(noted, 0, edges, UNDECIDED);
+    fill(noted, 0, edges, |_| UNDECIDED);
     fresh_bounds(plan, noted);
 }

@@ -8,10 +8,10 @@ ghost use Rattle.noting.specs.Words.{crosses, crossed_in};
 ghost use Rattle.noting.specs.Note.{effect, size_effect, edge_effect, effect_of, undo_record, bound_set, edge_set, applied, noting, pushed_to, note_slot, boundary, one_more, level_pushed, halved, searched_in, place_from_first, place_from_last, is_at, place_in, known, note_at, note};
 
 use crate::{
-    CONNECTED, DISCONNECTED, Noted, capped, lower_bound, lower_bound_lit, upper_bound,
-    upper_bound_lit,
+    CONNECTED, DISCONNECTED, NO_BOUND_LIT, Noted, capped, lower_bound, lower_bound_lit,
+    upper_bound, upper_bound_lit,
 };
-use undo_log::{Cursor, EDGE, LEVEL_BOUNDARY, LOWER_BOUND, NO_LIT, Pushed, Record, UPPER_BOUND};
+use undo_log::{Cursor, EDGE, LEVEL_BOUNDARY, LOWER_BOUND, Record, UPPER_BOUND};
 
 // An effect's kind where a literal says nothing new.
 pub const NOTHING: u8 = 0;
@@ -25,6 +25,12 @@ pub struct Effect {
     pub value: u32,
 }
 
+const NO_EFFECT: Effect = Effect {
+    kind: NOTHING,
+    index: 0,
+    value: 0,
+};
+
 // A part of the distinct variables.
 #[derive(Clone, Copy)]
 pub struct Span {
@@ -32,6 +38,7 @@ pub struct Span {
     pub high: usize,
 }
 
+#[tactic(auto, unfolding(crate::specs::Note::size_effect, base::specs::Iter::pick))]
 fn size_effect(plan: &[u8], noted: &Noted, holds: bool, v: usize, j: usize) -> Effect
     requires { (v < 64) × (j < 32) }
     ensures { result ≡ size_effect (words_of plan.now) noted.now holds v j }
@@ -45,11 +52,7 @@ fn size_effect(plan: &[u8], noted: &Noted, holds: bool, v: usize, j: usize) -> E
                 value: x,
             };
         }
-        return Effect {
-            kind: NOTHING,
-            index: 0,
-            value: 0,
-        };
+        return NO_EFFECT;
     }
     let x = plan::domain(plan, v, j);
     if x < upper_bound(noted, v) {
@@ -59,78 +62,54 @@ fn size_effect(plan: &[u8], noted: &Noted, holds: bool, v: usize, j: usize) -> E
             value: x,
         };
     }
-    Effect {
-        kind: NOTHING,
-        index: 0,
-        value: 0,
-    }
+    NO_EFFECT
 }
 
+#[tactic(auto, unfolding(crate::specs::Note::edge_effect, base::specs::Iter::pick))]
 pub(crate) fn edge_effect(holds: bool, g: usize) -> Effect
     requires { g < 128 }
     ensures { result ≡ edge_effect holds g }
 {
-    if holds {
-        return Effect {
-            kind: EDGE,
-            index: g as u8,
-            value: DISCONNECTED,
-        };
-    }
     Effect {
         kind: EDGE,
         index: g as u8,
-        value: CONNECTED,
+        value: if holds { DISCONNECTED } else { CONNECTED },
     }
 }
 
+#[tactic(auto, unfolding(crate::specs::Note::effect_of, base::specs::Iter::pick))]
 fn effect_of(plan: &[u8], noted: &Noted, lit: u16, s: usize) -> Effect
     ensures { result ≡ effect_of (words_of plan.now) noted.now lit s }
 {
-    let holds = plan::lit(plan, s) == lit as u32;
+    let holds = plan::lit(plan, s) == u32::from(lit);
     if s < 2048 {
         return size_effect(plan, noted, holds, s / 32, s % 32);
     }
     if s < 2176 {
         return edge_effect(holds, s - 2048);
     }
-    Effect {
-        kind: NOTHING,
-        index: 0,
-        value: 0,
-    }
+    NO_EFFECT
 }
 
+#[tactic(auto, unfolding(crate::specs::Note::undo_record, base::specs::Iter::pick))]
 pub(crate) fn undo_record(noted: &Noted, e: Effect) -> Record
     ensures { result ≡ undo_record noted.now e }
 {
     let v = e.index as usize;
-    if e.kind == LOWER_BOUND {
-        let lit = lower_bound_lit(noted, v);
-        return Record {
-            kind: e.kind,
-            index: e.index,
-            bound: lower_bound(noted, v),
-            lit: (lit % 65536) as u16,
-        };
-    }
-    if e.kind == UPPER_BOUND {
-        let lit = upper_bound_lit(noted, v);
-        return Record {
-            kind: e.kind,
-            index: e.index,
-            bound: upper_bound(noted, v),
-            lit: (lit % 65536) as u16,
-        };
-    }
+    let (bound, lit) = match e.kind {
+        LOWER_BOUND => (lower_bound(noted, v), lower_bound_lit(noted, v)),
+        UPPER_BOUND => (upper_bound(noted, v), upper_bound_lit(noted, v)),
+        _ => (0, NO_BOUND_LIT),
+    };
     Record {
         kind: e.kind,
         index: e.index,
-        bound: 0,
-        lit: NO_LIT,
+        bound,
+        lit: (lit % 65536) as u16,
     }
 }
 
+#[tactic(auto, unfolding(crate::specs::Note::bound_set, base::specs::Iter::pick))]
 fn set_bound(noted: &mut Noted, from: usize, v: usize, x: u32, lit: u16)
     requires { from ≤ 192 }
     ensures { noted.new ≡ bound_set from v x lit noted.old }
@@ -141,6 +120,7 @@ fn set_bound(noted: &mut Noted, from: usize, v: usize, x: u32, lit: u16)
     }
 }
 
+#[tactic(auto, unfolding(crate::specs::Note::edge_set, base::specs::Iter::pick))]
 fn set_edge(noted: &mut Noted, g: usize, x: u32)
     ensures { noted.new ≡ edge_set g x noted.old }
 {
@@ -150,20 +130,16 @@ fn set_edge(noted: &mut Noted, g: usize, x: u32)
 }
 
 // An effect that is due to a literal; undoing one is an effect too.
+#[tactic(auto, unfolding(crate::specs::Note::applied, base::specs::Iter::pick))]
 pub fn apply(noted: &mut Noted, e: Effect, lit: u16)
     ensures { noted.new ≡ applied e lit noted.old }
 {
     let i = e.index as usize;
-    if e.kind == EDGE {
-        set_edge(noted, i, e.value);
-        return;
-    }
-    if e.kind == LOWER_BOUND {
-        set_bound(noted, 128, i, e.value, lit);
-        return;
-    }
-    if e.kind == UPPER_BOUND {
-        set_bound(noted, 192, i, e.value, lit);
+    match e.kind {
+        EDGE => set_edge(noted, i, e.value),
+        LOWER_BOUND => set_bound(noted, 128, i, e.value, lit),
+        UPPER_BOUND => set_bound(noted, 192, i, e.value, lit),
+        _ => {}
     }
 }
 
@@ -171,11 +147,7 @@ pub fn apply(noted: &mut Noted, e: Effect, lit: u16)
 fn push(log: &mut [u64], cursor: Cursor, r: Record) -> Cursor
     ensures { (result ≡ pushed_to log.old cursor) × (log.new ≡ push_words log.old cursor r) }
 {
-    let p = undo_log::push(log, cursor, r);
-    match p {
-        Pushed::Moved(c) => c,
-        Pushed::Full => cursor,
-    }
+    undo_log::push(log, cursor, r).unwrap_or(cursor)
 }
 
 // One slot of the literal's variable is noted.
@@ -199,20 +171,6 @@ fn note_slot(
     c
 }
 
-fn note_occurrence(
-    plan: &[u8],
-    noted: &mut Noted,
-    log: &mut [u64],
-    cursor: Cursor,
-    lit: u16,
-    i: usize,
-) -> Cursor
-    ensures { noting noted.new log.new result ≡ note_slot (words_of plan.now) lit (occurrence_at (words_of plan.now) i) (noting noted.old log.old cursor) }
-{
-    let s = plan::occurrence_at(plan, i) as usize;
-    note_slot(plan, noted, log, cursor, lit, s)
-}
-
 fn note_occurrences(
     plan: &[u8],
     noted: &mut Noted,
@@ -226,10 +184,9 @@ fn note_occurrences(
     ensures { noting noted.new log.new result ≡ iter (λ i y. note_slot (words_of plan.now) lit (occurrence_at (words_of plan.now) (from + i)) y) n (noting noted.old log.old cursor) }
 {
     let mut cur = cursor;
-    let mut i = 0;
-    while i < n {
-        cur = note_occurrence(plan, noted, log, cur, lit, from + i);
-        i += 1;
+    for i in 0..n {
+        let s = plan::occurrence_at(plan, from + i) as usize;
+        cur = note_slot(plan, noted, log, cur, lit, s);
     }
     cur
 }
@@ -245,11 +202,10 @@ fn push_level(log: &mut [u64], cursor: Cursor, lit: u16) -> Cursor
         lit,
     };
     let c = push(log, cursor, r);
-    let standing = c.standing;
-    if standing < log.len() {
+    if c.standing < log.len() {
         return Cursor {
-            used: c.used,
-            standing: standing + 1,
+            standing: c.standing + 1,
+            ..c
         };
     }
     c
@@ -260,14 +216,12 @@ fn halve(plan: &[u8], x: u32, p: Span) -> Span
     requires { (p.low ≤ 4294967296) × (p.high ≤ 4294967296) }
     ensures { result ≡ halved (words_of plan.now) x 0 p }
 {
-    let low = p.low;
-    let high = p.high;
-    if low < high {
-        let mid = low + (high - low) / 2;
+    if p.low < p.high {
+        let mid = p.low + (p.high - p.low) / 2;
         if plan::variable_at(plan, mid) < x {
-            return Span { low: mid + 1, high };
+            return Span { low: mid + 1, ..p };
         }
-        return Span { low, high: mid };
+        return Span { high: mid, ..p };
     }
     p
 }
@@ -279,49 +233,31 @@ fn halve_all(plan: &[u8], x: u32) -> usize
         low: 0,
         high: plan::num_variables(plan) as usize,
     };
-    let mut i: usize = 0;
-    while i < 12 {
+    for _ in 0..12u32 {
         p = halve(plan, x, p);
-        i += 1;
     }
     p.low
-}
-
-// a - b, 0 where b is more.
-fn less(a: u32, b: u32) -> usize
-    ensures { (result ≡ a - b) × (result ≤ 4294967296) }
-{
-    if b < a {
-        return (a - b) as usize;
-    }
-    0
 }
 
 pub(crate) fn place_from_first(plan: &[u8], x: u32) -> usize
     ensures { (result ≡ place_from_first (words_of plan.now) x) × (result ≤ 4294967296) }
 {
-    less(x, plan::variable_at(plan, 0))
+    x.saturating_sub(plan::variable_at(plan, 0)) as usize
 }
 
 fn place_from_last(plan: &[u8], x: u32) -> usize
     ensures { (result ≡ place_from_last (words_of plan.now) x) × (result ≤ 4294967296) }
 {
-    let last = less(plan::num_variables(plan), 1);
-    let back = less(plan::variable_at(plan, last), x);
-    if back < last {
-        return last - back;
-    }
-    0
+    let last = plan::num_variables(plan).saturating_sub(1);
+    let back = plan::variable_at(plan, last as usize).saturating_sub(x);
+    last.saturating_sub(back) as usize
 }
 
 // Whether distinct variable k is x.
 pub(crate) fn is_variable(plan: &[u8], k: usize, x: u32) -> bool
     ensures { result ≡ is_at (words_of plan.now) k x }
 {
-    if k < plan::num_variables(plan) as usize {
-        return plan::variable_at(plan, k) == x;
-    }
-    false
+    k < plan::num_variables(plan) as usize && plan::variable_at(plan, k) == x
 }
 
 // Variable x's place among the distinct variables, if it is one of them: looked up where the variables are a run of numbers or two,
@@ -358,15 +294,11 @@ pub(crate) fn num_occurrences(plan: &[u8], k: usize) -> usize
     requires { k ≤ 4294967296 }
     ensures { (result ≡ start_at (words_of plan.now) (k + 1) - start_at (words_of plan.now) k) × (result < 4294967296) }
 {
-    let from = plan::start_at(plan, k) as usize;
-    let to = plan::start_at(plan, k + 1) as usize;
-    if from < to {
-        return to - from;
-    }
-    0
+    plan::start_at(plan, k + 1).saturating_sub(plan::start_at(plan, k)) as usize
 }
 
 // Every occurrence of the literal's variable, which is distinct variable k, is noted.
+#[tactic(auto, unfolding(crate::specs::Note::note_at))]
 fn note_at(
     plan: &[u8],
     noted: &mut Noted,
@@ -397,6 +329,7 @@ fn note_level(plan: &[u8], noted: &mut Noted, log: &mut [u64], cursor: Cursor, l
 }
 
 // Whether the bounds of vertex v cross.
+#[tactic(auto, unfolding(crate::specs::Words::crosses))]
 fn crosses(noted: &Noted, v: usize) -> bool
     ensures { result ≡ crosses noted.now v }
 {
@@ -408,12 +341,10 @@ pub fn crossed(plan: &[u8], noted: &Noted) -> usize
     ensures { result ≡ crossed_in (words_of plan.now) noted.now }
 {
     let n = capped(plan::num_vertices(plan), 64);
-    let mut v: usize = 0;
-    while v < n {
+    for v in 0..n {
         if crosses(noted, v) {
             return v;
         }
-        v += 1;
     }
     n
 }
@@ -431,9 +362,7 @@ pub fn note(plan: &[u8], noted: &mut Noted, log: &mut [u64], cursor: Cursor, lit
         ≡ note (words_of plan.now) lit (noting noted.old log.old cursor))
         × (result.crossed ≡ crossed_in (words_of plan.now) noted.new) }
 {
-    let c = note_level(plan, noted, log, cursor, lit);
-    Told {
-        cursor: c,
-        crossed: crossed(plan, noted),
-    }
+    let cursor = note_level(plan, noted, log, cursor, lit);
+    let crossed = crossed(plan, noted);
+    Told { cursor, crossed }
 }

@@ -28,14 +28,12 @@ pub struct Place {
     pub at: usize,
 }
 
+#[tactic(auto, unfolding(crate::specs::Replay::holds_at))]
 fn holds_at(log: &[u64], used: usize, at: usize, r: Record) -> bool
     requires { used ≤ length log.now }
     ensures { result ≡ holds_at log.now used at r }
 {
-    if at < used {
-        return log[at] == undo_log::word_of(r);
-    }
-    false
+    at < used && log[at] == undo_log::word_of(r)
 }
 
 // The record that an effect leaves is to stand there.
@@ -51,14 +49,14 @@ fn follow_effect(
     ensures { followed noted.new result ≡ follow_effect log.now used lit e (followed noted.old (place true at)) }
 {
     let r = undo_record(noted, e);
-    if holds_at(log, used, at, r) {
-        apply(noted, e, lit);
-        return Place {
-            ok: true,
-            at: at + 1,
-        };
+    if !holds_at(log, used, at, r) {
+        return Place { ok: false, at };
     }
-    Place { ok: false, at }
+    apply(noted, e, lit);
+    Place {
+        ok: true,
+        at: at + 1,
+    }
 }
 
 // Each effect is made where it is followed, so that its kind is a constant there.
@@ -136,22 +134,6 @@ fn follow_slot(
     Place { ok: true, at }
 }
 
-fn follow_occurrence(
-    plan: &[u8],
-    noted: &mut Noted,
-    log: &[u64],
-    used: usize,
-    lit: u16,
-    i: usize,
-    at: usize,
-) -> Place
-    requires { used ≤ length log.now }
-    ensures { followed noted.new result ≡ follow_slot (words_of plan.now) log.now used lit (occurrence_at (words_of plan.now) i) (followed noted.old (place true at)) }
-{
-    let s = plan::occurrence_at(plan, i) as usize;
-    follow_slot(plan, noted, log, used, lit, s, at)
-}
-
 // Every occurrence of the literal's variable, which is distinct variable k, until the log is other than noting gives.
 fn follow_at(
     plan: &[u8],
@@ -168,34 +150,31 @@ fn follow_at(
     let n = num_occurrences(plan, k);
     let from = plan::start_at(plan, k) as usize;
     let mut at = after;
-    let mut i = 0;
-    while i < n {
-        let p = follow_occurrence(plan, noted, log, used, lit, from + i, at);
-        if p.ok {
-            at = p.at;
-            i += 1;
-            continue;
+    for i in 0..n {
+        let s = plan::occurrence_at(plan, from + i) as usize;
+        let p = follow_slot(plan, noted, log, used, lit, s, at);
+        if !p.ok {
+            return p;
         }
-        return p;
+        at = p.at;
     }
     Place { ok: true, at }
 }
 
+#[tactic(auto, unfolding(crate::specs::Following::mark_in, crate::specs::Replay::marked))]
 fn marked(marks: &Marks, k: usize) -> bool
     ensures { result ≡ marked (marks_of marks.now) k }
 {
-    if k < 2176 {
-        return (marks[k / 64] >> (k % 64)) % 2 != 0;
-    }
-    true
+    k >= 2176 || (marks[k / 64] >> (k % 64)) % 2 != 0
 }
 
+#[tactic(auto, unfolding(crate::specs::Replay::set_mark, base::specs::Iter::pick))]
 fn mark(marks: &mut Marks, k: usize)
     requires { length marks.old ≡ 34 }
     ensures { (marks_of marks.new ≡ set_mark k (marks_of marks.old)) × (length marks.new ≡ 34) }
 {
     if k < 2176 {
-        marks[k / 64] = marks[k / 64] | (1u64 << (k % 64));
+        marks[k / 64] |= 1u64 << (k % 64);
     }
 }
 
@@ -230,15 +209,15 @@ fn replay_level(
 {
     let w = log[at];
     let lit = (w / 65536 % 65536) as u16;
-    if w == 65536 * (lit as u64) {
-        let k = find(plan, sat::variable(lit as u32));
-        if marked(marks, k) {
-            return Place { ok: false, at };
-        }
-        mark(marks, k);
-        return follow_at(plan, noted, log, used, lit, k, at + 1);
+    if w != 65536 * u64::from(lit) {
+        return Place { ok: false, at };
     }
-    Place { ok: false, at }
+    let k = find(plan, sat::variable(u32::from(lit)));
+    if marked(marks, k) {
+        return Place { ok: false, at };
+    }
+    mark(marks, k);
+    follow_at(plan, noted, log, used, lit, k, at + 1)
 }
 
 // Whether the log is as noting gives it, and as many notifications stand as it is said. The definition goes on for `used` turns; those
@@ -256,14 +235,14 @@ fn replay(
 {
     let mut at = 0;
     let mut levels = 0;
+    // A notification has as many records as its literal has effects, so that `at` goes on by more than one.
     while at < used {
         let p = replay_level(plan, noted, marks, log, used, at);
-        if p.ok {
-            at = p.at;
-            levels += 1;
-            continue;
+        if !p.ok {
+            return false;
         }
-        return false;
+        at = p.at;
+        levels += 1;
     }
     levels == count
 }
@@ -274,14 +253,8 @@ fn words_differ(a: &Noted, b: &Noted, from: usize, n: usize) -> bool
     ensures { result ≡ some (word_differs a.now b.now from) n }
 {
     let mut found = false;
-    let mut i = 0;
-    while i < n {
-        if a[from + i] == b[from + i] {
-            i += 1;
-            continue;
-        }
-        found = true;
-        i += 1;
+    for i in 0..n {
+        found |= a[from + i] != b[from + i];
     }
     found
 }
@@ -291,19 +264,11 @@ fn noted_differs(plan: &[u8], a: &Noted, b: &Noted) -> bool
 {
     let edges = capped(plan::num_edges(plan), 128);
     let n = capped(plan::num_vertices(plan), 64);
-    if words_differ(a, b, 0, edges) {
-        return true;
-    }
-    if words_differ(a, b, 128, n) {
-        return true;
-    }
-    if words_differ(a, b, 192, n) {
-        return true;
-    }
-    if words_differ(a, b, 256, n) {
-        return true;
-    }
-    words_differ(a, b, 320, n)
+    words_differ(a, b, 0, edges)
+        || words_differ(a, b, 128, n)
+        || words_differ(a, b, 192, n)
+        || words_differ(a, b, 256, n)
+        || words_differ(a, b, 320, n)
 }
 
 // Whether noting the log's literals afresh gives another log, another number of notifications or other noted words.
@@ -314,19 +279,13 @@ fn differs(plan: &[u8], noted: &Noted, log: &[u64], used: usize, count: usize) -
     let mut work = [0u32; 384];
     let mut marks = [0u64; 34];
     fresh_bounds(plan, &mut work);
-    if replay(plan, &mut work, &mut marks, log, used, count) {
-        return noted_differs(plan, &work, noted);
-    }
-    true
+    !replay(plan, &mut work, &mut marks, log, used, count) || noted_differs(plan, &work, noted)
 }
 
 // The last part of refusal 7.
+#[tactic(auto, unfolding(crate::specs::Replay::log_bad))]
 pub fn log_bad(plan: &[u8], noted: &Noted, log: &[u64], cursor: Cursor) -> bool
     ensures { result ≡ log_bad (words_of plan.now) noted.now log.now cursor }
 {
-    let used = cursor.used;
-    if log.len() < used {
-        return true;
-    }
-    differs(plan, noted, log, used, cursor.standing)
+    log.len() < cursor.used || differs(plan, noted, log, cursor.used, cursor.standing)
 }

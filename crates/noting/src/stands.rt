@@ -13,15 +13,9 @@ fn variable_in(log: &[u64], n: usize, x: u16) -> bool
     ensures { result ≡ has_variable x (standing (records_of log.now n)) }
 {
     let mut found = false;
-    let mut i = 0;
-    while i < n {
+    for i in 0..n {
         let w = (log[i] % 4294967296) as u32;
-        if 65536 * (w % 256) + w / 131072 == x as u32 {
-            found = true;
-            i += 1;
-            continue;
-        }
-        i += 1;
+        found |= 65536 * (w % 256) + w / 131072 == u32::from(x);
     }
     found
 }
@@ -32,10 +26,7 @@ pub fn variable_stands(log: &[u64], used: usize, x: u16) -> bool
 {
     let len = log.len();
     if len < used {
-        if x == 0 {
-            return true;
-        }
-        return variable_in(log, len, x);
+        return x == 0 || variable_in(log, len, x);
     }
     variable_in(log, used, x)
 }
@@ -44,10 +35,8 @@ pub fn variable_stands(log: &[u64], used: usize, x: u16) -> bool
 pub fn newest(log: &[u64], used: usize) -> u16
     ensures { result ≡ newest (standing (records_of log.now used)) }
 {
-    let mut left = used;
-    while 0 < left {
-        left -= 1;
-        let r = record_at(log, left);
+    for i in (0..used).rev() {
+        let r = record_at(log, i);
         if r.kind == LEVEL_BOUNDARY {
             return r.lit;
         }
@@ -56,6 +45,7 @@ pub fn newest(log: &[u64], used: usize) -> u16
 }
 
 // Whether the literal is not the newest that stands: refusal 11.
+#[tactic(auto, unfolding(crate::specs::Standing::not_newest))]
 pub fn not_newest(log: &[u64], used: usize, lit: u16) -> bool
     ensures { result ≡ not_newest lit (standing (records_of log.now used)) }
 {

@@ -12,29 +12,19 @@ use undo_log::{Cursor, EDGE, LEVEL_BOUNDARY, Record};
 pub fn record_at(log: &[u64], i: usize) -> Record
     ensures { result ≡ record_of (get_or log.now i 0) }
 {
-    if i < log.len() {
-        return undo_log::record_of(log[i]);
-    }
-    undo_log::record_of(0)
+    undo_log::record_of(log.get(i).copied().unwrap_or(0))
 }
 
 // An edge becomes undecided whatever it was; a bound and its literal as recorded.
+#[tactic(auto, unfolding(crate::specs::Undo::restored, base::specs::Iter::pick))]
 fn restore(noted: &mut Noted, r: Record)
     ensures { noted.new ≡ restored r noted.old }
 {
-    if r.kind == EDGE {
-        let e = Effect {
-            kind: r.kind,
-            index: r.index,
-            value: UNDECIDED,
-        };
-        apply(noted, e, r.lit);
-        return;
-    }
+    let value = if r.kind == EDGE { UNDECIDED } else { r.bound };
     let e = Effect {
         kind: r.kind,
         index: r.index,
-        value: r.bound,
+        value,
     };
     apply(noted, e, r.lit);
 }
@@ -43,29 +33,22 @@ fn restore(noted: &mut Noted, r: Record)
 fn take_back(noted: &mut Noted, log: &[u64], n: usize) -> usize
     ensures { (noted.new ≡ undone (records_of log.now n) noted.old) × (result ≡ kept (records_of log.now n)) }
 {
-    let mut left = n;
-    while 0 < left {
-        left -= 1;
-        let r = record_at(log, left);
+    for i in (0..n).rev() {
+        let r = record_at(log, i);
         if r.kind == LEVEL_BOUNDARY {
-            return left;
+            return i;
         }
         restore(noted, r);
     }
-    left
+    0
 }
 
 // The newest notification is undone. The popped records stay in the log as they are.
 pub fn undo(noted: &mut Noted, log: &[u64], cursor: Cursor) -> Cursor
     ensures { noting noted.new log.now result ≡ undo (noting noted.old log.now cursor) }
 {
-    let used = take_back(noted, log, cursor.used);
-    let standing = cursor.standing;
-    if standing == 0 {
-        return Cursor { used, standing: 0 };
-    }
     Cursor {
-        used,
-        standing: standing - 1,
+        used: take_back(noted, log, cursor.used),
+        standing: cursor.standing.saturating_sub(1),
     }
 }

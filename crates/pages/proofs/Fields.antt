@@ -18,35 +18,10 @@ use Rattle.text_writer.proofs.Putting.{length_put, put_none, put_one, put_put, p
 use Rattle.pages.specs.Line.{field, upper_text, head_text, numbers_text, line}
 use Rattle.pages.specs.Lines.{set_line, Figures, region_line, is_label}
 use Rattle.pages.specs.Lines.{num_regions, line_of, page_text, page_buffer, printed_in}
-use Rattle.pages.specs.declared.Printed.TheVariants.{Bytes, TooSmall, Unknown}
+use Rattle.std.specs.Prelude.{Ok, Err}
+use Rattle.pages.specs.declared.PageError.TheVariants.{TooSmall, Unknown}
 
 -- ---- spaces
-one_behind : (i x : ℕ) → x ∷ replicate i x ≡ replicate i x ++ (x ∷ [])
-one_behind zero x = refl
-one_behind (suc i) x = ap (λ (l : List ℕ). x ∷ l) (one_behind i x)
-
-pub record Spaced (k at : ℕ) (buf₀ buf : List ℕ) (i : ℕ) : Type 0 where
-  pub most : i ≤ k
-  pub is : buf ≡ put buf₀ at (replicate i 32)
-  pub long : length buf ≡ length buf₀
-
-pub spaced_none : (k at : ℕ) (buf : List ℕ) → Spaced k at buf buf 0
-spaced_none k at buf = record { most = omega arith; is = sym (put_none buf at); long = refl }
-
-pub spaced_more : (k at : ℕ) (buf₀ buf : List ℕ) (i : ℕ) → i < k → at + k ≤ length buf₀ →
-    Spaced k at buf₀ buf i → Spaced k at buf₀ (set buf (at + i) 32) (i + 1)
-spaced_more k at buf₀ buf i h l s =
-    let r = length-replicate {A = ℕ} i 32 in
-    let q = length-replicate {A = ℕ} (i + 1) 32 in
-    let m = ap (λ (j : ℕ). replicate j 32) (add-one i) ∙ one_behind i 32 in
-    let e : set buf (at + i) 32 ≡ put buf₀ at (replicate (i + 1) 32) =
-    put_last buf₀ (replicate i 32) buf at (at + i) 32 (omega arith) (omega arith) s.is ∙ ap (put buf₀ at) (sym m) in
-    record { most = omega arith; is = e; long = ap length e ∙ length_put buf₀ (replicate (i + 1) 32) at (omega arith) }
-
-pub spaced_done : (k at : ℕ) (buf₀ buf : List ℕ) (i : ℕ) → k ≤ i → Spaced k at buf₀ buf i →
-    buf ≡ put buf₀ at (replicate k 32)
-spaced_done k at buf₀ buf i h s =
-    let z : i ≡ k = omega (arith, s.most) in s.is ∙ ap (λ (j : ℕ). put buf₀ at (replicate j 32)) z
 
 -- ---- one field
 pub field_long : (w : ℕ) (t : List ℕ) → length t ≤ w → length (field w t) ≡ w
@@ -283,21 +258,21 @@ lined_done t n page₀ page at r h s =
 
 -- ---- the answer
 module _ (t : Figures) (n : ℕ) (p : List ℕ) where
-  pub page_unknown : 64 < n → page_buffer Unknown p ≡ printed_in t n p
+  pub page_unknown : 64 < n → page_buffer (Err Unknown) p ≡ printed_in t n p
   unfolding printed_in
   page_unknown h = sym (pick_yes _ _ (lt-ltb _ _ h))
 
   pub page_small : (k : ℕ) → k ≡ num_regions t.label n → n ≤ 64 → length p < 39 * k →
-      page_buffer TooSmall p ≡ printed_in t n p
+      page_buffer (Err TooSmall) p ≡ printed_in t n p
   unfolding printed_in
   page_small k e h l =
       let small = lt-ltb _ _ (subst (λ (x : ℕ). length p < 39 * x) e l) in
       sym (pick_no _ _ (le-ltb _ _ h) ∙ pick_yes _ _ small)
 
   pub page_told : (k : ℕ) (p' : List ℕ) → k ≡ num_regions t.label n → n ≤ 64 → 39 * k ≤ length p →
-      p' ≡ put p 0 (page_text t n) → page_buffer (Bytes (39 * k)) p' ≡ printed_in t n p
+      p' ≡ put p 0 (page_text t n) → page_buffer (Ok (39 * k)) p' ≡ printed_in t n p
   unfolding printed_in
   page_told k p' e h l i =
       let fits = le-ltb _ _ (subst (λ (x : ℕ). 39 * x ≤ length p) e l) in
-      ap₂ (λ (x : ℕ) (y : List ℕ). page_buffer (Bytes (39 * x)) y) e i
+      ap₂ (λ (x : ℕ) (y : List ℕ). page_buffer (Ok (39 * x)) y) e i
       ∙ sym (pick_no _ _ (le-ltb _ _ h) ∙ pick_no _ _ fits)

@@ -11,7 +11,8 @@ use lib.Seq.{sets, sets-eq}
 use Rattle.base.specs.Iter.{pick}
 use Rattle.base.specs.Lists.{collect, total}
 use Rattle.text_writer.specs.Written.{put}
-use Rattle.pages.specs.declared.Printed.TheVariants.{Bytes, TooSmall, Unknown}
+use Rattle.std.specs.Prelude.{Ok, Err}
+use Rattle.pages.specs.declared.PageError.TheVariants.{TooSmall, Unknown}
 use Rattle.pages.specs.Sets.{bits, set_of}
 use Rattle.pages.specs.Lines.{set_line, Figures, region_line, is_label, num_regions, line_of, page_text}
 use Rattle.pages.specs.Lines.{page_buffer, printed_in}
@@ -68,8 +69,8 @@ module _ (n : ℕ) (t u : Figures) (q : SameFigures n t u) where
   pub printed_same : (b : List ℕ) → printed_in t n b ≡ printed_in u n b
   unfolding printed_in
   printed_same b =
-      ap₂ (λ (k : ℕ) (l : List ℕ). pick (ltb 64 n) (page_buffer Unknown b)
-      (pick (ltb (length b) (39 * k)) (page_buffer TooSmall b) (page_buffer (Bytes (39 * k)) (put b 0 l))))
+      ap₂ (λ (k : ℕ) (l : List ℕ). pick (ltb 64 n) (page_buffer (Err Unknown) b)
+      (pick (ltb (length b) (39 * k)) (page_buffer (Err TooSmall) b) (page_buffer (Ok (39 * k)) (put b 0 l))))
       regions_same page_same
 
 -- the bytes stand from the buffer's start on, where they fit

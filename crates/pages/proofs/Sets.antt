@@ -5,6 +5,7 @@ use lib.Pow.{pow_mono}
 use native.Mathlib.Omega.{arith}
 use mathlib.Core.Path.{◌≡◌, refl, sym, ◌∙◌, ap, ap₂}
 use mathlib.Core.Bool.{Bool, true, false}
+use mir.Val.{bool_byte}
 use lib.Count.{count_trailing_zeros, under}
 use Rattle.base.specs.Iter.{pick}
 use Rattle.base.proofs.Loop.{pick_yes, pick_no}
@@ -14,6 +15,12 @@ pub one_le : (b : Bool) → pick {A = ℕ} b 1 0 ≤ 1
 unfolding pick
 one_le true = omega arith
 one_le false = omega arith
+
+-- a test as a number
+pub bit_of : (b : Bool) → bool_byte b ≡ pick b 1 0
+unfolding pick
+bit_of true = refl
+bit_of false = refl
 
 module _ (b : ℕ → Bool) where
   pub bits_small : (v k : ℕ) → bits b v k < 2 ^ k

@@ -1,13 +1,13 @@
 -- Document 02, request 3: "Print one line for each region, in order of its lowest pen".
-use Rattle.std.specs.Prelude.{ℕ, ◌*◌, Bool, List, [], eqb, ltb, length, get_or}
+use Rattle.std.specs.Prelude.{ℕ, ◌*◌, Bool, List, [], eqb, ltb, length, get_or, Result, Ok, Err}
 use Rattle.std.specs.Int.Count.{ones, count_trailing_zeros}
 use Rattle.base.specs.Iter.{pick}
 use Rattle.base.specs.Lists.{collect, total}
 use Rattle.text_writer.specs.Written.{put}
 use Rattle.pages.specs.Sets.{set_of}
 use Rattle.pages.specs.Line.{line}
-use Rattle.pages.specs.declared.Printed.{Printed}
-use Rattle.pages.specs.declared.Printed.TheVariants.{Bytes, TooSmall, Unknown}
+use Rattle.pages.specs.declared.PageError.{PageError}
+use Rattle.pages.specs.declared.PageError.TheVariants.{TooSmall, Unknown}
 
 -- what is known of the regions: the label of each vertex, and at a label the region's weight and bounds
 pub record Figures : Type 0 where
@@ -49,15 +49,15 @@ page_text t n = collect (line_of t n) n
 
 -- what is answered, and the buffer then
 pub record PageBuffer : Type 0 where
-  pub printed : Printed
+  pub printed : Result ℕ PageError
   pub buffer : List ℕ
 
-abbrev pub page_buffer : Printed → List ℕ → PageBuffer
+abbrev pub page_buffer : Result ℕ PageError → List ℕ → PageBuffer
 page_buffer r b = record { printed = r; buffer = b }
 
 -- "so 39 bytes": the page from the buffer's start on, where it fits; all else of it stays
 unfoldable pub printed_in : Figures → ℕ → List ℕ → PageBuffer
 printed_in t n b =
-    pick (ltb 64 n) (page_buffer Unknown b)
-    (pick (ltb (length b) (39 * num_regions t.label n)) (page_buffer TooSmall b)
-    (page_buffer (Bytes (39 * num_regions t.label n)) (put b 0 (page_text t n))))
+    pick (ltb 64 n) (page_buffer (Err Unknown) b)
+    (pick (ltb (length b) (39 * num_regions t.label n)) (page_buffer (Err TooSmall) b)
+    (page_buffer (Ok (39 * num_regions t.label n)) (put b 0 (page_text t n))))

@@ -12,28 +12,15 @@ ghost use Rattle.pages.specs.Line.{field, upper_text, head_text, numbers_text};
 ghost use Rattle.pages.specs.Lines.{set_line, figures_of, is_label};
 ghost use Rattle.pages.specs.Lines.{num_regions, line_of, page_text, page_buffer, printed_in};
 
-use graph::bounds::wide;
 use text_writer::{count_digits, write_number};
 
+// Why there is no page. Nothing was written.
 #[derive(Clone, Copy)]
-pub enum Printed {
-    // The page has so many bytes, from the buffer's start on.
-    Bytes(usize),
-    // The buffer has no room for the page. Nothing was written.
+pub enum PageError {
+    // The buffer has no room for the page.
     TooSmall,
-    // There are more than 64 vertices. Nothing was written.
+    // There are more than 64 vertices.
     Unknown,
-}
-
-// The bit of vertex v in the set of the region with label r.
-fn member(labels: &[u8; 64], r: u8, v: usize) -> u64
-    requires { v < 64 }
-    ensures { result ≡ pick (eqb (get_or labels.now v 0) r) 1 0 }
-{
-    if labels[v] == r {
-        return 1;
-    }
-    0
 }
 
 // The vertices with label r, of n; from the highest vertex down, so that each turn makes room for one bit more.
@@ -42,33 +29,17 @@ fn region_set(labels: &[u8; 64], n: usize, r: u8) -> u64
     ensures { result ≡ set_of (λ v. get_or labels.now v 0) n r }
 {
     let mut set: u64 = 0;
-    let mut v = n;
-    while 0 < v {
-        v -= 1;
-        set = 2 * set + member(labels, r, v);
+    for v in (0..n).rev() {
+        set = 2 * set + u64::from(labels[v] == r);
     }
     set
-}
-
-fn num_vertices(set: u64) -> u32
-    ensures { result ≡ ones set }
-{
-    u64::count_ones(set)
-}
-
-fn lowest_vertex(set: u64) -> u32
-    ensures { result ≡ count_trailing_zeros 64 set }
-{
-    u64::trailing_zeros(set)
 }
 
 fn write_spaces(buf: &mut [u8], at: usize, k: usize)
     requires { at + k ≤ length buf.old }
     ensures { buf.new ≡ put buf.old at (replicate k 32) }
 {
-    for i in 0..k {
-        buf[at + i] = b' ';
-    }
+    buf[at..at + k].fill(b' ');
 }
 
 // A number, right-aligned.
@@ -101,8 +72,8 @@ fn write_head(set: u64, buf: &mut [u8], at: usize)
     ensures { (buf.new ≡ put buf.old at (head_text (count_trailing_zeros 64 set) (ones set))) ×
         (length (head_text (count_trailing_zeros 64 set) (ones set)) ≡ 8) }
 {
-    write_field(lowest_vertex(set), 4, buf, at);
-    write_field(num_vertices(set), 4, buf, at + 4);
+    write_field(set.trailing_zeros(), 4, buf, at);
+    write_field(set.count_ones(), 4, buf, at + 4);
 }
 
 // The weight and the bounds, ten bytes wide each.
@@ -126,24 +97,13 @@ fn write_line(set: u64, weight: u32, lower: u32, upper: u32, buf: &mut [u8], at:
     buf[at + 38] = b'\n';
 }
 
-// 1 where r is a region's label.
-fn count_region(labels: &[u8; 64], r: usize) -> usize
-    requires { r < 64 }
-    ensures { result ≡ pick (is_label (λ v. get_or labels.now v 0) r) 1 0 }
-{
-    if wide(labels[r]) == r {
-        return 1;
-    }
-    0
-}
-
 fn count_regions(labels: &[u8; 64], n: usize) -> usize
     requires { n ≤ 64 }
     ensures { result ≡ num_regions (λ v. get_or labels.now v 0) n }
 {
     let mut count = 0;
     for r in 0..n {
-        count = count + count_region(labels, r);
+        count += usize::from(usize::from(labels[r]) == r);
     }
     count
 }
@@ -166,7 +126,7 @@ fn write_region(
         (page.new ≡ put page.old at (line_of t n r)) ×
         (length (line_of t n r) ≡ 39 * pick (is_label t.label r) 1 0) }
 {
-    if wide(labels[r]) == r {
+    if usize::from(labels[r]) == r {
         let set = region_set(labels, n, r as u8);
         write_line(set, weights[r], lowers[r], uppers[r], page, at);
         return at + 39;
@@ -192,8 +152,8 @@ fn write_lines(
     }
 }
 
-// The page of the regions whose labels, weights and bounds these are, from the buffer's start on. The weight and the
-// bounds of a region stand at its label, which is its lowest vertex.
+// The page of the regions whose labels, weights and bounds these are, from the buffer's start on, and how many bytes it has.
+// The weight and the bounds of a region stand at its label, which is its lowest vertex.
 pub fn print_page(
     labels: &[u8; 64],
     weights: &[u32; 64],
@@ -201,17 +161,17 @@ pub fn print_page(
     uppers: &[u32; 64],
     n: usize,
     page: &mut [u8],
-) -> Printed
+) -> Result<usize, PageError>
     ensures { page_buffer result page.new ≡ printed_in (figures_of labels.now weights.now
         lowers.now uppers.now) n page.old }
 {
     if 64 < n {
-        return Printed::Unknown;
+        return Err(PageError::Unknown);
     }
     let size = 39 * count_regions(labels, n);
     if page.len() < size {
-        return Printed::TooSmall;
+        return Err(PageError::TooSmall);
     }
     write_lines(labels, weights, lowers, uppers, n, page);
-    Printed::Bytes(size)
+    Ok(size)
 }

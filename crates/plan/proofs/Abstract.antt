@@ -3,14 +3,14 @@ use mathlib.Core.Path.{◌≡◌, ap, ◌∙◌}
 use mathlib.Core.Logic.{⊎_elim}
 use mathlib.Core.Bool.{true}
 use mathlib.Core.List.{List}
-use Prim.Native.Nat.{ℕ, suc, ◌+◌, ◌*◌, ◌/◌, ◌%◌, ◌≤◌, ◌<◌}
+use Prim.Native.Nat.{ℕ, suc, ◌+◌, ◌*◌, ◌/◌, ◌%◌, ◌<◌}
 use native.Mathlib.Omega.{arith}
 use Rattle.base.proofs.Loop.{eq_or_not}
 use Rattle.division.specs.Plan.{Proper}
 use Rattle.plan.specs.Words.{variables_of, lit_of, place_of, variable_at, start_at, occurrence_at, unique_lit_at}
 use Rattle.plan.specs.Plan.{plan_of}
 use Rattle.plan.specs.Check.{used_slot}
-use Rattle.plan.specs.Proper.{Filed, Listed, ProperWords}
+use Rattle.plan.specs.Proper.{ProperWords}
 
 module _ (ws : List ℕ) (ends : List (List ℕ)) (p : ProperWords ws ends) where
   pub proper_plan : Proper (plan_of ws ends)

@@ -1,4 +1,3 @@
-pub mod CheckCases
 pub mod Passed
 pub mod Count
 pub mod Once

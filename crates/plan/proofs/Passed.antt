@@ -1,12 +1,10 @@
 -- What each passed test of the plan's own test leaves.
-use mathlib.Core.Path.{◌≡◌, refl, sym, ap, subst, ◌∙◌}
-use mathlib.Core.Logic.{⊎_elim}
-use mathlib.Core.Bool.{Bool, true, false, not, ◌&&◌, ◌||◌}
+use mathlib.Core.Path.{◌≡◌}
+use mathlib.Core.Bool.{false}
 use mathlib.Core.List.{List}
-use Prim.Native.Nat.{ℕ, zero, suc, pred, ◌+◌, ◌-◌, ◌*◌, ◌/◌, ◌%◌, ◌≤◌, ◌<◌}
-use native.Mathlib.Omega.{arith}
-use lib.Dec.{eqb, ltb, leb}
-use borrow.Author.Tests.{ltb-false, ltb-true, leb-false, eqb-true, lt-ltb, le-leb}
+use Prim.Native.Nat.{ℕ, ◌≤◌}
+use lib.Dec.{ltb}
+use borrow.Author.Tests.{ltb-false, eqb-true}
 use Rattle.base.specs.Lists.{some}
 use Rattle.base.proofs.Tests.{or_none, not_false}
 use Rattle.base.proofs.Some.{some_none}

@@ -1,20 +1,18 @@
 -- Whatever is proper passes the plan's own test.
-use mathlib.Core.Path.{◌≡◌, refl, sym, ap, subst, ◌∙◌}
-use mathlib.Core.Bool.{Bool, true, false, not, ◌&&◌, ◌||◌}
-use mathlib.Core.List.{List, []}
-use Prim.Native.Nat.{ℕ, zero, suc, pred, ◌+◌, ◌-◌, ◌*◌, ◌/◌, ◌%◌, ◌≤◌, ◌<◌}
+use mathlib.Core.Path.{◌≡◌, sym, ap, subst, ◌∙◌}
+use mathlib.Core.Bool.{true, false, not}
+use mathlib.Core.List.{List}
+use Prim.Native.Nat.{ℕ, zero, suc, ◌+◌, ◌-◌, ◌*◌, ◌/◌, ◌%◌, ◌≤◌, ◌<◌}
 use native.Mathlib.Omega.{arith}
 use native.Mathlib.Numerals.{add-one}
 use lib.Dec.{eqb, ltb, leb}
-use lib.ListN.{get_or}
 use borrow.Author.Tests.{ltb-true, lt-ltb, le-ltb, lt-leb, eq-eqb}
-use Rattle.base.specs.Lists.{some}
 use Rattle.base.proofs.Loop.{pick_yes, pick_no}
 use Rattle.base.proofs.Tests.{or_both, and_either, and_next}
 use Rattle.base.proofs.Some.{some_all}
-use Rattle.plan.specs.Words.{word, vertices_of, edges_of, variables_of, slots_of, weight_of, domain_len_of, domain_of, lit_of, place_of, position_of, variable_at, start_at, occurrence_at}
-use Rattle.plan.specs.Check.{counts_bad, used_slot, entry_bad, vertex_bad, edge_bad, occurrence_bad, variable_order_bad, variable_bad, slot_count, starts_bad, plan_bad}
-use Rattle.plan.specs.Proper.{Filed, Listed, ProperWords}
+use Rattle.plan.specs.Words.{vertices_of, edges_of, variables_of, slots_of, domain_len_of, domain_of, lit_of, place_of, position_of, variable_at, start_at, occurrence_at}
+use Rattle.plan.specs.Check.{counts_bad, used_slot, entry_bad, vertex_bad, edge_bad, occurrence_bad, variable_order_bad, variable_bad, starts_bad, plan_bad}
+use Rattle.plan.specs.Proper.{ProperWords}
 use Rattle.plan.proofs.Once.{located, rises_from}
 
 -- a test for equality that passes, as the plan's own test asks it

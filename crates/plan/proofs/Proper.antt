@@ -1,24 +1,22 @@
 -- Whatever passes the plan's own test is proper.
-use mathlib.Core.Path.{◌≡◌, refl, sym, ap, subst, ◌∙◌}
-use mathlib.Core.Logic.{⊎_elim}
-use mathlib.Core.Bool.{Bool, true, false, not, ◌&&◌, ◌||◌}
+use mathlib.Core.Path.{◌≡◌, sym, ap, subst, ◌∙◌}
+use mathlib.Core.Bool.{true, false, not, ◌&&◌}
 use mathlib.Core.List.{List, []}
-use Prim.Native.Nat.{ℕ, zero, suc, pred, ◌+◌, ◌-◌, ◌*◌, ◌/◌, ◌%◌, ◌≤◌, ◌<◌}
+use Prim.Native.Nat.{ℕ, suc, ◌+◌, ◌-◌, ◌*◌, ◌/◌, ◌%◌, ◌≤◌, ◌<◌}
 use native.Mathlib.Omega.{arith}
 use native.Mathlib.Numerals.{add-one}
 use lib.Dec.{eqb, ltb, leb}
 use lib.ListN.{get_or}
-use borrow.Author.Tests.{ltb-false, ltb-true, leb-false, eqb-true, lt-ltb, le-ltb}
-use Rattle.base.specs.Iter.{pick}
+use borrow.Author.Tests.{ltb-false, ltb-true, leb-false, eqb-true, lt-ltb}
 use Rattle.base.specs.Lists.{some}
 use Rattle.base.proofs.Loop.{pick_yes, pick_no, tested}
 use Rattle.base.proofs.Tests.{or_none, not_false, and_rest, and_left, and_right}
 use Rattle.base.proofs.Some.{some_none}
-use Rattle.graph.specs.Bounds.{Fine, Within}
+use Rattle.graph.specs.Bounds.{Within}
 use Rattle.plan.specs.Words.{vertices_of, edges_of, variables_of, slots_of, weight_of, domain_len_of, domain_of, lit_of, place_of, position_of, variable_at, start_at, occurrence_at}
 use Rattle.plan.specs.Check.{counts_bad, used_slot, entry_bad, vertex_bad, edge_bad, occurrence_bad, variable_order_bad, variable_bad, slot_count, starts_bad, plan_bad}
-use Rattle.plan.specs.Proper.{Filed, Listed, ProperWords}
-use Rattle.plan.proofs.Passed.{Sized, sized}
+use Rattle.plan.specs.Proper.{Listed, ProperWords}
+use Rattle.plan.proofs.Passed.{sized}
 use Rattle.plan.proofs.Once.{all_filed}
 
 module _ (ws : List ℕ) where

@@ -1,5 +1,5 @@
 -- What the calls rely on: the words and the edge table of a plan that passes its own test.
-use Rattle.std.specs.Prelude.{◌≡◌, true, List, ℕ, suc, ◌+◌, ◌*◌, ◌/◌, ◌%◌, ◌<◌, ◌≤◌}
+use Rattle.std.specs.Prelude.{◌≡◌, true, List, ℕ, suc, ◌/◌, ◌%◌, ◌<◌, ◌≤◌}
 use Rattle.graph.specs.Bounds.{Fine}
 use Rattle.plan.specs.Words.{word, vertices_of, edges_of, variables_of, slots_of, mark_of, built_mark, weight_of, domain_len_of, domain_of, lit_of, place_of, position_of, variable_at, start_at, occurrence_at}
 use Rattle.plan.specs.Check.{used_slot, slot_count}

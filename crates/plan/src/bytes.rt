@@ -32,10 +32,8 @@ pub fn bytes_of(words: &Plan) -> PlanBytes
     ensures { (i : ℕ) → i < 15241 → word (words_of result.bytes) i ≡ word words.now i }
 {
     let mut bytes = no_bytes();
-    let mut i = 0;
-    while i < 15241 {
+    for i in 0..15241 {
         put_word(&mut bytes, i, words[i]);
-        i += 1;
     }
-    PlanBytes { bytes: bytes }
+    PlanBytes { bytes }
 }

@@ -18,6 +18,7 @@ pub type Plan = [u32; PLAN_WORDS];
 pub const BUILT: u32 = 1;
 
 // Fewer bytes than a plan has hold no words: each counts as 0.
+#[tactic(auto, using(crate::proofs::Reading::word_in, crate::proofs::Reading::word_none), unfolding(base::specs::Bytes::word_at))]
 pub(crate) fn word(plan: &[u8], i: usize) -> u32
     requires { i < 15241 }
     ensures { result ≡ word (words_of plan.now) i }
@@ -26,30 +27,27 @@ pub(crate) fn word(plan: &[u8], i: usize) -> u32
         return 0;
     }
     let at = 4 * i;
-    base::word_of(plan[at], plan[at + 1], plan[at + 2], plan[at + 3])
+    u32::from_le_bytes([plan[at], plan[at + 1], plan[at + 2], plan[at + 3]])
 }
 
+#[tactic(auto, unfolding(crate::specs::Words::entry, base::specs::Iter::pick))]
 fn entry(plan: &[u8], from: usize, n: usize, i: usize) -> u32
     requires { from + n ≤ 15241 }
     ensures { result ≡ entry from n (words_of plan.now) i }
 {
-    if i < n {
-        return word(plan, from + i);
-    }
-    0
+    if i < n { word(plan, from + i) } else { 0 }
 }
 
+#[tactic(auto, unfolding(crate::specs::Words::cell, base::specs::Iter::pick))]
 fn cell(plan: &[u8], from: usize, v: usize, j: usize) -> u32
     requires { from + 2048 ≤ 15241 }
     ensures { result ≡ cell from (words_of plan.now) v j }
 {
-    if v < 64 {
-        if j < 32 {
-            return word(plan, from + 32 * v + j);
-        }
-        return 0;
+    if v < 64 && j < 32 {
+        word(plan, from + 32 * v + j)
+    } else {
+        0
     }
-    0
 }
 
 pub fn num_vertices(plan: &[u8]) -> u32
@@ -140,14 +138,11 @@ pub fn variable_at(plan: &[u8], k: usize) -> u32
 }
 
 // At most 2176, so that no loop over a variable's occurrences is longer, whatever the words are.
+#[tactic(auto, unfolding(crate::specs::Words::start_at, base::specs::Iter::pick))]
 pub fn start_at(plan: &[u8], k: usize) -> u32
     ensures { result ≡ start_at (words_of plan.now) k }
 {
-    let x = entry(plan, 10888, 2177, k);
-    if 2176 < x {
-        return 2176;
-    }
-    x
+    entry(plan, 10888, 2177, k).min(2176)
 }
 
 pub fn occurrence_at(plan: &[u8], i: usize) -> u32
@@ -172,5 +167,5 @@ pub fn dom_lit(plan: &[u8], v: usize, j: usize) -> u32
 pub fn unique_lit(plan: &[u8], p: usize) -> u64
     ensures { result ≡ unique_lit_at (words_of plan.now) p }
 {
-    2 * (variable_at(plan, p / 2) as u64) + (p % 2) as u64
+    2 * u64::from(variable_at(plan, p / 2)) + (p % 2) as u64
 }

@@ -37,21 +37,10 @@ fn one_more(n: usize) -> usize
 fn as_number(n: usize) -> i32
     ensures { result ≡ as_number n }
 {
-    if n < 1000000 {
-        return n as i32;
-    }
-    1000000
+    n.min(1000000) as i32
 }
 
-fn less(n: usize, k: usize) -> usize
-    ensures { result ≡ n - k }
-{
-    if n < k {
-        return 0;
-    }
-    n - k
-}
-
+// A call's result is known to fit 32 bits, which is not known of an array's element.
 fn number_at(values: &[i32; 32], j: usize) -> i32
     requires { j < 32 }
     ensures { result ≡ get_or values.now j (pos 0) }
@@ -64,10 +53,8 @@ fn put_row(values: &[i32; 32], at: usize, vertices: &mut VertexNumbers)
     requires { at + 32 ≤ 4288 }
     ensures { vertices.new ≡ row_put at values.now vertices.old }
 {
-    let mut j = 0;
-    while j < 32 {
+    for j in 0..32 {
         vertices[at + j] = number_at(values, j);
-        j += 1;
     }
 }
 
@@ -87,7 +74,7 @@ fn put_head(weight: i32, sizes: usize, count: usize, v: usize, vertices: &mut Ve
 {
     vertices[67 * v] = weight;
     vertices[67 * v + 1] = as_number(sizes);
-    vertices[67 * v + 2] = as_number(less(count, sizes));
+    vertices[67 * v + 2] = as_number(count.saturating_sub(sizes));
 }
 
 // The literals follow the sizes. With more than 32 sizes the plan is refused, whatever they are.
@@ -95,10 +82,9 @@ fn put_lits(line: &[u8], sizes: usize, v: usize, vertices: &mut VertexNumbers)
     requires { v < 64 }
     ensures { vertices.new ≡ lits_put line.now sizes v vertices.old }
 {
-    if 32 < sizes {
-        return;
+    if sizes <= 32 {
+        put_numbers(line, 2 + sizes, 67 * v + 35, vertices);
     }
-    put_numbers(line, 2 + sizes, 67 * v + 35, vertices);
 }
 
 // Of the `count` numbers after the k on a P line the first `sizes` are sizes and the others literals. A vertex past the
@@ -136,8 +122,8 @@ fn with_options(c: Counts, same_size: bool, extra_walls: bool) -> Counts
     ensures { result ≡ counts c.vertices c.edges same_size extra_walls }
 {
     Counts {
-        same_size: same_size,
-        extra_walls: extra_walls,
+        same_size,
+        extra_walls,
         ..c
     }
 }
@@ -186,16 +172,13 @@ fn take(
             put_edge(u, v, lit, c.edges, edges);
             with_edge(c)
         }
-        Line::V {
-            variable: _,
-            code: _,
-        } => c,
-        Line::I => c,
-        Line::N { lit: _, pending: _ } => c,
-        Line::U { lit: _ } => c,
-        Line::R { lit: _ } => c,
-        Line::RLast => c,
-        Line::Malformed => c,
+        Line::V { .. }
+        | Line::I
+        | Line::N { .. }
+        | Line::U { .. }
+        | Line::R { .. }
+        | Line::RLast
+        | Line::Malformed => c,
     }
 }
 
@@ -215,38 +198,7 @@ pub fn take_line(
 fn is_plan_line(read: Line) -> bool
     ensures { result ≡ is_plan_line read }
 {
-    match read {
-        Line::O {
-            same_size: _,
-            extra_walls: _,
-        } => true,
-        Line::P {
-            weight: _,
-            sizes: _,
-            count: _,
-        } => true,
-        Line::G { u: _, v: _, lit: _ } => true,
-        Line::V {
-            variable: _,
-            code: _,
-        } => false,
-        Line::I => false,
-        Line::N { lit: _, pending: _ } => false,
-        Line::U { lit: _ } => false,
-        Line::R { lit: _ } => false,
-        Line::RLast => false,
-        Line::Malformed => false,
-    }
-}
-
-// Where the line after one that ends at e starts: the input's end, if there is none.
-fn after_line(e: usize, len: usize) -> usize
-    ensures { result ≡ next_line e len }
-{
-    if e < len {
-        return e + 1;
-    }
-    len
+    matches!(read, Line::O { .. } | Line::P { .. } | Line::G { .. })
 }
 
 // The lines up to the first that is none of O, P and G, or to the end.
@@ -260,19 +212,16 @@ pub fn take_lines(input: &[u8], vertices: &mut VertexNumbers, edges: &mut EdgeNu
         extra_walls: false,
     };
     let mut at = 0;
+    // Not a `for`: each turn goes on by its line's length.
     while at < input.len() {
         let e = text::line_end(input, at);
         let line = &input[at..e];
         let read = text::read_line(line);
-        if is_plan_line(read) {
-            c = take(line, read, c, vertices, edges);
-            at = after_line(e, input.len());
-            continue;
+        if !is_plan_line(read) {
+            break;
         }
-        return PlanLines {
-            counts: c,
-            calls_at: at,
-        };
+        c = take(line, read, c, vertices, edges);
+        at = (e + 1).min(input.len());
     }
     PlanLines {
         counts: c,

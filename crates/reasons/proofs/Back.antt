@@ -5,27 +5,25 @@ use mathlib.Core.Bool.{Bool, true, false, not}
 use mathlib.Core.List.{List, [], ◌∷◌}
 use Prim.Native.Nat.{ℕ, ◌+◌, ◌*◌, ◌/◌, ◌%◌, ◌<◌, ◌≤◌}
 use native.Mathlib.Omega.{arith}
+use mir.Val.{bool_byte}
 use lib.Dec.{eqb}
 use borrow.Author.Tests.{eq-eqb, ne_eqb, eqb-false}
 use Rattle.base.specs.Iter.{pick}
 use Rattle.base.proofs.Loop.{pick_yes, pick_no, tested}
+use Rattle.sat.specs.declared.Lit.{Lit}
 use Rattle.division.specs.Reasons as abstract
-use Rattle.sat.specs.declared.OptLit.{OptLit}
-use Rattle.sat.specs.declared.OptLit.TheVariants.{Some, Nothing}
+use Rattle.std.specs.Prelude.{Option, None, Some}
 use Rattle.noting.specs.Words.{lits_of}
 use Rattle.reasons.specs.Words.{packed, packed_lits, lit_word, bit, first_word, second_word}
 use Rattle.reasons.specs.Reason.{opt_of, opt_word, lits_in, opt_in, Held, kind_of, byte1, byte2, byte3, half, quarter0, quarter1, quarter2, quarter3, later_reason, reason_of, first_word_of, second_word_of, meaning, InRange, OneLit, Fits, coded}
 use Rattle.reasons.specs.declared.reason.Reason.{Reason}
 use Rattle.reasons.specs.declared.reason.Reason.TheVariants.{NotPropagated, EdgeInSameGroup, EdgeBetweenDifferentGroups, TooLargeIfRegionsAreMerged, RegionAlreadyLarge, RegionAlreadySmall, InconsistentBoundsIfRegionsAreMerged, BoundPropagationWithinRegion, AdjacentSameSizeRegions}
 
-pub third_as : (w k a b c d x : ℕ) → w ≡ packed k a b c x → c ≡ d → w ≡ packed k a b d x
-third_as w k a b c d x e h = e ∙ ap (λ (y : ℕ). packed k a b y x) h
-
-pub last_as : (w k a b c x y : ℕ) → w ≡ packed k a b c x → x ≡ y → w ≡ packed k a b c y
-last_as w k a b c x y e h = e ∙ ap (packed k a b c) h
-
-pub lits_as : {a₁ b₁ c₁ d₁ : ℕ} (w a b c d : ℕ) → w ≡ packed_lits a b c d → a ≡ a₁ → b ≡ b₁ → c ≡ c₁ → d ≡ d₁ → w ≡ packed_lits a₁ b₁ c₁ d₁
-lits_as w a b c d e p q r s = e ∙ ap₂ (λ (i j : ℕ). packed_lits i j c d) p q ∙ ap₂ (packed_lits _ _) r s
+-- a bool as a number
+pub bool_bit : (b : Bool) → bool_byte b ≡ bit b
+unfolding bit pick
+bool_bit true = refl
+bool_bit false = refl
 
 -- ---- the parts of a word
 record Parts (w k a b c x : ℕ) : Type 0 where
@@ -158,18 +156,18 @@ bit_small true = omega arith
 bit_small false = omega arith
 
 -- a bound's literal, stored and read
-opt_small : (o : OptLit) → Held o → opt_word o < 65536
+opt_small : (o : Option Lit) → Held o → opt_word o < 65536
 unfolding opt_word
 opt_small (Some l) h = omega (arith, h)
-opt_small Nothing h = omega arith
+opt_small None h = omega arith
 
-opt_back : (o : OptLit) → Held o → opt_of (opt_word o) ≡ o
+opt_back : (o : Option Lit) → Held o → opt_of (opt_word o) ≡ o
 unfolding opt_of opt_word
 opt_back (Some l) h = pick_no _ _ (ne_eqb l.0 65535 (λ (e : l.0 ≡ 65535). omega (arith, h)))
-opt_back Nothing h = pick_yes _ _ (eq-eqb 65535 65535 refl)
+opt_back None h = pick_yes _ _ (eq-eqb 65535 65535 refl)
 
 -- the same, from what was read
-opt_read : (o : OptLit) (n : ℕ) → Held o → n ≡ opt_word o → opt_of n ≡ o
+opt_read : (o : Option Lit) (n : ℕ) → Held o → n ≡ opt_word o → opt_of n ≡ o
 opt_read o n h e = ap opt_of e ∙ opt_back o h
 
 none_back : reason_of 0 0 ≡ NotPropagated

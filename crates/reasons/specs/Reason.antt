@@ -1,9 +1,8 @@
 -- The Rust's `Reason`, read from its two words, and what it stands for.
-use Rattle.std.specs.Prelude.{not, List, [], ◌∷◌, ◌≡◌, ℕ, ◌/◌, ◌%◌, ◌<◌, ◌≤◌, eqb}
+use Rattle.std.specs.Prelude.{not, List, [], ◌∷◌, ◌≡◌, ℕ, ◌/◌, ◌%◌, ◌<◌, ◌≤◌, eqb, Option, None, Some}
 use Rattle.base.specs.Iter.{pick}
+use Rattle.sat.specs.declared.Lit.{Lit}
 use Rattle.division.specs.Reasons as abstract
-use Rattle.sat.specs.declared.OptLit.{OptLit}
-use Rattle.sat.specs.declared.OptLit.TheVariants.{Some, Nothing}
 use Rattle.noting.specs.Words.{lits_of}
 use Rattle.reasons.specs.Words.{packed, packed_lits, bit}
 use Rattle.reasons.specs.declared.reason.Reason.{Reason}
@@ -39,20 +38,20 @@ abbrev pub quarter3 : ℕ → ℕ
 quarter3 w = w / 281474976710656 % 65536
 
 -- the literal of a bound, if it is due to one: in two bytes 65535 is none
-unfoldable pub opt_of : ℕ → OptLit
-opt_of n = pick (eqb n 65535) Nothing (Some (record { 0 = n }))
+unfoldable pub opt_of : ℕ → Option Lit
+opt_of n = pick (eqb n 65535) None (Some (record { 0 = n }))
 
-unfoldable pub opt_word : OptLit → ℕ
+unfoldable pub opt_word : Option Lit → ℕ
 opt_word (Some l) = l.0
-opt_word Nothing = 65535
+opt_word None = 65535
 
 -- and as a list of at most one
-unfoldable pub lits_in : OptLit → List ℕ
+unfoldable pub lits_in : Option Lit → List ℕ
 lits_in (Some l) = l.0 ∷ []
-lits_in Nothing = []
+lits_in None = []
 
-unfoldable pub opt_in : List ℕ → OptLit
-opt_in [] = Nothing
+unfoldable pub opt_in : List ℕ → Option Lit
+opt_in [] = None
 opt_in (l ∷ ls) = Some (record { 0 = l })
 
 unfoldable pub later_reason : ℕ → ℕ → ℕ → Reason
@@ -109,9 +108,9 @@ meaning (BoundPropagationWithinRegion l k u) = abstract.bound_propagation_within
 meaning (AdjacentSameSizeRegions a la ua b lb ub u) = abstract.adjacent_same_size_regions a (lits_in la) (lits_in ua) b (lits_in lb) (lits_in ub) u ∷ []
 
 -- a literal that two bytes hold
-abbrev pub Held : OptLit → Type 0
+abbrev pub Held : Option Lit → Type 0
 Held (Some l) = l.0 < 65535
-Held Nothing = Unit {0}
+Held None = Unit {0}
 
 -- each number fits its part of the words
 abbrev pub InRange : Reason → Type 0

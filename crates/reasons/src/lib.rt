@@ -3,10 +3,8 @@
 
 pub mod reason;
 
-ghost use Rattle.std.specs.Prelude.{◌≡◌, ◌<◌, ◌^◌, replicate};
-ghost use Rattle.std.specs.Int.Bits.{bit_or};
+ghost use Rattle.std.specs.Prelude.{◌≡◌, replicate};
 ghost use Rattle.reasons.specs.Words.{packed, packed_lits, put};
-ghost use Rattle.reasons.specs.Verdicts.{goes_on};
 
 // A bit for each place of a literal, then two words for each.
 pub const PROPOSAL_WORDS: usize = 8772;
@@ -19,10 +17,9 @@ pub fn no_words() -> Proposals
     [0u64; 8772]
 }
 
-// Where an analysis stands. Everything but Going ends it.
+// Why an analysis ends before its last step.
 #[derive(Clone, Copy)]
-pub enum Verdict {
-    Going,
+pub enum Stop {
     // A disconnected edge inside a region.
     DisconnectedInside {
         edge_idx: usize,
@@ -54,25 +51,10 @@ pub enum Verdict {
     Unfit,
 }
 
-pub fn goes_on(v: Verdict) -> bool
-    ensures { result ≡ goes_on v }
-{
-    match v {
-        Verdict::Going => true,
-        Verdict::DisconnectedInside { edge_idx: _ } => false,
-        Verdict::Over { vertex_idx: _ } => false,
-        Verdict::Under { vertex_idx: _ } => false,
-        Verdict::Crowded { region: _ } => false,
-        Verdict::Apart {
-            lower_bound_idx: _,
-            upper_bound_idx: _,
-        } => false,
-        Verdict::Crossing { vertex_idx: _ } => false,
-        Verdict::ZeroSize => false,
-        Verdict::Unfit => false,
-    }
-}
+// Where an analysis stands.
+pub type Verdict = Result<(), Stop>;
 
+#[tactic(auto, unfolding(crate::specs::Words::packed))]
 pub fn packed(kind: u8, a: usize, b: usize, c: usize, x: u32) -> u64
     ensures { result ≡ packed kind a b c x }
 {
@@ -83,6 +65,7 @@ pub fn packed(kind: u8, a: usize, b: usize, c: usize, x: u32) -> u64
         + 4294967296 * ((x % 65536) as u64)
 }
 
+#[tactic(auto, unfolding(crate::specs::Words::packed_lits))]
 pub fn packed_lits(a: u32, b: u32, c: u32, d: u32) -> u64
     ensures { result ≡ packed_lits a b c d }
 {
@@ -92,13 +75,6 @@ pub fn packed_lits(a: u32, b: u32, c: u32, d: u32) -> u64
         + 281474976710656 * ((d % 65536) as u64)
 }
 
-fn with_bit(word: u64, i: usize) -> u64
-    requires { i < 64 }
-    ensures { result ≡ bit_or word (2 ^ i) }
-{
-    word | (1 << i)
-}
-
 // The mark and the two words of the literal at place p of the distinct literals. The Rust's `register_propagation` leaves
 // out the reason of a literal that is notified already. This stores always: no analysis proposes a literal that stands, or
 // whose negation stands (claims specs/Standing).
@@ -106,11 +82,9 @@ pub fn put(proposals: &mut [u64], p: u32, first: u64, second: u64)
     ensures { proposals.new ≡ put p first second proposals.old }
 {
     let q = p as usize;
-    if 69 + 2 * q < proposals.len() {
-        if q < 4352 {
-            proposals[q / 64] = with_bit(proposals[q / 64], q % 64);
-            proposals[68 + 2 * q] = first;
-            proposals[69 + 2 * q] = second;
-        }
+    if 69 + 2 * q < proposals.len() && q < 4352 {
+        proposals[q / 64] |= 1 << (q % 64);
+        proposals[68 + 2 * q] = first;
+        proposals[69 + 2 * q] = second;
     }
 }

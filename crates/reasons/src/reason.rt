@@ -1,10 +1,10 @@
 // Why a literal is proposed: the Rust's `Reason`, and its two words.
 ghost use Rattle.std.specs.Prelude.{◌≡◌, ◌%◌};
-ghost use Rattle.reasons.specs.Words.{packed, bit};
+ghost use Rattle.reasons.specs.Words.{packed};
 ghost use Rattle.reasons.specs.Reason.{opt_of, opt_word, later_reason, reason_of, first_word_of, second_word_of};
 
 use crate::{packed, packed_lits};
-use sat::{Lit, OptLit};
+use sat::Lit;
 
 #[derive(Clone, Copy)]
 pub enum Reason {
@@ -23,7 +23,7 @@ pub enum Reason {
     // If the regions of the edge's ends were merged, the region would be too large.
     TooLargeIfRegionsAreMerged {
         disconnected_edge_idx: u8,
-        upper_bound_lit: OptLit,
+        upper_bound_lit: Option<Lit>,
     },
     // The vertex's decided region is so large that its lower bound rises.
     RegionAlreadyLarge {
@@ -43,18 +43,18 @@ pub enum Reason {
     },
     // The bound of one vertex is known, and the other is in its region.
     BoundPropagationWithinRegion {
-        known_bound_lit: OptLit,
+        known_bound_lit: Option<Lit>,
         known_bound_idx: u8,
         unknown_bound_idx: u8,
     },
     // If the edge were connected, two regions of one size would be adjacent.
     AdjacentSameSizeRegions {
         region1_vertex: u8,
-        region1_lower_bound: OptLit,
-        region1_upper_bound: OptLit,
+        region1_lower_bound: Option<Lit>,
+        region1_upper_bound: Option<Lit>,
         region2_vertex: u8,
-        region2_lower_bound: OptLit,
-        region2_upper_bound: OptLit,
+        region2_lower_bound: Option<Lit>,
+        region2_upper_bound: Option<Lit>,
         region3_vertex: u8,
     },
 }
@@ -72,37 +72,40 @@ fn two_bytes(w: u64) -> u16
 }
 
 // A bound's literal, if it is due to one: in two bytes 65535 is none.
-fn opt_lit(n: u16) -> OptLit
+#[tactic(auto, unfolding(crate::specs::Reason::opt_of, base::specs::Iter::pick))]
+fn opt_lit(n: u16) -> Option<Lit>
     ensures { result ≡ opt_of n }
 {
     if n == 65535 {
-        return OptLit::Nothing;
+        return None;
     }
-    OptLit::Some(Lit(n))
+    Some(Lit(n))
 }
 
-fn lit_word(l: OptLit) -> u16
+#[tactic(auto, unfolding(crate::specs::Reason::opt_word))]
+fn lit_word(l: Option<Lit>) -> u16
     ensures { result ≡ opt_word l }
 {
     match l {
-        OptLit::Some(lit) => lit.0,
-        OptLit::Nothing => 65535,
+        Some(lit) => lit.0,
+        None => 65535,
     }
-}
-
-fn bit(b: bool) -> u8
-    ensures { result ≡ bit b }
-{
-    if b { 1 } else { 0 }
 }
 
 fn word(kind: u8, a: u8, b: u8, c: u8, x: u16) -> u64
     ensures { result ≡ packed kind a b c x }
 {
-    packed(kind, a as usize, b as usize, c as usize, x as u32)
+    packed(
+        kind,
+        usize::from(a),
+        usize::from(b),
+        usize::from(c),
+        u32::from(x),
+    )
 }
 
 // The reasons with three numbers or more.
+#[tactic(auto, unfolding(crate::specs::Reason::later_reason, base::specs::Iter::pick))]
 fn later_reason(kind: u8, first: u64, second: u64) -> Reason
     ensures { result ≡ later_reason kind first second }
 {
@@ -136,6 +139,7 @@ fn later_reason(kind: u8, first: u64, second: u64) -> Reason
 }
 
 // A word whose kind is none of the eight is no reason.
+#[tactic(auto, unfolding(crate::specs::Reason::reason_of, base::specs::Iter::pick))]
 pub fn reason_of(first: u64, second: u64) -> Reason
     ensures { result ≡ reason_of first second }
 {
@@ -171,6 +175,7 @@ pub fn reason_of(first: u64, second: u64) -> Reason
     later_reason(kind, first, second)
 }
 
+#[tactic(auto, unfolding(crate::specs::Reason::first_word_of, crate::specs::Words::bit))]
 pub fn first_word(r: Reason) -> u64
     ensures { result ≡ first_word_of r }
 {
@@ -181,7 +186,7 @@ pub fn first_word(r: Reason) -> u64
             disconnected_edge_idx: h,
             newly_decided_edge_idx: g,
             flip,
-        } => word(2, h, g, bit(flip), 0),
+        } => word(2, h, g, u8::from(flip), 0),
         Reason::TooLargeIfRegionsAreMerged {
             disconnected_edge_idx: g,
             upper_bound_lit: l,
@@ -193,7 +198,7 @@ pub fn first_word(r: Reason) -> u64
             upper_bound_vertex_idx: a,
             lower_bound_vertex_idx: b,
             flip,
-        } => word(6, g, a, b, bit(flip) as u16),
+        } => word(6, g, a, b, u16::from(flip)),
         Reason::BoundPropagationWithinRegion {
             known_bound_lit: l,
             known_bound_idx: k,
@@ -208,6 +213,7 @@ pub fn first_word(r: Reason) -> u64
     }
 }
 
+#[tactic(auto, unfolding(crate::specs::Reason::second_word_of))]
 pub fn second_word(r: Reason) -> u64
     ensures { result ≡ second_word_of r }
 {

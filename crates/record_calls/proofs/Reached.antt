@@ -2,11 +2,12 @@
 -- is up to the cursor matter.
 use mathlib.Core.Path.{◌≡◌, refl, sym, ap, ap₂, ◌∙◌}
 use mathlib.Core.Logic.{⊎_elim}
-use mathlib.Core.Bool.{Bool, true, false, not, ◌||◌, true≢false, false≢true}
+use mathlib.Core.Bool.{Bool, true, false, not, ◌||◌, ◌&&◌, true≢false, false≢true}
 use mathlib.Core.List.{List}
 use Prim.Native.Nat.{ℕ, ◌*◌, ◌<◌, ◌≤◌}
 use native.Mathlib.Omega.{arith}
-use lib.Dec.{ltb}
+use lib.Dec.{leb, ltb}
+use Rattle.std.proofs.lemmas.Bool.Decides.{nat_tests}
 use lib.ListN.{length, get_or}
 use borrow.Author.Tests.{ltb-true, ltb-false, le-ltb}
 use Rattle.base.proofs.Loop.{tested}
@@ -28,7 +29,22 @@ not_true : (t : Bool) → not t ≡ true → t ≡ false
 not_true true e = absurd (false≢true e)
 not_true false e = refl
 
+-- one test after the other, as the code makes them
+all_four : (p s a b : Bool) → (((not p && not s) && not a) && not b) ≡ not (p || (s || (a || b)))
+all_four true s a b = refl
+all_four false true a b = refl
+all_four false false true b = refl
+all_four false false false b = refl
+
+within : (m n : ℕ) → leb m n ≡ not (ltb n m)
+within m n = grind (arith, nat_tests)
+
 module _ (ws : List ℕ) (ends : List (List ℕ)) (noted : List ℕ) (c : Cursor) where
+  pub reaches_by : (len : ℕ) (x y z : Bool) → x ≡ (not (plan_bad ws ends) && not (log_short ws len)) → y ≡ (x && leb c.used len) → z ≡ (y && leb c.used 4352) → z ≡ reaches ws ends len c
+  unfolding reaches
+  reaches_by len x y z e f g =
+      g ∙ ap₂ (λ (a b : Bool). a && b) (f ∙ ap₂ (λ (a b : Bool). a && b) e (within c.used len)) (within c.used 4352) ∙ all_four (plan_bad ws ends) (log_short ws len) (ltb len c.used) (ltb 4352 c.used)
+
   pub reached_passes : (len : ℕ) → reaches ws ends len c ≡ true → plan_bad ws ends ≡ false
   unfolding reaches
   reached_passes len e = (or_none (plan_bad ws ends) _ (not_true _ e)).0

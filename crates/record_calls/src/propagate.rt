@@ -1,17 +1,17 @@
 // `propagate` on records.
-ghost use Rattle.std.specs.Prelude.{◌≡◌, map};
+ghost use Rattle.std.specs.Prelude.{◌≡◌, ℕ, ◌<◌, ◌^◌, map, slice_index};
 ghost use Rattle.base.specs.Iter.{pick};
 ghost use Rattle.undo_log.specs.Log.{word_of};
 ghost use Rattle.graph_division.specs.Calls.{called, refuse, propagated};
 ghost use Rattle.record_calls.specs.Reach.{reaches};
 ghost use Rattle.record_calls.specs.Checked.{checked_propagated};
 
-use crate::{all_fit, reaches, refuse};
+use crate::{reaches, refuse};
 use graph_division::{GraphDivision, Outcome};
 use lent_log::{load, push_run};
 use undo_log::{Cursor, Record};
 
-// On the loaded words of a log of `len` records.
+// On the loaded words of a log of `len` records. That words of 64 bits are left is known of a slice, and not of the array that is lent.
 pub(crate) fn propagate_words(
     s: GraphDivision,
     table: &mut [u8],
@@ -22,7 +22,8 @@ pub(crate) fn propagate_words(
     lit: i32,
     num_pending_propagations: i32,
 ) -> Outcome
-    ensures { called result table.new list.new words.new ≡ pick (reaches s.plan s.edges.ends len cursor) (propagated s cursor lit num_pending_propagations table.old list.old words.old) (called (refuse 7 s cursor) table.old list.old words.old) }
+    ensures after { called result table.new list.new words.new ≡ pick (reaches s.plan s.edges.ends len cursor) (propagated s cursor lit num_pending_propagations table.old list.old words.old) (called (refuse 7 s cursor) table.old list.old words.old) }
+    ensures words_fit { (i : ℕ) → slice_index words.new i < 2 ^ 64 }
 {
     if reaches(s, len, cursor) {
         return by_value::propagate::propagate(
@@ -63,7 +64,6 @@ pub fn propagate(
         lit,
         num_pending_propagations,
     );
-    all_fit(&words);
     push_run(&words, out.cursor.used, log, cursor);
     cursor.standing = out.cursor.standing;
     out

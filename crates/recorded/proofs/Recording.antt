@@ -1,5 +1,5 @@
 -- The loop that records ends at the last place.
-use Prim.Native.Nat.{ℕ, ◌≤◌, ◌*◌}
+use Prim.Native.Nat.{ℕ, ◌≤◌, ◌*◌, min}
 use mathlib.Core.Path.{◌≡◌, sym, ap, ◌∙◌}
 use native.Mathlib.Omega.{arith}
 use mathlib.Core.Bool.{false}
@@ -7,7 +7,7 @@ use mathlib.Core.List.{List}
 use lib.Dec.{ltb}
 use lib.ListN.{get_or, set}
 use lib.Seq.{set-get_or}
-use borrow.Author.Tests.{ltb-true}
+use borrow.Author.Tests.{ltb-true, ltb-false}
 use Rattle.base.specs.Iter.{iter}
 use Rattle.base.proofs.Loop.{pick_ind, pick_no, iter_done}
 use Rattle.plan.specs.Words.{variables_of}
@@ -18,9 +18,10 @@ use Rattle.recorded.specs.declared.Recorded.{Recorded}
 use Rattle.recorded.specs.declared.Reasons.{Reasons}
 use Rattle.recorded.specs.Recorded.{newest, recorded, holding}
 
-pub capped_low : (n : ℕ) → capped n 4352 ≤ 4352
+-- as the library takes it
+pub capped_min : (n : ℕ) → min n 4352 ≡ capped n 4352
 unfolding capped
-capped_low n = pick_ind (λ i. i ≤ 4352) (ltb n 4352) n 4352 (λ t. omega (arith, ltb-true n 4352 t)) (λ _. omega arith)
+capped_min n = pick_ind (λ i. min n 4352 ≡ i) (ltb n 4352) n 4352 (λ t. omega (arith, ltb-true n 4352 t)) (λ t. omega (arith, ltb-false n 4352 t))
 
 pub reasons_eq : (r s : Reasons) → r.at ≡ s.at → r ≡ s
 reasons_eq r s e = λ i. record { at = e i }

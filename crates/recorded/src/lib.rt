@@ -4,9 +4,7 @@
 ghost use Rattle.std.specs.Prelude.{◌≡◌, ◌*◌, ◌<◌};
 ghost use Rattle.plan.specs.Words.{words_of, variables_of};
 ghost use Rattle.recorded.specs.Recorded.{no_reasons, reason_at, newest, recorded};
-ghost use Rattle.noting.specs.Words.{capped};
 
-use base::slices::word;
 use reasons::reason::Reason;
 
 #[derive(Clone, Copy)]
@@ -19,6 +17,7 @@ pub struct Reasons {
     pub at: [Recorded; 4352],
 }
 
+#[tactic(auto, unfolding(crate::specs::Recorded::no_reasons))]
 pub fn no_reasons() -> Reasons
     ensures { result ≡ no_reasons }
 {
@@ -30,24 +29,25 @@ pub fn no_reasons() -> Reasons
 }
 
 // The reason recorded for the literal at place p.
+#[tactic(auto, unfolding(crate::specs::Recorded::reason_at, base::specs::Iter::pick))]
 pub fn reason_at(reasons: Reasons, p: usize) -> Reason
     ensures { result ≡ reason_at reasons p }
 {
     if p < 4352 {
-        let recorded = reasons.at[p];
-        return recorded.reason;
+        return reasons.at[p].reason;
     }
     Reason::NotPropagated
 }
 
 // What stands at place p after an analysis: its reason where it is proposed, else what stood there.
+#[tactic(auto, unfolding(crate::specs::Recorded::newest, base::specs::Iter::pick))]
 fn newest(proposals: &[u64], p: usize, old: Recorded) -> Recorded
     requires { p < 4352 }
     ensures { result ≡ newest proposals.now p old }
 {
     if sweep::proposed(proposals, p) {
-        let first = word(proposals, 68 + 2 * p);
-        let second = word(proposals, 69 + 2 * p);
+        let first = proposals.get(68 + 2 * p).copied().unwrap_or(0);
+        let second = proposals.get(69 + 2 * p).copied().unwrap_or(0);
         return Recorded {
             reason: reasons::reason::reason_of(first, second),
         };
@@ -55,25 +55,16 @@ fn newest(proposals: &[u64], p: usize, old: Recorded) -> Recorded
     old
 }
 
-fn capped(n: usize) -> usize
-    ensures { result ≡ capped n 4352 }
-{
-    if n < 4352 {
-        return n;
-    }
-    4352
-}
-
 // What an analysis has proposed is recorded.
 pub fn record(plan: &[u8], proposals: &[u64], reasons: Reasons) -> Reasons
     ensures { result ≡ recorded (words_of plan.now) proposals.now reasons }
 {
-    let n = capped(2 * (plan::num_variables(plan) as usize));
+    let n = (2 * plan::num_variables(plan) as usize).min(4352);
     let mut t = reasons;
     let mut p = sweep::next_proposed(proposals, 0, n);
+    // No `for`: each turn goes on at the next place that is proposed.
     while p < n {
-        let old = t.at[p];
-        t.at[p] = newest(proposals, p, old);
+        t.at[p] = newest(proposals, p, t.at[p]);
         p = sweep::next_proposed(proposals, p + 1, n);
     }
     t

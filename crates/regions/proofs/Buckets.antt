@@ -1,23 +1,23 @@
 -- The buckets of one pass hold what each region has.
-use Prim.Native.Nat.{ℕ, zero, suc, ◌+◌, ◌*◌, ◌<◌, ◌≤◌, zero-le}
-use native.Mathlib.Nat.{not-suc-le-zero, lt-suc_self, le_step}
+use Prim.Native.Nat.{ℕ, zero, suc, ◌+◌, ◌*◌, ◌<◌, ◌≤◌}
+use native.Mathlib.Nat.{not-suc-le-zero}
 use native.Mathlib.Omega.{arith}
 use mathlib.Core.Path.{◌≡◌, refl, sym, ◌∙◌, ap, subst}
-use mathlib.Core.Logic.{◌⊎◌, inl, inr, ⊎_elim}
-use mathlib.Core.Bool.{Bool, true, false, ◌&&◌}
+use mathlib.Core.Logic.{⊎_elim}
+use mathlib.Core.Bool.{true, false}
 use mathlib.Core.List.{List, [], ◌∷◌}
 use lib.Dec.{eqb, ltb}
 use lib.ListN.{length, get_or, set, length-set}
 use lib.Seq.{get_or-set_same, get_or-set_other}
-use borrow.Author.Tests.{eq-eqb, ne_eqb, ltb-true, ltb-false, eqb-true}
+use borrow.Author.Tests.{eq-eqb, ne_eqb, ltb-true, ltb-false}
 use Rattle.base.specs.Iter.{iter, pick}
-use Rattle.base.proofs.Loop.{iter_ind, iter_done, pick_ind, eq_or_not, pick_yes, pick_no, tested}
+use Rattle.base.proofs.Loop.{iter_ind, iter_done, eq_or_not, pick_yes, pick_no}
 use Rattle.graph.specs.Lists.{put, mapped, every}
 use Rattle.base.specs.Lists.{total}
 use Rattle.regions.specs.Labels.{label_of}
-use Rattle.regions.specs.Buckets.{labels_below, weight_of, pour, poured, weighable, weighed, Spot, spot, tighter, loosest, tightest, Marks, marks, claim, claimed, bounds_of}
+use Rattle.regions.specs.Buckets.{labels_below, weight_of, pour, poured, weighable}
 use Rattle.graph.specs.Lists.{number_of}
-use Rattle.graph.proofs.Lists.{mapped_at, mapped_past, mapped_length, every_at, and_both, and_no, and_no'}
+use Rattle.graph.proofs.Lists.{mapped_at, mapped_length, every_at, and_both, and_no, and_no'}
 use Rattle.graph.proofs.Mark.{set_keeps}
 use Rattle.graph.proofs.Walkable.{pick_false}
 

@@ -1,20 +1,18 @@
 -- The labels of one walk of the edges are the regions.
-use Prim.Native.Nat.{ℕ, zero, suc, ◌+◌, ◌<◌, ◌≤◌, zero-le}
-use native.Mathlib.Nat.{not-suc-le-zero, le_refl, le_trans, le_of_eq, lt_of_lt_of_le, le_antisymm}
+use Prim.Native.Nat.{ℕ, suc, ◌<◌, ◌≤◌}
+use native.Mathlib.Nat.{not-suc-le-zero, le_of_eq, le_antisymm}
 use native.Mathlib.Omega.{arith}
-use mathlib.Core.Path.{◌≡◌, refl, sym, ◌∙◌, ap, ap₂, subst}
-use mathlib.Core.Logic.{◌⊎◌, inl, inr, ⊎_elim}
-use mathlib.Core.Bool.{Bool, true, false, true≢false}
-use mathlib.Core.List.{List, [], ◌∷◌}
-use lib.Dec.{eqb, ltb}
-use lib.ListN.{length, get_or}
+use mathlib.Core.Path.{◌≡◌, refl, sym, ◌∙◌, ap, subst}
+use mathlib.Core.Logic.{⊎_elim}
+use mathlib.Core.Bool.{true, true≢false}
+use mathlib.Core.List.{List}
+use lib.ListN.{length}
 use borrow.Author.Tests.{eqb-true, eqb-false, ltb-true, ltb-false}
-use Rattle.base.specs.Iter.{iter, pick}
+use Rattle.base.specs.Iter.{iter}
 use Rattle.base.proofs.Loop.{iter_ind, iter_done, pick_ind, eq_or_not, pick_yes, pick_no}
-use Rattle.graph.specs.Lists.{mapped}
 use Rattle.graph.specs.Search.{Graph, is_open, end_a, end_b}
 use Rattle.graph.specs.Bounds.{Fine}
-use Rattle.graph.specs.Paths.{Leads, Chain, here, there, Joined}
+use Rattle.graph.specs.Paths.{Chain, here, there, Joined}
 use Rattle.regions.specs.Labels.{label_of, renamed, merged, bridged, alone, labelled, Labelled}
 use Rattle.graph.proofs.Lists.{mapped_at, mapped_length}
 use Rattle.graph.proofs.Joined.{joined_refl, joined_trans, joined_sym, joined_edge}

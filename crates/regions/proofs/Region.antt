@@ -1,19 +1,16 @@
 -- The region of a vertex is exactly the vertices that are joined to it, by labels and by the search alike; its weight is theirs.
-use Prim.Native.Nat.{ℕ, zero, suc, ◌+◌, ◌<◌, ◌≤◌}
+use Prim.Native.Nat.{ℕ, zero, suc, ◌+◌, ◌<◌}
 use native.Mathlib.Nat.{lt-suc_self, le_step}
-use native.Mathlib.Omega.{arith}
-use mathlib.Core.Path.{◌≡◌, refl, sym, ◌∙◌, ap, ap₂, subst}
-use mathlib.Core.Logic.{◌⊎◌, inl, inr, ⊎_elim}
-use mathlib.Core.Bool.{Bool, true, false, true≢false}
+use mathlib.Core.Path.{◌≡◌, refl, sym, ap, ap₂}
+use mathlib.Core.Bool.{Bool, true, false}
 use mathlib.Core.List.{List}
 use lib.Dec.{eqb}
-use lib.ListN.{length, get_or}
 use borrow.Author.Tests.{eqb-true, eq-eqb}
 use Rattle.base.specs.Iter.{pick}
 use Rattle.base.specs.Lists.{total}
 use Rattle.graph.specs.Search.{Graph, reached_yet, searched}
 use Rattle.graph.specs.Bounds.{Fine}
-use Rattle.graph.specs.Paths.{Joined, Found}
+use Rattle.graph.specs.Paths.{Joined}
 use Rattle.regions.specs.Labels.{label_of, Labelled}
 use Rattle.regions.specs.Buckets.{weight_of}
 use Rattle.graph.proofs.Found.{found}

@@ -1,20 +1,20 @@
 -- The bounds of one pass are those of each region.
-use Prim.Native.Nat.{ℕ, zero, suc, ◌+◌, ◌<◌, ◌≤◌, zero-le}
+use Prim.Native.Nat.{ℕ, suc, ◌<◌, ◌≤◌}
 use native.Mathlib.Nat.{not-suc-le-zero, lt-suc_self, le_step, le_refl}
 use native.Mathlib.Omega.{arith}
 use mathlib.Core.Path.{◌≡◌, refl, sym, ◌∙◌, ap, ap₂, subst}
-use mathlib.Core.Logic.{◌⊎◌, inl, inr, ⊎_elim}
+use mathlib.Core.Logic.{inl, inr, ⊎_elim}
 use mathlib.Core.Bool.{Bool, true, false, ◌&&◌}
-use mathlib.Core.List.{List, [], ◌∷◌}
-use lib.Dec.{eqb, ltb}
+use mathlib.Core.List.{List}
+use lib.Dec.{eqb}
 use lib.ListN.{length, get_or, set, length-set}
 use lib.Seq.{get_or-set_same, get_or-set_other}
 use borrow.Author.Tests.{eq-eqb, ne_eqb, ltb-true, ltb-false, eqb-true, lt-ltb, le-ltb}
 use Rattle.base.specs.Iter.{iter, pick}
-use Rattle.base.proofs.Loop.{iter_ind, iter_done, pick_ind, eq_or_not, pick_yes, pick_no, tested}
+use Rattle.base.proofs.Loop.{iter_ind, iter_done, pick_ind, eq_or_not, pick_no}
 use Rattle.graph.specs.Lists.{mapped}
 use Rattle.regions.specs.Labels.{label_of}
-use Rattle.regions.specs.Buckets.{Spot, spot, tighter, loosest, tightest, Holds, Tightest, least_in, most_in, Marks, marks, claim, claimed}
+use Rattle.regions.specs.Buckets.{Spot, spot, tighter, loosest, tightest, Tightest, least_in, most_in, Marks, marks, claim, claimed}
 use Rattle.graph.proofs.Lists.{mapped_at, mapped_length, and_no'}
 use Rattle.base.proofs.Tests.{and_left, and_right}
 

@@ -1,5 +1,5 @@
 -- Region numbers by one walk of the edges, for the Rust's `compute_regions`: the label of a vertex is the lowest vertex of its region.
-use Rattle.std.specs.Prelude.{ℕ, ◌<◌, ◌≤◌, ◌≡◌, Bool, List, eqb, ltb, get_or}
+use Rattle.std.specs.Prelude.{ℕ, ◌<◌, ◌≤◌, ◌≡◌, List, eqb, ltb, get_or}
 use Rattle.base.specs.Iter.{iter, pick}
 use Rattle.graph.specs.Lists.{mapped}
 use Rattle.graph.specs.Search.{Graph, is_open, end_a, end_b}

@@ -14,13 +14,11 @@ use edge_table::Edges;
 use graph::bounds::{passable, walkable};
 
 // hi becomes lo. Stored whether it changed or not, so that the loop over it has no branch.
+#[tactic(auto, unfolding(crate::specs::Labels::renamed, base::specs::Iter::pick))]
 fn rename(lo: u8, hi: u8, x: u8) -> u8
     ensures { result ≡ renamed lo hi x }
 {
-    if x == hi {
-        return lo;
-    }
-    x
+    if x == hi { lo } else { x }
 }
 
 // Every vertex with the label hi gets the label lo.
@@ -34,6 +32,7 @@ fn merge(labels: &mut [u8; 64], num_vertices: usize, lo: u8, hi: u8)
 }
 
 // Edge g joins the regions of its ends, if it can be passed: the lower label stays.
+#[tactic(auto, unfolding(crate::specs::Labels::bridged, base::specs::Iter::pick))]
 fn bridge(
     edges: &Edges,
     state: &[u32],
@@ -46,17 +45,12 @@ fn bridge(
     ensures { labels.new ≡ bridged (graph edges.now state.now potential) num_vertices g labels.old }
 {
     if passable(state[g], potential) {
-        let i = edges[g][0] as usize;
-        let j = edges[g][1] as usize;
-        let a = labels[i];
-        let b = labels[j];
+        let a = labels[usize::from(edges[g][0])];
+        let b = labels[usize::from(edges[g][1])];
         if a < b {
             merge(labels, num_vertices, a, b);
-            return;
-        }
-        if b < a {
+        } else if b < a {
             merge(labels, num_vertices, b, a);
-            return;
         }
     }
 }
@@ -111,6 +105,7 @@ fn label_both(
 }
 
 // The label of each vertex: the lowest vertex of its region. The answer is false, and the labels stay, where the graph cannot be walked.
+#[tactic(auto, unfolding(crate::specs::Labels::regions_of, base::specs::Iter::pick))]
 pub fn compute_regions(
     edges: Edges,
     state: &[u32],
@@ -129,6 +124,7 @@ pub fn compute_regions(
 }
 
 // The labels of the decided regions and of the potential ones, as `compute_regions` makes each, with one test of the graph.
+#[tactic(auto, unfolding(crate::specs::Labels::regions_of, base::specs::Iter::pick))]
 pub fn compute_both(
     edges: &Edges,
     state: &[u32],

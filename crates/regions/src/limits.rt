@@ -1,55 +1,30 @@
 // The tightest bound of each region and the first vertex that has it, by one pass over the vertices: the Rust's
 // `region_upper_bound` and `region_upper_bound_idx`, and the same for lower bounds.
 ghost use Rattle.std.specs.Prelude.{◌≡◌, ℕ, ◌+◌, ◌<◌, ◌≤◌, length};
-ghost use Rattle.graph.specs.Lists.{mapped};
 ghost use Rattle.regions.specs.Labels.{label_of};
 ghost use Rattle.regions.specs.Buckets.{labels_below, tighter, loosest, marks, claim, claimed, bounds_of};
 ghost use Rattle.graph.specs.Lists.{number_of};
 
 use crate::weights::labels_below;
-use graph::bounds::wide;
 
 // Whether bound x is tighter than y.
+#[tactic(auto, unfolding(crate::specs::Buckets::tighter, base::specs::Iter::pick))]
 fn is_tighter(upper: bool, x: u32, y: u32) -> bool
     ensures { result ≡ tighter upper x y }
 {
-    if upper {
-        return x < y;
-    }
-    y < x
+    if upper { x < y } else { y < x }
 }
 
 // The bound of a region that has none.
+#[tactic(auto, unfolding(crate::specs::Buckets::loosest, base::specs::Iter::pick))]
 fn loosest(upper: bool) -> u32
     ensures { result ≡ loosest upper }
 {
-    if upper {
-        return 2147483647;
-    }
-    0
-}
-
-// Every region has the bound x.
-fn set_bounds(bounds: &mut [u32; 64], num_vertices: usize, x: u32)
-    requires { num_vertices ≤ 64 }
-    ensures { bounds.new ≡ mapped (λ _ _. x) num_vertices bounds.old }
-{
-    for r in 0..num_vertices {
-        bounds[r] = x;
-    }
-}
-
-// No vertex has a bound.
-fn set_holders(holders: &mut [u8; 64], num_vertices: usize)
-    requires { num_vertices ≤ 64 }
-    ensures { holders.new ≡ mapped (λ _ _. 0) num_vertices holders.old }
-{
-    for r in 0..num_vertices {
-        holders[r] = 0;
-    }
+    if upper { 2147483647 } else { 0 }
 }
 
 // Vertex v takes the place of its region's mark, if its bound is tighter.
+#[tactic(auto, unfolding(crate::specs::Buckets::claim, base::specs::Iter::pick))]
 fn claim(
     labels: &[u8; 64],
     words: &[u32],
@@ -62,7 +37,7 @@ fn claim(
     requires { (v < 64) × (first + v < length words.now) × (label_of labels.now v < 64) }
     ensures { marks bounds.new holders.new ≡ claim upper labels.now (number_of words.now first) v (marks bounds.old holders.old) }
 {
-    let r = labels[v] as usize;
+    let r = usize::from(labels[v]);
     let x = words[first + v];
     if is_tighter(upper, x, bounds[r]) {
         bounds[r] = x;
@@ -83,8 +58,8 @@ fn claim_all(
     requires { (num_vertices ≤ 64) × (first + num_vertices ≤ length words.now) × ((v : ℕ) → v < num_vertices → label_of labels.now v < num_vertices) }
     ensures { marks bounds.new holders.new ≡ claimed upper labels.now (number_of words.now first) num_vertices (marks bounds.old holders.old) }
 {
-    set_bounds(bounds, num_vertices, loosest(upper));
-    set_holders(holders, num_vertices);
+    bounds[..num_vertices].fill(loosest(upper));
+    holders[..num_vertices].fill(0);
     for v in 0..num_vertices {
         claim(labels, words, first, upper, v, bounds, holders);
     }
@@ -92,6 +67,7 @@ fn claim_all(
 
 // The tightest bound of each region and the first vertex that has it, at the region's label. The bound of vertex v is word
 // first + v. The answer is false, and nothing is written, where a label is no vertex or a bound is missing.
+#[tactic(auto, unfolding(crate::specs::Buckets::bounds_of, base::specs::Iter::pick))]
 pub fn region_bounds(
     labels: &[u8; 64],
     words: &[u32],

@@ -1,7 +1,7 @@
 -- The examples of request 1's reading, evaluated.
 use mathlib.Core.Path.{◌≡◌, refl}
 use mathlib.Core.Bool.{true}
-use mathlib.Core.List.{List, [], ◌∷◌}
+use mathlib.Core.List.{[], ◌∷◌}
 use Rattle.base.specs.Iter.{pick, iter}
 use Rattle.graph.specs.Search.{graph, passes}
 use Rattle.division.specs.Regions.{lowest}

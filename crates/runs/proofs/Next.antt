@@ -3,7 +3,7 @@ use Prim.Native.Nat.{ℕ, suc, ◌+◌, ◌-◌, ◌<◌, ◌≤◌}
 use native.Mathlib.Omega.{arith}
 use native.Mathlib.Numerals.{add-one}
 use mathlib.Core.Path.{◌≡◌, refl, sym, ◌∙◌, ap, ap₂, subst}
-use mathlib.Core.Bool.{Bool, true, false, ◌&&◌, ◌||◌}
+use mathlib.Core.Bool.{Bool, true, false, ◌||◌}
 use mathlib.Core.List.{List}
 use lib.Dec.{eqb}
 use lib.ListN.{length, get_or}
@@ -46,12 +46,6 @@ module _ (e : Graph) (f : Far) (p g a b : ℕ) (o : Bool) (ea : a ≡ end_a e g)
 pub onward_shut : (e : Graph) (f : Far) (p g : ℕ) (o : Bool) → o ≡ is_open e g → o ≡ false → false ≡ onward e f p g
 unfolding onward
 onward_shut e f p g o t u = and_no _ (sym t ∙ u)
-
-pub other_a : (e : Graph) (g p a x : ℕ) → a ≡ end_a e g → a ≡ p → x ≡ end_b e g → x ≡ other e g p
-other_a e g p a x h k l = l ∙ sym (pick_yes _ _ (eq-eqb _ _ (sym h ∙ k)))
-
-pub other_b : (e : Graph) (g p a : ℕ) → a ≡ end_a e g → (a ≡ p → ⊥) → a ≡ other e g p
-other_b e g p a h n = h ∙ sym (pick_no _ _ (ne_eqb _ _ (λ (y : end_a e g ≡ p). n (h ∙ y))))
 
 -- whether edge g leads from p to r, as words are read
 module _ (e : Graph) (w : List ℕ) (g p r : ℕ) where

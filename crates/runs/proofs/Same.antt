@@ -1,7 +1,7 @@
 -- Graphs that agree on the edges have the same runs, and so the same best one.
 use Prim.Native.Nat.{ℕ, ◌+◌, ◌<◌}
 use mathlib.Core.Path.{◌≡◌, refl, sym, ◌∙◌, ap, ap₂, subst}
-use mathlib.Core.Bool.{Bool, true}
+use mathlib.Core.Bool.{true}
 use mathlib.Core.List.{List, [], ◌∷◌}
 use lib.Dec.{eqb}
 use lib.ListN.{length, get_or}
@@ -9,7 +9,6 @@ use Rattle.base.specs.Iter.{pick}
 use Rattle.base.specs.Lists.{Every, none, more}
 use Rattle.graph.specs.Search.{Graph, graph, passes}
 use Rattle.graph.specs.Bounds.{Fine}
-use Rattle.graph.specs.Paths.{Leads}
 use Rattle.runs.specs.Run.{Run, here, along, is_undecided, undecided, AtMost, Best}
 use Rattle.runs.specs.Walk.{best_run}
 use Rattle.runs.proofs.Given.{run_edges, given_best, none_joined, best_given}

@@ -1,6 +1,6 @@
 -- How far each vertex is from the last one, by rounds over the edge table. Word q is how many undecided edges vertex q
 -- is away, word 64 + q how many edges, and word 128 + q is 1 where it is reached.
-use Rattle.std.specs.Prelude.{ℕ, suc, ◌+◌, ◌<◌, ◌≡◌, Bool, true, not, ◌&&◌, ◌||◌, List, eqb, ltb, get_or, set, replicate}
+use Rattle.std.specs.Prelude.{ℕ, suc, ◌+◌, ◌≡◌, Bool, true, not, ◌&&◌, ◌||◌, List, eqb, ltb, get_or, set, replicate}
 use Rattle.base.specs.Iter.{iter, pick}
 use Rattle.graph.specs.Search.{Graph, is_open, end_a, end_b}
 use Rattle.graph.specs.Paths.{Leads}

@@ -3,7 +3,7 @@
 // that the run is found from the first one on, by the lowest edge that leads onward each time.
 #![tactic(auto)]
 
-ghost use Rattle.std.specs.Prelude.{◌≡◌, Bool, true, false, ◌||◌, ℕ, ◌+◌, ◌<◌, ◌≤◌, eqb, length};
+ghost use Rattle.std.specs.Prelude.{◌≡◌, Bool, true, false, ℕ, ◌+◌, ◌<◌, ◌≤◌, eqb, length};
 ghost use Rattle.base.specs.Iter.{pick};
 ghost use Rattle.graph.specs.Search.{graph};
 ghost use Rattle.graph.specs.Bounds.{Within, Fine};
@@ -16,8 +16,8 @@ ghost use Rattle.runs.specs.Walk.{vertex_given};
 ghost use Rattle.runs.specs.Small.{Small, blank};
 
 use edge_table::Edges;
-use graph::bounds::{passable, walkable, wide};
-use walks::{Listed, push};
+use graph::bounds::{passable, walkable};
+use walks::push;
 
 const DISTANCE_WORDS: usize = 192;
 
@@ -26,37 +26,21 @@ const DISTANCE_WORDS: usize = 192;
 type Distances = [u32; DISTANCE_WORDS];
 
 // 1 for an undecided edge.
+#[tactic(auto, unfolding(base::specs::Iter::pick))]
 fn count_undecided(state: u32) -> u32
     ensures { result ≡ pick (eqb state 0) 1 0 }
 {
-    if state == 0 {
-        return 1;
-    }
-    0
-}
-
-fn either(a: bool, b: bool) -> bool
-    ensures { result ≡ (a || b) }
-{
-    if a {
-        return true;
-    }
-    b
+    u32::from(state == 0)
 }
 
 // Whether b edges, a of them undecided, are less than d, c of them undecided.
 fn is_less(a: u32, b: u32, c: u32, d: u32) -> bool
     ensures { result ≡ less_by a b c d }
 {
-    if a < c {
-        return true;
-    }
-    if a == c {
-        return b < d;
-    }
-    false
+    a < c || (a == c && b < d)
 }
 
+#[tactic(auto, unfolding(crate::specs::Rounds::stored))]
 fn store(far: &mut Distances, p: usize, a: u32, b: u32)
     requires { p < 64 }
     ensures { far.new ≡ stored p a b far.old }
@@ -78,11 +62,7 @@ fn relax(edges: &Edges, state: &[u32], g: usize, p: usize, r: usize, far: &mut D
     }
     let a = count_undecided(state[g]) + far[r];
     let b = far[64 + r] + 1;
-    if far[128 + p] != 1 {
-        store(far, p, a, b);
-        return true;
-    }
-    if is_less(a, b, far[p], far[64 + p]) {
+    if far[128 + p] != 1 || is_less(a, b, far[p], far[64 + p]) {
         store(far, p, a, b);
         return true;
     }
@@ -97,11 +77,11 @@ fn relax_edge(edges: &Edges, state: &[u32], g: usize, far: &mut Distances) -> bo
         (result ≡ false → far.new ≡ far.old) }
 {
     if passable(state[g], true) {
-        let a = wide(edges[g][0]);
-        let b = wide(edges[g][1]);
+        let a = usize::from(edges[g][0]);
+        let b = usize::from(edges[g][1]);
         let one = relax(edges, state, g, b, a, far);
         let two = relax(edges, state, g, a, b, far);
-        return either(one, two);
+        return one | two;
     }
     false
 }
@@ -115,7 +95,7 @@ fn relax_all(edges: &Edges, state: &[u32], num_edges: usize, far: &mut Distances
 {
     let mut nearer = false;
     for g in 0..num_edges {
-        nearer = either(relax_edge(edges, state, g, far), nearer);
+        nearer |= relax_edge(edges, state, g, far);
     }
     nearer
 }
@@ -135,11 +115,10 @@ fn measure(
         distances (graph edges.now state.now true) num_edges num_vertices to }
 {
     store(far, to, 0, 0);
-    for i in 0..num_vertices {
-        if relax_all(edges, state, num_edges, far) {
-            continue;
+    for _ in 0..num_vertices {
+        if !relax_all(edges, state, num_edges, far) {
+            return;
         }
-        return;
     }
 }
 
@@ -149,13 +128,9 @@ fn is_next(edges: &Edges, state: &[u32], far: &Distances, g: usize, p: usize, r:
     ensures { result ≡ next_by (graph edges.now state.now true)
         (far_of far.now) p g r }
 {
-    if far[128 + r] != 1 {
-        return false;
-    }
-    if far[p] != count_undecided(state[g]) + far[r] {
-        return false;
-    }
-    far[64 + p] == far[64 + r] + 1
+    far[128 + r] == 1
+        && far[p] == count_undecided(state[g]) + far[r]
+        && far[64 + p] == far[64 + r] + 1
 }
 
 // Whether edge h leads onward from vertex p on a best run.
@@ -165,8 +140,8 @@ fn leads_on(edges: &Edges, state: &[u32], far: &Distances, p: usize, h: usize) -
         (far_of far.now) p h }
 {
     if passable(state[h], true) {
-        let a = wide(edges[h][0]);
-        let b = wide(edges[h][1]);
+        let a = usize::from(edges[h][0]);
+        let b = usize::from(edges[h][1]);
         if a == p {
             return is_next(edges, state, far, h, p, b);
         }
@@ -193,15 +168,13 @@ fn next_edge(edges: &Edges, state: &[u32], far: &Distances, num_edges: usize, p:
 }
 
 // The end of edge g that is not p.
+#[tactic(auto, unfolding(base::specs::Iter::pick))]
 fn other_end(edges: &Edges, state: &[u32], g: usize, p: usize) -> usize
     requires { g < 128 }
     ensures { result ≡ other (graph edges.now state.now true) g p }
 {
-    let a = wide(edges[g][0]);
-    if a == p {
-        return wide(edges[g][1]);
-    }
-    a
+    let a = usize::from(edges[g][0]);
+    if a == p { usize::from(edges[g][1]) } else { a }
 }
 
 // The run of n edges from vertex `from`, where the distances are those from some vertex: the place past it.
@@ -224,7 +197,7 @@ fn write_run(
 {
     let mut p = from;
     let mut at = 0;
-    for i in 0..n {
+    for _ in 0..n {
         let g = next_edge(edges, state, far, num_edges, p);
         at = push(buffer, at, g as u32);
         p = other_end(edges, state, g, p);
@@ -241,7 +214,7 @@ fn find_run(
     from: usize,
     to: usize,
     buffer: &mut [u32],
-) -> Listed
+) -> Option<usize>
     requires { Fine num_vertices num_edges edges.now × (num_edges ≤ length state.now) ×
         (from < num_vertices) × (to < num_vertices) }
     ensures { answer_of result buffer.new ≡
@@ -253,9 +226,9 @@ fn find_run(
     measure(edges, state, num_edges, num_vertices, to, &mut far);
     if far[128 + from] == 1 {
         let n = far[64 + from] as usize;
-        return Listed::Past(write_run(edges, state, &far, num_edges, from, n, buffer));
+        return Some(write_run(edges, state, &far, num_edges, from, n, buffer));
     }
-    Listed::Missing
+    None
 }
 
 // The best run between two vertices, from the buffer's start on; missing where one is no vertex, or they are not
@@ -268,18 +241,17 @@ pub fn best_run(
     from: usize,
     to: usize,
     buffer: &mut [u32],
-) -> Listed
+) -> Option<usize>
     ensures { answer_of result buffer.new ≡
         run_listed edges state.now num_edges num_vertices from to buffer.old }
 {
-    if walkable(&edges, state, num_edges, num_vertices) {
-        if from < num_vertices {
-            if to < num_vertices {
-                return find_run(&edges, state, num_edges, num_vertices, from, to, buffer);
-            }
-        }
+    if walkable(&edges, state, num_edges, num_vertices)
+        && from < num_vertices
+        && to < num_vertices
+    {
+        return find_run(&edges, state, num_edges, num_vertices, from, to, buffer);
     }
-    Listed::Missing
+    None
 }
 
 // The vertex that a number from outside is; 64, which no plan has, for one that is none.

@@ -1,13 +1,9 @@
 -- Document 01, "Literal": variable v gives literal 2v, and 2v + 1 for its negation; literals run from 0 to 8191.
-use Rattle.std.specs.Prelude.{◌≡◌, Bool, true, false, not, ℕ, ◌+◌, ◌-◌, ◌*◌, ◌/◌, ◌%◌, eqb, ℤ, pos}
+use Rattle.std.specs.Prelude.{◌≡◌, Bool, true, false, not, ℕ, ◌+◌, ◌-◌, ◌*◌, ◌/◌, ◌%◌, eqb, ℤ, pos, Option, None, Some}
 use Rattle.base.specs.Iter.{pick}
 use Rattle.base.specs.Range.{in_range, to_nat}
 use Rattle.sat.specs.declared.Var.{Var}
 use Rattle.sat.specs.declared.Lit.{Lit}
-use Rattle.sat.specs.declared.OptVar.{OptVar}
-use Rattle.sat.specs.declared.OptVar.TheVariants as optVar
-use Rattle.sat.specs.declared.OptLit.{OptLit}
-use Rattle.sat.specs.declared.OptLit.TheVariants as optLit
 
 -- variable v gives literal 2v, and 2v + 1 for its negation. A variable is a u16, and so is its double: of a number past
 -- document 01's variables the highest bit is lost.
@@ -32,12 +28,12 @@ unfoldable pub negate : ℕ → ℕ
 negate l = pick (eqb (l % 2) 0) (l + 1) (l - 1)
 
 -- the literal that a number from outside stands for, if it is one
-unfoldable pub lit_of : ℤ → OptLit
-lit_of n = pick (in_range (pos 8191) n) (optLit.Some (record { 0 = to_nat n })) optLit.Nothing
+unfoldable pub lit_of : ℤ → Option Lit
+lit_of n = pick (in_range (pos 8191) n) (Some (record { 0 = to_nat n })) None
 
 -- the variable that a number from outside stands for, if it is one
-unfoldable pub var_of : ℤ → OptVar
-var_of n = pick (in_range (pos 4095) n) (optVar.Some (record { 0 = to_nat n })) optVar.Nothing
+unfoldable pub var_of : ℤ → Option Var
+var_of n = pick (in_range (pos 4095) n) (Some (record { 0 = to_nat n })) None
 
 -- Document 01, "Valid division": literal 2v holds where variable v is true, 2v + 1 where it is false.
 unfoldable pub value : (ℕ → Bool) → ℕ → Bool

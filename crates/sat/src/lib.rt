@@ -11,38 +11,19 @@ pub struct Var(pub u16);
 #[derive(Clone, Copy)]
 pub struct Lit(pub u16);
 
-// A variable that may be missing.
-#[derive(Clone, Copy)]
-pub enum OptVar {
-    Some(Var),
-    Nothing,
-}
-
-// A literal that may be missing: `Option<Lit>` of the Rust.
-#[derive(Clone, Copy)]
-pub enum OptLit {
-    Some(Lit),
-    Nothing,
-}
-
+#[tactic(auto, unfolding(crate::specs::Literal::literal, base::specs::Iter::pick))]
 fn signed(var: u16, negated: bool) -> u16
     ensures { result ≡ literal var negated }
 {
-    let positive = 2 * (var % 32768);
-    if negated {
-        return positive + 1;
-    }
-    positive
+    2 * (var % 32768) + u16::from(negated)
 }
 
 // The same of a literal among words.
+#[tactic(auto, unfolding(crate::specs::Literal::negate, base::specs::Iter::pick))]
 pub fn negation(lit: u32) -> u32
     ensures { result ≡ negate lit }
 {
-    if lit % 2 == 0 {
-        return lit + 1;
-    }
-    lit - 1
+    if lit % 2 == 0 { lit + 1 } else { lit - 1 }
 }
 
 pub fn variable(lit: u32) -> u32
@@ -75,7 +56,7 @@ pub fn is_positive(lit: u64) -> bool
 pub fn is_literal(n: i32) -> bool
     ensures { result ≡ in_range (pos 8191) n }
 {
-    base::in_range(n, Lit::MAX as i32)
+    base::in_range(n, i32::from(Lit::MAX))
 }
 
 impl Var {
@@ -89,13 +70,13 @@ impl Var {
     }
 
     // The variable that a number from outside stands for.
-    pub fn from_i32(n: i32) -> OptVar
+    pub fn from_i32(n: i32) -> Option<Var>
         ensures { result ≡ var_of n }
     {
         if base::in_range(n, 4095) {
-            return OptVar::Some(Var(base::to_nat(n) as u16));
+            return Some(Var(base::to_nat(n) as u16));
         }
-        OptVar::Nothing
+        None
     }
 }
 
@@ -122,23 +103,24 @@ impl Lit {
     }
 
     // `!lit` of the Rust.
+    #[tactic(auto, unfolding(crate::specs::Literal::negate, base::specs::Iter::pick))]
     pub fn negation(self) -> Lit
         ensures { result.0 ≡ negate self.0 }
     {
-        let l = self.0;
-        if l % 2 == 0 {
-            return Lit(l + 1);
-        }
-        Lit(l - 1)
+        Lit(if self.0 % 2 == 0 {
+            self.0 + 1
+        } else {
+            self.0 - 1
+        })
     }
 
     // The literal that a number from outside stands for.
-    pub fn from_i32(n: i32) -> OptLit
+    pub fn from_i32(n: i32) -> Option<Lit>
         ensures { result ≡ lit_of n }
     {
         if is_literal(n) {
-            return OptLit::Some(Lit(base::to_nat(n) as u16));
+            return Some(Lit(base::to_nat(n) as u16));
         }
-        OptLit::Nothing
+        None
     }
 }

@@ -9,6 +9,9 @@ use lib.Dec.{eqb}
 use borrow.Author.Tests.{ne_eqb}
 use lib.IntN.{ℤ, pos}
 use lib.ListN.{length, drop, set, length-replicate, length-set}
+use Rattle.std.specs.Prelude.{Option, None}
+use Rattle.base.specs.declared.refusal.Refusal.{Refusal}
+use Rattle.base.specs.Refusal.{number_or_0}
 use Rattle.base.specs.Iter.{pick}
 use Rattle.base.specs.Range.{in_range}
 use Rattle.base.proofs.Loop.{pick_yes, pick_no, tested}
@@ -97,7 +100,7 @@ module _ (d : Plan) where
       ∙ append_assoc (said a.printed) t.bytes (spoken ls t.desk)
 
 -- from a plan that is built
-module _ (vs : List ℤ) (n : ℕ) (es : List ℤ) (m : ℕ) (p e : Bool) (z : (built vs n es m p e).refusal ≡ 0) where
+module _ (vs : List ℤ) (n : ℕ) (es : List ℤ) (m : ℕ) (p e : Bool) (z : (built vs n es m p e).refusal ≡ None) where
   abbrev plan : Plan
   plan = state_plan (built vs n es m p e).state
 
@@ -120,25 +123,25 @@ never k = ne_eqb (suc k) 0 (λ (e : suc k ≡ 0). omega arith)
 
 pub malformed_session : (input : List ℕ) → well_formed input ≡ false → session input ≡ answer_line 69 (17 ∷ [])
 unfolding session started malformed pick
-malformed_session input e = ap (λ (b : Bool). let s = pick b (started_by input) (malformed (length input)) in pick (eqb s.refusal 0) (spoken (lines_of (drop s.calls_at input)) (at_first s.state)) (answer_line 69 (s.refusal ∷ []))) e
+malformed_session input e = ap (λ (b : Bool). let s = pick b (started_by input) (malformed (length input)) in pick (eqb (number_or_0 s.refusal) 0) (spoken (lines_of (drop s.calls_at input)) (at_first s.state)) (answer_line 69 (number_or_0 s.refusal ∷ []))) e
 
 module _ (input : List ℕ) (r : Reading) (wf : well_formed input ≡ true) (t : taken_lines input no_vertices no_edges ≡ r) where
   whole : session input ≡
-      pick (eqb (built_of r).refusal 0) (spoken (lines_of (drop r.at input)) (at_first (built_of r).state)) (answer_line 69 ((built_of r).refusal ∷ []))
+      pick (eqb (number_or_0 (built_of r).refusal) 0) (spoken (lines_of (drop r.at input)) (at_first (built_of r).state)) (answer_line 69 (number_or_0 (built_of r).refusal ∷ []))
   unfolding session started started_by
   whole =
-      ap (λ (b : Bool). let s = pick b (started_by input) (malformed (length input)) in pick (eqb s.refusal 0) (spoken (lines_of (drop s.calls_at input)) (at_first s.state)) (answer_line 69 (s.refusal ∷ []))) wf
-      ∙ ap (λ (s : Started). pick (eqb s.refusal 0) (spoken (lines_of (drop s.calls_at input)) (at_first s.state)) (answer_line 69 (s.refusal ∷ []))) (pick_yes (started_by input) (malformed (length input)) refl)
-      ∙ ap (λ (y : Reading). pick (eqb (built_of y).refusal 0) (spoken (lines_of (drop y.at input)) (at_first (built_of y).state)) (answer_line 69 ((built_of y).refusal ∷ []))) t
+      ap (λ (b : Bool). let s = pick b (started_by input) (malformed (length input)) in pick (eqb (number_or_0 s.refusal) 0) (spoken (lines_of (drop s.calls_at input)) (at_first s.state)) (answer_line 69 (number_or_0 s.refusal ∷ []))) wf
+      ∙ ap (λ (s : Started). pick (eqb (number_or_0 s.refusal) 0) (spoken (lines_of (drop s.calls_at input)) (at_first s.state)) (answer_line 69 (number_or_0 s.refusal ∷ []))) (pick_yes (started_by input) (malformed (length input)) refl)
+      ∙ ap (λ (y : Reading). pick (eqb (number_or_0 (built_of y).refusal) 0) (spoken (lines_of (drop y.at input)) (at_first (built_of y).state)) (answer_line 69 (number_or_0 (built_of y).refusal ∷ []))) t
 
   -- a plan that is refused
-  pub refused_session : (k : ℕ) → (built_of r).refusal ≡ suc k → session input ≡ answer_line 69 (suc k ∷ [])
+  pub refused_session : (k : ℕ) → number_or_0 (built_of r).refusal ≡ suc k → session input ≡ answer_line 69 (suc k ∷ [])
   refused_session k e = whole ∙ pick_no _ _ (ap (λ (n : ℕ). eqb n 0) e ∙ never k) ∙ ap (λ (n : ℕ). answer_line 69 (n ∷ [])) e
 
   -- and one that is built
-  pub built_session : (built_of r).refusal ≡ 0 →
+  pub built_session : (built_of r).refusal ≡ None →
       session input ≡ said (follow_all (state_plan (built_of r).state) (lines_of (drop r.at input)) begin).printed
   unfolding built_of
   built_session e =
       let c = r.draft.counts in
-      whole ∙ pick_yes _ _ (ap (λ (n : ℕ). eqb n 0) e) ∙ lines_spoken r.draft.vertices c.vertices r.draft.edges c.edges c.same_size c.extra_walls e (lines_of (drop r.at input))
+      whole ∙ pick_yes _ _ (ap (λ (o : Option Refusal). eqb (number_or_0 o) 0) e) ∙ lines_spoken r.draft.vertices c.vertices r.draft.edges c.edges c.same_size c.extra_walls e (lines_of (drop r.at input))

@@ -27,6 +27,7 @@ use Rattle.desk.specs.Start.{no_vertices, no_edges, built_of}
 use Rattle.desk.specs.Session.{session}
 use Rattle.sessions.specs.Follow.{bytes_of, said, follow, follow_all, begin}
 use Rattle.sessions.specs.Stars.{as_bytes, star_inputs, star_outputs, g_in, g_out, a_in, a_out, b_in, b_out, c_in, c_out, c2_in, c2_out, d_in, d_out, d2_in, d2_out, e_in, e_out, e2_in, e2_out, f_in, f_out, h_in, h_out, code_in, code_out, literal_in, literal_out, sizes_in, sizes_out, pens_in, pens_out}
+use Rattle.base.proofs.Numbered.{none_with_0}
 use Rattle.sessions.proofs.DeskSession.{built_session}
 use Rattle.sessions.proofs.Plans.{Parts, Sized, grid, plan_is, words_is, words_length, built_plan}
 
@@ -45,7 +46,7 @@ case : (input : List ℕ) (vs : List ℤ) (n : ℕ) (es : List ℤ) (m : ℕ) (p
     session input ≡ said (follow_all (plan_is x) (lines_of (drop at input)) begin).printed
 unfolding built_of built
 case input vs n es m p e at x wf t z s g f =
-    built_session input (reading_of (counts n m p e) vs es at) wf t z
+    built_session input (reading_of (counts n m p e) vs es at) wf t (none_with_0 _ z)
     ∙ ap (λ (d : Plan). said (follow_all d (lines_of (drop at input)) begin).printed) (built_plan vs n es m p e x s (words_length x s) z g f)
 
 -- ---- g

@@ -7,6 +7,9 @@ use native.Mathlib.Omega.{arith}
 use lib.IntN.{ℤ}
 use lib.ListN.{length, replicate, length-replicate, get_or-replicate}
 use borrow.Author.Tests.{lt-ltb, eq-eqb}
+use Rattle.std.specs.Prelude.{None}
+use Rattle.base.proofs.Numbered.{with_none}
+use Rattle.builder.specs.Input.{refusal}
 use Rattle.base.specs.Lists.{tab}
 use Rattle.base.proofs.Loop.{pick_yes}
 use Rattle.base.proofs.Filled.{filled_length}
@@ -36,7 +39,11 @@ no_reasons_long : length no_reasons.at ≡ 4352
 unfolding no_reasons
 no_reasons_long = length-replicate {A = Recorded} 4352 (holding NotPropagated)
 
-module _ (vs : List ℤ) (n : ℕ) (es : List ℤ) (m : ℕ) (a b : Bool) (z : (built vs n es m a b).refusal ≡ 0) where
+module _ (vs : List ℤ) (n : ℕ) (es : List ℤ) (m : ℕ) (a b : Bool) (none : (built vs n es m a b).refusal ≡ None) where
+  pub z : refusal vs n es m ≡ 0
+  unfolding built
+  z = with_none _ none
+
   pub plan_length : length (built vs n es m a b).state.plan ≡ 15241
   unfolding built plan_words with_index
   plan_length =

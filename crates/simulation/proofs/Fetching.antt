@@ -37,7 +37,7 @@ use Rattle.noting.specs.Words.{state_of}
 use Rattle.noting.specs.Note.{noting}
 use Rattle.noting.specs.Buffers.{reason_short}
 use Rattle.noting.proofs.Valid.{valid_state}
-use Rattle.walks.specs.declared.Listed.{Listed}
+use Rattle.std.specs.Prelude.{Option}
 use Rattle.walks.specs.Written.{Out, out_of, written}
 use Rattle.walks.specs.Answers as walks
 use Rattle.walks.proofs.Written.{written_fits}
@@ -191,7 +191,7 @@ module _ (s : GraphDivision) (log : List ℕ) (c : Cursor) (w : World) (r : Repr
       is_gone : gone (state_plan s) (note_all (state_plan s) w.standing) q ≡ true → SimulatesFetched s log c b (reason_given ws (list_for s why).text (list_for s why).listed b) (calls.refuse 16 w [])
       unfolding list_for reason_given
       is_gone t = fetched_by
-          (ap (λ (a : Listed). reason_given ws (list_for s why).text a b) (reason_missing ws ends s.noted held why q blank m i (gone_same (state_plan s) (proper_plan ws ends r.proper) _ _ same q ∙ t)))
+          (ap (λ (a : Option ℕ). reason_given ws (list_for s why).text a b) (reason_missing ws ends s.noted held why q blank m i (gone_same (state_plan s) (proper_plan ws ends r.proper) _ _ same q ∙ t)))
           refl (refused 16)
 
       is_there : gone (state_plan s) (note_all (state_plan s) w.standing) q ≡ false →

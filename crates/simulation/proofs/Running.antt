@@ -9,6 +9,7 @@ use lib.Dec.{eqb}
 use lib.ListN.{length, get_or, take, drop, length-take, length-append, take-append-drop, get_or-append, replicate, length-replicate}
 use lib.Seq.{sets, take-append_seam}
 use borrow.Author.Tests.{le-ltb}
+use Rattle.std.specs.Prelude.{None}
 use Rattle.base.specs.Iter.{pick}
 use Rattle.base.specs.Range.{in_range}
 use Rattle.base.proofs.Loop.{pick_yes, pick_no, tested}
@@ -276,13 +277,13 @@ enough : (ws : List ℕ) → log_short ws (length (replicate {A = ℕ} (2 * slot
 unfolding log_short
 enough ws = le-ltb _ (2 * slots_of ws) (omega (arith, length-replicate {A = ℕ} (2 * slots_of ws) 0))
 
-pub fresh_represents : (vs : List ℤ) (n : ℕ) (es : List ℤ) (m : ℕ) (a b : Bool) → (built vs n es m a b).refusal ≡ 0 → RepresentsKept (just_built (built vs n es m a b)) calls.built
+pub fresh_represents : (vs : List ℤ) (n : ℕ) (es : List ℤ) (m : ℕ) (a b : Bool) → (built vs n es m a b).refusal ≡ None → RepresentsKept (just_built (built vs n es m a b)) calls.built
 fresh_represents vs n es m a b z =
     let ws = (built vs n es m a b).state.plan in
     record { used = refl; rest = replicate (2 * slots_of ws) 0; represents = new_represents vs n es m a b z _ (enough ws) }
 
 -- after any list of calls on a state that is built, the world is that of the definition's run
-pub run_represents : (vs : List ℤ) (n : ℕ) (es : List ℤ) (m : ℕ) (a b : Bool) → (built vs n es m a b).refusal ≡ 0 → (qs : List Request) →
+pub run_represents : (vs : List ℤ) (n : ℕ) (es : List ℤ) (m : ℕ) (a b : Bool) → (built vs n es m a b).refusal ≡ None → (qs : List Request) →
     Leads (just_built (built vs n es m a b)) (after (just_built (built vs n es m a b)) qs) (calls.run (state_plan (built vs n es m a b).state) (calls_of (just_built (built vs n es m a b)) qs))
 unfolding calls.run
 run_represents vs n es m a b z qs = after_leads qs (just_built (built vs n es m a b)) calls.built (fresh_represents vs n es m a b z)

@@ -23,7 +23,7 @@ use Rattle.calls.specs.Table.{rising, false_in, unset_in, enter}
 use Rattle.calls.specs.Look.{offers, first_false, hand_on, enter_all}
 use Rattle.walks.specs.Written.{Out, out_of, pushed, written}
 use Rattle.walks.proofs.Written.{written_fits}
-use Rattle.plan.specs.Words.{variables_of, variable_at, unique_lit_at}
+use Rattle.plan.specs.Words.{variables_of, unique_lit_at}
 use Rattle.plan.specs.Proper.{ProperWords}
 use Rattle.reasons.specs.Words.{stored}
 use Rattle.sweep.specs.Sweep.{proposed_at, false_at, first_false_at, Handed, handing, handed, handed_at, handed_on}

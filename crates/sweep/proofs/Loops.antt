@@ -6,7 +6,7 @@ use native.Mathlib.Numerals.{add-one}
 use mathlib.Core.Path.{◌≡◌, refl, sym, ap, ap₂, ◌∙◌}
 use mathlib.Core.Logic.{⊎_elim}
 use mathlib.Core.Bool.{Bool, true, false, true≢false, ◌||◌}
-use mathlib.Core.List.{List, [], ◌∷◌, ◌++◌, append_assoc}
+use mathlib.Core.List.{List, ◌∷◌, ◌++◌, append_assoc}
 use lib.ListN.{length, get_or, take, drop, length-set, drop_of_length-le}
 use lib.Seq.{drop-cons, take-nil, set_out, sets, sets-eq, take_at, drop_at, length-take-le}
 use borrow.Author.Tests.{le-ltb}
@@ -18,7 +18,7 @@ use Rattle.division.specs.Regions.{lowest}
 use Rattle.division.proofs.Phases.{lowest_true}
 use Rattle.division.proofs.Views.{lowest_most}
 use Rattle.calls.specs.Table.{unset_in, current_in, some_current, enter}
-use Rattle.walks.specs.Written.{Out, out_of, pushed}
+use Rattle.walks.specs.Written.{out_of, pushed}
 use Rattle.walks.proofs.Written.{pushed_length}
 use Rattle.sweep.specs.Sweep.{Handed, handing, handed, handed_at}
 

@@ -5,41 +5,24 @@
 
 pub mod table;
 
-ghost use Rattle.std.specs.Prelude.{◌≡◌, ◌*◌, ◌+◌, ◌/◌, ◌^◌, ◌<◌, ◌≤◌, min, length};
+ghost use Rattle.std.specs.Prelude.{◌≡◌, ◌*◌, ◌+◌, ◌/◌, ◌^◌, ◌<◌};
 ghost use Rattle.plan.specs.Words.{words_of, unique_lit_at};
 ghost use Rattle.std.specs.Int.Count.{count_trailing_zeros};
-ghost use Rattle.base.specs.Lists.{filled};
 ghost use Rattle.reasons.specs.Words.{has_bit};
 ghost use Rattle.sweep.specs.Sweep.{proposed_at, next_proposed, cleared, false_at, first_false_at};
 ghost use Rattle.sweep.specs.Sweep.{handing, handed, handed_at, handed_on};
 
-use base::slices::word;
 use walks::push;
-
-// The first n words become 0.
-fn clear_words(proposals: &mut [u64], n: usize)
-    requires { n ≤ length proposals.old }
-    ensures { proposals.new ≡ filled 0 n (λ i. 0) proposals.old }
-{
-    let mut i = 0;
-    while i < n {
-        proposals[i] = 0;
-        i += 1;
-    }
-}
 
 // No place is proposed any more.
 pub fn clear(proposals: &mut [u64])
     ensures { proposals.new ≡ cleared proposals.old }
 {
-    let len = proposals.len();
-    if 68 < len {
-        clear_words(proposals, 68);
-    } else {
-        clear_words(proposals, len);
-    }
+    let n = proposals.len().min(68);
+    proposals[..n].fill(0);
 }
 
+#[tactic(auto, unfolding(reasons::specs::Words::has_bit))]
 fn has_bit(word: u64, i: usize) -> bool
     requires { i < 64 }
     ensures { result ≡ has_bit word i }
@@ -47,13 +30,11 @@ fn has_bit(word: u64, i: usize) -> bool
     (word >> i) % 2 == 1
 }
 
+#[tactic(auto, unfolding(crate::specs::Sweep::proposed_at))]
 pub fn proposed(proposals: &[u64], p: usize) -> bool
     ensures { result ≡ proposed_at proposals.now p }
 {
-    if p < 4352 {
-        return has_bit(word(proposals, p / 64), p % 64);
-    }
-    false
+    p < 4352 && has_bit(proposals.get(p / 64).copied().unwrap_or(0), p % 64)
 }
 
 // The lowest bit that is set, from bit `from` on; 64 or more where there is none.
@@ -64,46 +45,37 @@ fn next_bit(word: u64, from: usize) -> usize
     from + u64::trailing_zeros(word >> from) as usize
 }
 
-fn lesser(a: usize, b: usize) -> usize
-    ensures { result ≡ min a b }
-{
-    if a < b {
-        return a;
-    }
-    b
-}
-
 // The lowest proposed place from `from` on, or n where there is none below n.
 pub fn next_proposed(proposals: &[u64], from: usize, n: usize) -> usize
     ensures { result ≡ next_proposed proposals.now from n }
 {
-    let end = lesser(n, 64 * lesser(proposals.len(), 68));
+    let end = n.min(64 * proposals.len().min(68));
     let mut p = from;
+    // No `for`: a turn is a word, and the first one may begin within its word.
     while p < end {
         let bit = next_bit(proposals[p / 64], p % 64);
         if bit < 64 {
-            return lesser(64 * (p / 64) + bit, n);
+            return (64 * (p / 64) + bit).min(n);
         }
         p += 64 - p % 64;
     }
     n
 }
 
+#[tactic(auto, unfolding(crate::specs::Sweep::false_at))]
 fn false_at(plan: &[u8], proposals: &[u64], table: &[u8], p: usize) -> bool
     ensures { result ≡ false_at (words_of plan.now) proposals.now table.now p }
 {
-    if proposed(proposals, p) {
-        return table::is_false(table, plan::unique_lit(plan, p));
-    }
-    false
+    proposed(proposals, p) && table::is_false(table, plan::unique_lit(plan, p))
 }
 
 // The lowest place that is proposed and whose literal is false, or the place past the last.
 pub fn first_false(plan: &[u8], proposals: &[u64], table: &[u8]) -> usize
     ensures { result ≡ first_false_at (words_of plan.now) proposals.now table.now }
 {
-    let n = 2 * (plan::num_variables(plan) as usize);
+    let n = 2 * plan::num_variables(plan) as usize;
     let mut p = next_proposed(proposals, 0, n);
+    // No `for`: each turn goes on at the next place that is proposed.
     while p < n {
         if false_at(plan, proposals, table, p) {
             return p;
@@ -113,6 +85,7 @@ pub fn first_false(plan: &[u8], proposals: &[u64], table: &[u8]) -> usize
     n
 }
 
+#[tactic(auto, unfolding(crate::specs::Sweep::handed, base::specs::Iter::pick))]
 fn hand_on_lit(table: &mut [u8], list: &mut [u32], at: usize, lit: u64) -> usize
     ensures { handing table.new list.new result ≡ handed lit (handing table.old list.old at) }
 {
@@ -123,6 +96,7 @@ fn hand_on_lit(table: &mut [u8], list: &mut [u32], at: usize, lit: u64) -> usize
     at
 }
 
+#[tactic(auto, unfolding(crate::specs::Sweep::handed_at, base::specs::Iter::pick))]
 fn hand_on_place(
     plan: &[u8],
     proposals: &[u64],
@@ -150,9 +124,10 @@ pub fn hand_on(
 ) -> usize
     ensures { handing table.new list.new result ≡ handed_on (words_of plan.now) proposals.now (handing table.old list.old at) }
 {
-    let n = 2 * (plan::num_variables(plan) as usize);
+    let n = 2 * plan::num_variables(plan) as usize;
     let mut p = next_proposed(proposals, 0, n);
     let mut past = at;
+    // No `for`: each turn goes on at the next place that is proposed.
     while p < n {
         past = hand_on_place(plan, proposals, table, list, past, p);
         p = next_proposed(proposals, p + 1, n);

@@ -55,16 +55,6 @@ module _ (most : ℕ) (f : Field) where
       (λ t'. absurd (false≢true (within_minus t' (eqb-false f.size 0 t) ∙ h)))
       (λ t'. leb-true f.size most (within_plus t' ∙ h)))
 
--- ---- by the letter
-module _ (n : ℕ) (s : Seen) where
-  pub no_letter : (n ≡ 79 → ⊥) → (n ≡ 80 → ⊥) → (n ≡ 71 → ⊥) → (n ≡ 86 → ⊥) → (n ≡ 73 → ⊥) → (n ≡ 78 → ⊥) → (n ≡ 85 → ⊥) → (n ≡ 82 → ⊥) →
-      Malformed ≡ by_letter n s
-  unfolding by_letter
-  no_letter o p g v i m u r =
-      sym
-      (pick_no _ _ (ne_eqb n 79 o) ∙ pick_no _ _ (ne_eqb n 80 p) ∙ pick_no _ _ (ne_eqb n 71 g) ∙ pick_no _ _ (ne_eqb n 86 v)
-      ∙ pick_no _ _ (ne_eqb n 73 i) ∙ pick_no _ _ (ne_eqb n 78 m) ∙ pick_no _ _ (ne_eqb n 85 u) ∙ pick_no _ _ (ne_eqb n 82 r))
-
 -- ---- the whole line
 first_is : (l : List ℕ) → length (take (upto tab l) l) ≡ upto tab l
 first_is l = length-take-le (upto tab l) l (upto_within tab l)

@@ -1,9 +1,7 @@
 -- "A number is 1 to 9 digits, a minus before it allowed."
-use Rattle.std.specs.Prelude.{List, [], ◌∷◌, Bool, true, false, ℕ, ◌+◌, ◌-◌, ◌*◌, ℤ, pos, neg_ℤ, leb, eqb, length}
+use Rattle.std.specs.Prelude.{List, [], ◌∷◌, Bool, true, false, ℕ, ◌+◌, ◌-◌, ◌*◌, ℤ, pos, neg_ℤ, leb, eqb, length, Option, None, Some}
 use Rattle.base.specs.Iter.{pick}
 use Rattle.text.specs.declared.Field.{Field}
-use Rattle.text.specs.declared.Read.{Read}
-use Rattle.text.specs.declared.Read.TheVariants.{Number, Malformed}
 
 -- every byte is a digit
 unfoldable pub all_digits : List ℕ → Bool
@@ -36,5 +34,5 @@ field_of (b ∷ l) = pick (eqb b 45) (sized true l) (sized false (b ∷ l))
 unfoldable pub number_of : Field → ℤ
 number_of f = pick f.minus (neg_ℤ (pos f.size)) (pos f.size)
 
-unfoldable pub read_number : List ℕ → Read
-read_number l = pick (field_of l).ok (Number (number_of (field_of l))) Malformed
+unfoldable pub read_number : List ℕ → Option ℤ
+read_number l = pick (field_of l).ok (Some (number_of (field_of l))) None

@@ -9,26 +9,10 @@ fn is_admitted(first: bool, called: bool, line: Line) -> bool
     ensures { result ≡ admitted first called line }
 {
     match line {
-        Line::O {
-            same_size: _,
-            extra_walls: _,
-        } => first,
-        Line::P {
-            weight: _,
-            sizes: _,
-            count: _,
-        } => !called,
-        Line::G { u: _, v: _, lit: _ } => !called,
-        Line::V {
-            variable: _,
-            code: _,
-        } => true,
-        Line::I => true,
-        Line::N { lit: _, pending: _ } => true,
-        Line::U { lit: _ } => true,
-        Line::R { lit: _ } => true,
-        Line::RLast => true,
+        Line::O { .. } => first,
+        Line::P { .. } | Line::G { .. } => !called,
         Line::Malformed => false,
+        _ => true,
     }
 }
 
@@ -36,28 +20,7 @@ fn is_admitted(first: bool, called: bool, line: Line) -> bool
 fn called_by(called: bool, line: Line) -> bool
     ensures { result ≡ calls called line }
 {
-    match line {
-        Line::O {
-            same_size: _,
-            extra_walls: _,
-        } => called,
-        Line::P {
-            weight: _,
-            sizes: _,
-            count: _,
-        } => called,
-        Line::G { u: _, v: _, lit: _ } => called,
-        Line::V {
-            variable: _,
-            code: _,
-        } => true,
-        Line::I => true,
-        Line::N { lit: _, pending: _ } => true,
-        Line::U { lit: _ } => true,
-        Line::R { lit: _ } => true,
-        Line::RLast => true,
-        Line::Malformed => true,
-    }
+    called || !matches!(line, Line::O { .. } | Line::P { .. } | Line::G { .. })
 }
 
 // Whether the whole input is well formed: at most 1 MiB, every line of a known shape, and all in order.
@@ -70,6 +33,7 @@ pub fn well_formed(input: &[u8]) -> bool
     let mut at = 0;
     let mut first = true;
     let mut called = false;
+    // No `for`: each turn goes on where its line has ended.
     while at < input.len() {
         let e = line_end(input, at);
         let line = read_line(&input[at..e]);

@@ -18,12 +18,6 @@ pub struct Field {
     pub size: u32,
 }
 
-#[derive(Clone, Copy)]
-pub enum Read {
-    Number(i32),
-    Malformed,
-}
-
 // What a line's shape goes by: whether its fields are numbers, how many there are, and the first three.
 #[derive(Clone, Copy)]
 pub struct Seen {
@@ -73,35 +67,27 @@ pub enum Line {
     Malformed,
 }
 
+// Where the piece that starts at `at` ends: at the next `separator`, or at the end of the bytes. Past the end it is `at` itself.
+fn end_at(bytes: &[u8], at: usize, separator: u8) -> usize
+    ensures { result ≡ at + upto separator (drop at bytes.now) }
+{
+    for i in at..bytes.len() {
+        if bytes[i] == separator {
+            return i;
+        }
+    }
+    at.max(bytes.len())
+}
+
 // Where the line that starts at `at` ends: at the next newline, or at the input's end. Past the end it is `at` itself.
 pub fn line_end(input: &[u8], at: usize) -> usize
     ensures { result ≡ at + upto newline (drop at input.now) }
 {
-    let mut i = at;
-    while i < input.len() {
-        if input[i] == 10 {
-            return i;
-        }
-        i += 1;
-    }
-    i
-}
-
-// Where the field that starts at `at` ends: at the next tab, or at the line's end.
-fn field_end(line: &[u8], at: usize) -> usize
-    ensures { result ≡ at + upto tab (drop at line.now) }
-{
-    let mut i = at;
-    while i < line.len() {
-        if line[i] == 9 {
-            return i;
-        }
-        i += 1;
-    }
-    i
+    end_at(input, at, b'\n')
 }
 
 // What is no number.
+#[tactic(auto, unfolding(crate::specs::Number::none))]
 fn nothing() -> Field
     ensures { result ≡ none }
 {
@@ -118,17 +104,12 @@ fn read_digits(minus: bool, s: &[u8], from: usize) -> Field
     ensures { result ≡ digits_field minus 0 (drop from s.now) }
 {
     let mut v: u32 = 0;
-    let mut i = from;
-    while i < s.len() {
+    for i in from..s.len() {
         let b = s[i];
-        if b < 48 {
+        if b < b'0' || b'9' < b {
             return nothing();
         }
-        if 57 < b {
-            return nothing();
-        }
-        v = v * 10 + (b - 48) as u32;
-        i += 1;
+        v = v * 10 + u32::from(b - b'0');
     }
     Field {
         ok: true,
@@ -143,10 +124,7 @@ fn read_sized(minus: bool, s: &[u8], from: usize) -> Field
     ensures { result ≡ sized minus (drop from s.now) }
 {
     let n = s.len() - from;
-    if n < 1 {
-        return nothing();
-    }
-    if 9 < n {
+    if n < 1 || 9 < n {
         return nothing();
     }
     read_digits(minus, s, from)
@@ -156,40 +134,37 @@ fn read_sized(minus: bool, s: &[u8], from: usize) -> Field
 fn read_field(s: &[u8]) -> Field
     ensures { result ≡ field_of s.now }
 {
-    if s.len() == 0 {
+    if s.is_empty() {
         return nothing();
     }
-    if s[0] == 45 {
+    if s[0] == b'-' {
         return read_sized(true, s, 1);
     }
     read_sized(false, s, 0)
 }
 
 // A field's value.
+#[tactic(auto, unfolding(crate::specs::Number::number_of, base::specs::Iter::pick))]
 fn signed(f: Field) -> i32
     requires { f.size < 1000000000 }
     ensures { result ≡ number_of f }
 {
-    let minus = f.minus;
     let v = f.size as i32;
-    if minus {
-        return -v;
-    }
-    v
+    if f.minus { -v } else { v }
 }
 
-// The number that a field holds.
-pub fn read_number(field: &[u8]) -> Read
+// The number that a field holds, if it holds one.
+pub fn read_number(field: &[u8]) -> Option<i32>
     ensures { result ≡ read_number field.now }
 {
     let f = read_field(field);
-    let ok = f.ok;
-    if ok {
-        return Read::Number(signed(f));
+    if f.ok {
+        return Some(signed(f));
     }
-    Read::Malformed
+    None
 }
 
+#[tactic(auto, unfolding(crate::specs::Lines::seen_of, crate::specs::Lines::all_numbers))]
 fn see_none() -> Seen
     ensures { result ≡ seen_of [] }
 {
@@ -203,36 +178,19 @@ fn see_none() -> Seen
     }
 }
 
-fn pick_field(test: bool, yes: Field, no: Field) -> Field
-    ensures { result ≡ pick test yes no }
-{
-    if test {
-        return yes;
-    }
-    no
-}
-
-fn both(a: bool, b: bool) -> bool
-    ensures { result ≡ pick a b false }
-{
-    if a {
-        return b;
-    }
-    false
-}
-
 // One field more.
+#[tactic(auto, unfolding(crate::specs::Steps::see_next, base::specs::Iter::pick))]
 fn see_next(s: Seen, f: Field) -> Seen
     requires { s.count < 18446744073709551615 }
     ensures { result ≡ see_next s f }
 {
     let n = s.count;
     Seen {
-        ok: both(s.ok, f.ok),
+        ok: s.ok && f.ok,
         count: n + 1,
-        a: pick_field(n == 0, f, s.a),
-        b: pick_field(n == 1, f, s.b),
-        c: pick_field(n == 2, f, s.c),
+        a: if n == 0 { f } else { s.a },
+        b: if n == 1 { f } else { s.b },
+        c: if n == 2 { f } else { s.c },
     }
 }
 
@@ -243,9 +201,10 @@ fn see_from(line: &[u8], end: usize) -> Seen
 {
     let mut s = see_none();
     let mut at = end;
+    // No `for`: each turn goes on where its field has ended.
     while at < line.len() {
         let from = at + 1;
-        let e = field_end(line, from);
+        let e = end_at(line, from, b'\t');
         let f = read_field(&line[from..e]);
         s = see_next(s, f);
         at = e;
@@ -254,144 +213,117 @@ fn see_from(line: &[u8], end: usize) -> Seen
 }
 
 // Whether a field's value is 0 to most. A minus before 0 changes nothing.
+#[tactic(auto, unfolding(crate::specs::Lines::within, crate::specs::Number::number_of, base::specs::Iter::pick))]
 fn is_within(most: usize, f: Field) -> bool
     ensures { result ≡ within most f }
 {
-    let n = f.size;
-    let minus = f.minus;
-    if n == 0 {
-        return true;
-    }
-    if minus {
-        return false;
-    }
-    n as usize <= most
+    f.size == 0 || (!f.minus && f.size as usize <= most)
 }
 
+#[tactic(auto, unfolding(crate::specs::Lines::shape_o, base::specs::Iter::pick))]
 fn shape_o(s: Seen) -> Line
     ensures { result ≡ shape_o s }
 {
-    let n = s.count;
-    if n != 2 {
+    if s.count != 2 || !is_within(1, s.a) || !is_within(1, s.b) {
         return Line::Malformed;
     }
-    if !is_within(1, s.a) {
-        return Line::Malformed;
-    }
-    if !is_within(1, s.b) {
-        return Line::Malformed;
-    }
-    let a = s.a.size;
-    let b = s.b.size;
     Line::O {
-        same_size: a == 1,
-        extra_walls: b == 1,
+        same_size: s.a.size == 1,
+        extra_walls: s.b.size == 1,
     }
 }
 
+#[tactic(auto, unfolding(crate::specs::Lines::shape_p, base::specs::Iter::pick))]
 fn shape_p(s: Seen) -> Line
     requires { Fitting s }
     ensures { result ≡ shape_p s }
 {
-    let n = s.count;
-    if n < 2 {
+    if s.count < 2 || !is_within(s.count - 2, s.b) {
         return Line::Malformed;
     }
-    let count = n - 2;
-    if !is_within(count, s.b) {
-        return Line::Malformed;
-    }
-    let weight = signed(s.a);
-    let k = s.b.size;
     Line::P {
-        weight,
-        sizes: k as usize,
-        count,
+        weight: signed(s.a),
+        sizes: s.b.size as usize,
+        count: s.count - 2,
     }
 }
 
+#[tactic(auto, unfolding(crate::specs::Lines::shape_g, base::specs::Iter::pick))]
 fn shape_g(s: Seen) -> Line
     requires { Fitting s }
     ensures { result ≡ shape_g s }
 {
-    let n = s.count;
-    if n != 3 {
+    if s.count != 3 {
         return Line::Malformed;
     }
-    let u = signed(s.a);
-    let v = signed(s.b);
-    let lit = signed(s.c);
-    Line::G { u, v, lit }
+    Line::G {
+        u: signed(s.a),
+        v: signed(s.b),
+        lit: signed(s.c),
+    }
 }
 
+#[tactic(auto, unfolding(crate::specs::Lines::shape_v, base::specs::Iter::pick))]
 fn shape_v(s: Seen) -> Line
     ensures { result ≡ shape_v s }
 {
-    let n = s.count;
-    if n != 2 {
+    if s.count != 2 || !is_within(4095, s.a) || !is_within(4, s.b) {
         return Line::Malformed;
     }
-    if !is_within(4095, s.a) {
-        return Line::Malformed;
-    }
-    if !is_within(4, s.b) {
-        return Line::Malformed;
-    }
-    let variable = s.a.size;
-    let code = s.b.size;
     Line::V {
-        variable: variable as u16,
-        code: code as u8,
+        variable: s.a.size as u16,
+        code: s.b.size as u8,
     }
 }
 
+#[tactic(auto, unfolding(crate::specs::Lines::shape_i, base::specs::Iter::pick))]
 fn shape_i(s: Seen) -> Line
     ensures { result ≡ shape_i s }
 {
-    let n = s.count;
-    if n != 0 {
-        return Line::Malformed;
+    if s.count == 0 {
+        Line::I
+    } else {
+        Line::Malformed
     }
-    Line::I
 }
 
+#[tactic(auto, unfolding(crate::specs::Lines::shape_n, base::specs::Iter::pick))]
 fn shape_n(s: Seen) -> Line
     requires { Fitting s }
     ensures { result ≡ shape_n s }
 {
-    let n = s.count;
-    if n != 2 {
+    if s.count != 2 {
         return Line::Malformed;
     }
-    let lit = signed(s.a);
-    let pending = signed(s.b);
-    Line::N { lit, pending }
+    Line::N {
+        lit: signed(s.a),
+        pending: signed(s.b),
+    }
 }
 
+#[tactic(auto, unfolding(crate::specs::Lines::shape_u, base::specs::Iter::pick))]
 fn shape_u(s: Seen) -> Line
     requires { Fitting s }
     ensures { result ≡ shape_u s }
 {
-    let n = s.count;
-    if n != 1 {
+    if s.count != 1 {
         return Line::Malformed;
     }
-    let lit = signed(s.a);
-    Line::U { lit }
+    Line::U { lit: signed(s.a) }
 }
 
+#[tactic(auto, unfolding(crate::specs::Lines::shape_r, base::specs::Iter::pick))]
 fn shape_r(s: Seen) -> Line
     requires { Fitting s }
     ensures { result ≡ shape_r s }
 {
-    let n = s.count;
-    if n != 1 {
+    if s.count != 1 {
         return Line::Malformed;
     }
-    let lit = signed(s.a);
-    Line::R { lit }
+    Line::R { lit: signed(s.a) }
 }
 
+#[tactic(auto, unfolding(crate::specs::Lines::by_letter, base::specs::Iter::pick))]
 fn by_letter(letter: u8, s: Seen) -> Line
     requires { Fitting s }
     ensures { result ≡ by_letter letter s }
@@ -410,19 +342,11 @@ fn by_letter(letter: u8, s: Seen) -> Line
 }
 
 // R with a minus.
+#[tactic(auto, unfolding(crate::specs::Lines::asks_last, base::specs::Iter::pick))]
 fn asks_last(line: &[u8]) -> bool
     ensures { result ≡ asks_last line.now }
 {
-    if line.len() != 3 {
-        return false;
-    }
-    if line[0] != b'R' {
-        return false;
-    }
-    if line[1] != 9 {
-        return false;
-    }
-    line[2] == 45
+    matches!(line, [b'R', b'\t', b'-'])
 }
 
 // What a line without its newline is.
@@ -432,13 +356,11 @@ pub fn read_line(line: &[u8]) -> Line
     if asks_last(line) {
         return Line::RLast;
     }
-    let e = field_end(line, 0);
-    if e != 1 {
+    if end_at(line, 0, b'\t') != 1 {
         return Line::Malformed;
     }
-    let s = see_from(line, e);
-    let ok = s.ok;
-    if ok {
+    let s = see_from(line, 1);
+    if s.ok {
         return by_letter(line[0], s);
     }
     Line::Malformed
@@ -449,14 +371,9 @@ fn store_number(from: usize, j: usize, f: Field, out: &mut [i32])
     requires { f.size < 1000000000 }
     ensures { out.new ≡ store from j (number_of f) out.old }
 {
-    if j < from {
-        return;
+    if from <= j && j - from < out.len() {
+        out[j - from] = signed(f);
     }
-    let i = j - from;
-    if out.len() <= i {
-        return;
-    }
-    out[i] = signed(f);
 }
 
 // Writes the numbers of a line from number `from` on, as many as fit, and answers how many there are. The first number
@@ -464,18 +381,16 @@ fn store_number(from: usize, j: usize, f: Field, out: &mut [i32])
 pub fn numbers(line: &[u8], from: usize, out: &mut [i32]) -> usize
     ensures { (result ≡ length (numbers_from from line.now)) × (out.new ≡ over (numbers_from from line.now) out.old) }
 {
-    let mut at = field_end(line, 0);
+    let mut at = end_at(line, 0, b'\t');
     let mut j = 0;
+    // No `for`: each turn goes on where its field has ended.
     while at < line.len() {
         let start = at + 1;
-        let e = field_end(line, start);
+        let e = end_at(line, start, b'\t');
         let f = read_field(&line[start..e]);
         store_number(from, j, f, out);
         j += 1;
         at = e;
     }
-    if j < from {
-        return 0;
-    }
-    j - from
+    j.saturating_sub(from)
 }

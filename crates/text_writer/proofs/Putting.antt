@@ -11,7 +11,7 @@ use lib.Seq.{append_snoc, set_split, take_at, drop_at, drop-drop, drop-append-ad
 use lib.Seq.{take-set-le}
 use borrow.Author.Tests.{le-leb, lt-leb, leb-true, leb-false}
 use Rattle.base.proofs.Loop.{pick_yes, pick_no, tested}
-use Rattle.text_writer.specs.declared.Written.TheVariants.{Next, TooSmall}
+use Rattle.std.specs.Prelude.{None, Some}
 use Rattle.text.specs.Fields.{newline}
 use Rattle.text_writer.specs.Digits.{digits}
 use Rattle.text_writer.specs.Written.{put, after, next, tabbed_one, tabbed, answer_line}
@@ -74,19 +74,13 @@ put_before buf xs at p v e h =
     ∙ sym (append_snoc (take at buf ++ xs) v (drop (suc p) buf))
     ∙ ap₂ (λ (a b : List ℕ). a ++ b) (append_assoc (take at buf) xs (v ∷ [])) (ap (λ (n : ℕ). drop n buf) z)
 
--- room from `at` on
-pub room_from : (at k len : ℕ) → at ≤ len → leb k (len - at) ≡ leb (at + k) len
-room_from at k len h = tested (leb (at + k) len)
-    (λ t. le-leb k (len - at) (omega (arith, leb-true (at + k) len t)) ∙ sym t)
-    (λ t. lt-leb k (len - at) (omega (arith, leb-false (at + k) len t)) ∙ sym t)
-
 -- ---- what a caller is told
 module _ (buf bytes : List ℕ) (at : ℕ) where
-  pub fitted : at + length bytes ≤ length buf → (next buf at bytes ≡ Next (at + length bytes)) × (after buf at bytes ≡ put buf at bytes)
+  pub fitted : at + length bytes ≤ length buf → (next buf at bytes ≡ Some (at + length bytes)) × (after buf at bytes ≡ put buf at bytes)
   unfolding next after
   fitted h = (pick_yes _ _ (le-leb _ _ h), pick_yes _ _ (le-leb _ _ h))
 
-  pub refused : length buf < at + length bytes → (next buf at bytes ≡ TooSmall) × (after buf at bytes ≡ buf)
+  pub refused : length buf < at + length bytes → (next buf at bytes ≡ None) × (after buf at bytes ≡ buf)
   unfolding next after
   refused h = (pick_no _ _ (lt-leb _ _ h), pick_no _ _ (lt-leb _ _ h))
 

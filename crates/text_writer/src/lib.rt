@@ -5,24 +5,14 @@ ghost use Rattle.std.specs.Prelude.{◌≡◌, ◌+◌, ◌≤◌, leb, length};
 ghost use Rattle.text_writer.specs.Digits.{digits};
 ghost use Rattle.text_writer.specs.Written.{put, after, next, tabbed, tabbed_one, answer_line};
 
-#[derive(Clone, Copy)]
-pub enum Written {
-    // Where the next byte goes.
-    Next(usize),
-    // The buffer has no room for all of it, and keeps what it held.
-    TooSmall,
-}
-
 // Writes n from `at` on, and answers where the next byte goes: the last digit first, then those of the quotient.
 fn write_digits(n: u32, buf: &mut [u8], at: usize) -> usize
     requires { at + length (digits n) ≤ length buf.old }
     ensures { (result ≡ at + length (digits n)) × (buf.new ≡ put buf.old at (digits n)) }
 {
     let end = at + count_digits(n);
-    let mut p = end;
     let mut quotient = n;
-    while at < p {
-        p -= 1;
+    for p in (at..end).rev() {
         buf[p] = (48 + quotient % 10) as u8;
         quotient /= 10;
     }
@@ -34,6 +24,7 @@ pub fn count_digits(n: u32) -> usize
     ensures { result ≡ length (digits n) }
 {
     let mut k = 1;
+    // No `for`: how many turns there are is what is asked.
     let mut rest = n;
     while 10 <= rest {
         rest /= 10;
@@ -46,21 +37,19 @@ pub fn count_digits(n: u32) -> usize
 fn fits(at: usize, k: usize, len: usize) -> bool
     ensures { result ≡ leb (at + k) len }
 {
-    if len < at {
-        return false;
-    }
-    k <= len - at
+    at <= len && k <= len - at
 }
 
-// Writes n in base ten from `at` on.
-pub fn write_number(n: u32, buf: &mut [u8], at: usize) -> Written
+// Writes n in base ten from `at` on, and answers where the next byte goes. `None` where the buffer has no room for all of
+// it, which then keeps what it held.
+pub fn write_number(n: u32, buf: &mut [u8], at: usize) -> Option<usize>
     ensures { (result ≡ next buf.old at (digits n)) × (buf.new ≡ after buf.old at (digits n)) }
 {
     let k = count_digits(n);
     if !fits(at, k, buf.len()) {
-        return Written::TooSmall;
+        return None;
     }
-    Written::Next(write_digits(n, buf, at))
+    Some(write_digits(n, buf, at))
 }
 
 // A tab and n.
@@ -68,7 +57,7 @@ fn write_tabbed(n: u32, buf: &mut [u8], at: usize) -> usize
     requires { at + length (tabbed_one n) ≤ length buf.old }
     ensures { (result ≡ at + length (tabbed_one n)) × (buf.new ≡ put buf.old at (tabbed_one n)) }
 {
-    buf[at] = 9;
+    buf[at] = b'\t';
     write_digits(n, buf, at + 1)
 }
 
@@ -78,10 +67,8 @@ fn write_all_tabbed(numbers: &[u32], buf: &mut [u8], at: usize) -> usize
     ensures { (result ≡ at + length (tabbed numbers.now)) × (buf.new ≡ put buf.old at (tabbed numbers.now)) }
 {
     let mut p = at;
-    let mut i = 0;
-    while i < numbers.len() {
-        p = write_tabbed(numbers[i], buf, p);
-        i += 1;
+    for &n in numbers {
+        p = write_tabbed(n, buf, p);
     }
     p
 }
@@ -91,30 +78,26 @@ fn has_room(numbers: &[u32], room: usize) -> bool
     ensures { result ≡ leb (length (tabbed numbers.now)) room }
 {
     let mut left = room;
-    let mut i = 0;
-    while i < numbers.len() {
-        let k = count_digits(numbers[i]);
+    for &n in numbers {
+        let k = count_digits(n);
         if left <= k {
             return false;
         }
-        left = left - k - 1;
-        i += 1;
+        left -= k + 1;
     }
     true
 }
 
-// Writes an answer's line from `at` on: its letter, its numbers and a newline.
-pub fn write_answer(letter: u8, numbers: &[u32], buf: &mut [u8], at: usize) -> Written
+// Writes an answer's line from `at` on, its letter, its numbers and a newline, and answers where the next byte goes; `None`
+// as above.
+pub fn write_answer(letter: u8, numbers: &[u32], buf: &mut [u8], at: usize) -> Option<usize>
     ensures { (result ≡ next buf.old at (answer_line letter numbers.now)) × (buf.new ≡ after buf.old at (answer_line letter numbers.now)) }
 {
-    if !fits(at, 2, buf.len()) {
-        return Written::TooSmall;
-    }
-    if !has_room(numbers, buf.len() - at - 2) {
-        return Written::TooSmall;
+    if !fits(at, 2, buf.len()) || !has_room(numbers, buf.len() - at - 2) {
+        return None;
     }
     buf[at] = letter;
     let p = write_all_tabbed(numbers, buf, at + 1);
-    buf[p] = 10;
-    Written::Next(p + 1)
+    buf[p] = b'\n';
+    Some(p + 1)
 }

@@ -1,13 +1,9 @@
 -- Document 01, "Undo log": a lent run of records (kind, index, old bound, old literal) and a small cursor (records used,
 -- notifications standing). The log is a list of records, oldest first; the flat form has one word a record.
-use Rattle.std.specs.Prelude.{Bool, ◌&&◌, List, map, ℕ, ◌+◌, ◌-◌, ◌*◌, ◌/◌, ◌%◌, ltb, leb, length, get_or, set, take}
+use Rattle.std.specs.Prelude.{Bool, ◌&&◌, List, map, ℕ, ◌+◌, ◌-◌, ◌*◌, ◌/◌, ◌%◌, ltb, leb, length, get_or, set, take, Option, None, Some}
 use Rattle.base.specs.Iter.{pick}
 use Rattle.undo_log.specs.declared.Record.{Record}
 use Rattle.undo_log.specs.declared.Cursor.{Cursor}
-use Rattle.undo_log.specs.declared.Pushed.{Pushed}
-use Rattle.undo_log.specs.declared.Pushed.TheVariants.{Moved, Full}
-use Rattle.undo_log.specs.declared.Popped.{Popped}
-use Rattle.undo_log.specs.declared.Popped.TheVariants.{Taken, Nothing}
 
 -- a record as one word: kind and index a byte each, the literal two, the bound four
 unfoldable pub word_of : Record → ℕ
@@ -32,12 +28,12 @@ has_room words c = ltb c.used (length words)
 unfoldable pub push_words : List ℕ → Cursor → Record → List ℕ
 push_words words c r = pick (has_room words c) (set words c.used (word_of r)) words
 
-unfoldable pub push_answer : List ℕ → Cursor → Pushed
-push_answer words c = pick (has_room words c) (Moved (moved_to c (c.used + 1))) Full
+unfoldable pub push_answer : List ℕ → Cursor → Option Cursor
+push_answer words c = pick (has_room words c) (Some (moved_to c (c.used + 1))) None
 
 -- the newest record is taken where there is one: some are used, and no more than there are words
-unfoldable pub pop_answer : List ℕ → Cursor → Popped
+unfoldable pub pop_answer : List ℕ → Cursor → Option (Record × Cursor)
 pop_answer words c =
     pick (ltb 0 c.used && leb c.used (length words))
-    (Taken (record_of (get_or words (c.used - 1) 0)) (moved_to c (c.used - 1)))
-    Nothing
+    (Some (record_of (get_or words (c.used - 1) 0), moved_to c (c.used - 1)))
+    None

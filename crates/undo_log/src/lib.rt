@@ -34,26 +34,17 @@ pub struct Cursor {
     pub standing: usize,
 }
 
-// What a push did: the cursor after it, or nothing for want of room.
-#[derive(Clone, Copy)]
-pub enum Pushed {
-    Moved(Cursor),
-    Full,
-}
-
-// What a pop found: the newest record and the cursor after it, or no record.
-#[derive(Clone, Copy)]
-pub enum Popped {
-    Taken(Record, Cursor),
-    Nothing,
-}
-
+#[tactic(auto, unfolding(crate::specs::Log::word_of))]
 pub fn word_of(r: Record) -> u64
     ensures { result ≡ word_of r }
 {
-    r.kind as u64 + 256 * (r.index as u64) + 65536 * (r.lit as u64) + 4294967296 * (r.bound as u64)
+    u64::from(r.kind)
+        + 256 * u64::from(r.index)
+        + 65536 * u64::from(r.lit)
+        + 4294967296 * u64::from(r.bound)
 }
 
+#[tactic(auto, unfolding(crate::specs::Log::record_of))]
 pub fn record_of(w: u64) -> Record
     ensures { result ≡ record_of w }
 {
@@ -65,40 +56,31 @@ pub fn record_of(w: u64) -> Record
     }
 }
 
-// Stores the record's word at the cursor, which moves on. A full log stays as it is.
-pub fn push(words: &mut [u64], cursor: Cursor, r: Record) -> Pushed
+// Stores the record's word at the cursor, and answers the cursor after it. A full log stays as it is: `None`.
+#[tactic(auto, unfolding(crate::specs::Log::push_answer, crate::specs::Log::push_words, base::specs::Iter::pick))]
+pub fn push(words: &mut [u64], cursor: Cursor, r: Record) -> Option<Cursor>
     ensures { (result ≡ push_answer words.old cursor) × (words.new ≡ push_words words.old cursor r) }
 {
     let at = cursor.used;
     if at < words.len() {
-        let w = word_of(r);
-        words[at] = w;
-        return Pushed::Moved(Cursor {
+        words[at] = word_of(r);
+        return Some(Cursor {
             used: at + 1,
-            standing: cursor.standing,
+            ..cursor
         });
     }
-    Pushed::Full
+    None
 }
 
-// Reads the newest record and moves the cursor back over it. The word stays where it is.
-pub fn pop(words: &[u64], cursor: Cursor) -> Popped
+// The newest record, and the cursor moved back over it; `None` where no record is in use. The word stays where it is.
+#[tactic(auto, unfolding(crate::specs::Log::pop_answer, base::specs::Iter::pick))]
+pub fn pop(words: &[u64], cursor: Cursor) -> Option<(Record, Cursor)>
     ensures { result ≡ pop_answer words.now cursor }
 {
     let used = cursor.used;
-    if used == 0 {
-        return Popped::Nothing;
-    }
-    if words.len() < used {
-        return Popped::Nothing;
+    if used == 0 || words.len() < used {
+        return None;
     }
     let at = used - 1;
-    let r = record_of(words[at]);
-    Popped::Taken(
-        r,
-        Cursor {
-            used: at,
-            standing: cursor.standing,
-        },
-    )
+    Some((record_of(words[at]), Cursor { used: at, ..cursor }))
 }

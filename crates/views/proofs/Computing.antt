@@ -8,7 +8,7 @@ use Rattle.base.specs.Lists.{filled}
 use Rattle.base.proofs.Loop.{pick_yes, pick_no}
 use Rattle.graph.specs.Search.{graph}
 use Rattle.graph.specs.Bounds.{walkable}
-use Rattle.graph.proofs.Lists.{and_both, and_no, and_no'}
+use Rattle.graph.proofs.Lists.{and_both, and_no'}
 use Rattle.regions.specs.Labels.{regions_of}
 use Rattle.regions.specs.Buckets.{weighable, weighed}
 use Rattle.plan.specs.Words.{word, vertices_of, edges_of}
@@ -50,18 +50,9 @@ module _ (noted view : List ℕ) (n : ℕ) (d p : Regions) (u l : Bounds) (eu : 
   stays : (d.known && (p.known && (u.known && l.known))) ≡ false → computed_of false view ≡ view_from noted n d p view
   stays e = sym (whole ∙ pick_no _ _ e)
 
-  -- one of the four is not known
+  -- the decided regions are not known
   pub no_decided : d.known ≡ false → computed_of false view ≡ view_from noted n d p view
   no_decided e = stays (and_no' d.known _ e)
-
-  pub no_potential : p.known ≡ false → computed_of false view ≡ view_from noted n d p view
-  no_potential e = stays (and_no d.known _ (and_no' p.known _ e))
-
-  pub no_upper : u.known ≡ false → computed_of false view ≡ view_from noted n d p view
-  no_upper e = stays (and_no d.known _ (and_no p.known _ (and_no' u.known _ e)))
-
-  pub no_lower : l.known ≡ false → computed_of false view ≡ view_from noted n d p view
-  no_lower e = stays (and_no d.known _ (and_no p.known _ (and_no u.known _ e)))
 
 pub stored_regions : (from n : ℕ) (l wl w view v : List ℕ) → w ≡ weighed l wl 0 n zeros → v ≡ filled (from + 128) 64 (word w) (filled from 64 (word l) view) →
     v ≡ with_regions from (weighed_from l wl n) view

@@ -8,15 +8,13 @@ use mathlib.Core.List.{List, [], ◌∷◌, ◌++◌, append_assoc, append-nil}
 use lib.Dec.{ltb}
 use lib.ListN.{length, set, take, drop, length-set, length-replicate}
 use lib.Seq.{take-suc-set, drop-cons, drop-length}
-use borrow.Author.Tests.{lt-ltb, le-ltb}
 use Rattle.base.specs.Iter.{pick}
 use Rattle.base.specs.Lists.{tab}
 use Rattle.base.proofs.Loop.{pick_yes, pick_no, tested}
 use Rattle.graph.specs.Search.{graph, searched, at}
 use Rattle.graph.specs.Bounds.{walkable}
 use Rattle.graph.proofs.Found.{found}
-use Rattle.walks.specs.declared.Listed.{Listed}
-use Rattle.walks.specs.declared.Listed.TheVariants.{Past, Missing}
+use Rattle.std.specs.Prelude.{Option, None, Some}
 use Rattle.walks.specs.declared.Shape.{Shape}
 use Rattle.walks.specs.Written.{Out, out_of, written}
 use Rattle.walks.specs.Walk.{order_list, member_list}
@@ -71,23 +69,23 @@ module _ (ws : List ℕ) (es : List (List ℕ)) (noted : List ℕ) (region : ℕ
       let f = found (graph es noted false) z.num_edges z.num_vertices region k.fine k.start in
       omega (arith, tab_length (at (searched (graph es noted false) z.num_edges z.num_vertices region)) (searched (graph es noted false) z.num_edges z.num_vertices region).count, f.few, k.fine.vertices)
 
-  module _ (r : Listed) (t : List ℕ) (e : answer_of r t ≡ region_vertices es noted false z region (out_of zeros 0)) where
+  module _ (r : Option ℕ) (t : List ℕ) (e : answer_of r t ≡ region_vertices es noted false z region (out_of zeros 0)) where
     -- the list was written
     written_yes : startable es noted z region ≡ true → answer_of r t ≡ given list (out_of zeros 0)
     unfolding region_vertices list
     written_yes h = e ∙ pick_yes _ _ h
 
-    written_no : startable es noted z region ≡ false → r ≡ Missing
+    written_no : startable es noted z region ≡ false → r ≡ None
     unfolding region_vertices missing
     written_no h = ap (λ (a : Answer). a.listed) (e ∙ pick_no _ _ h)
 
-    pub members_past : (n : ℕ) → r ≡ Past n → (true ≡ reaches ws es noted region) × (true ≡ true → (n ≤ length t) × (take n t ≡ members_from ws es noted region))
+    pub members_past : (n : ℕ) → r ≡ Some n → (true ≡ reaches ws es noted region) × (true ≡ true → (n ≤ length t) × (take n t ≡ members_from ws es noted region))
     unfolding given
     members_past n p =
         tested (startable es noted z region)
         (λ h.
         let y = written_yes h in
-        let a : Past (written list (out_of zeros 0)).place ≡ r = sym (ap (λ (a : Answer). a.listed) y) in
+        let a : Some (written list (out_of zeros 0)).place ≡ r = sym (ap (λ (a : Answer). a.listed) y) in
         let room : length list ≤ length zeros = omega (arith, list_short h, length-replicate {0} {A = ℕ} 64 0) in
         let w = written_taken list zeros 0 (omega arith) in
         let k : n ≡ (written list (out_of zeros 0)).place = cc in
@@ -95,12 +93,12 @@ module _ (ws : List ℕ) (es : List (List ℕ)) (noted : List ℕ) (region : ℕ
         (sym h ∙ reaches_is, λ _. (omega (arith, w.1, ap length u ∙ w.2), ap₂ (λ (m : ℕ) (x : List ℕ). take m x) k u ∙ w.0 ∙ list_is)))
         (λ h. let q = written_no h in let x : ◌≡◌ {A = ℕ} 0 1 = cc in absurd (omega arith))
 
-    pub members_missing : r ≡ Missing → false ≡ reaches ws es noted region
+    pub members_missing : r ≡ None → false ≡ reaches ws es noted region
     unfolding given
     members_missing p =
         tested (startable es noted z region)
         (λ h.
-        let a : Past (written list (out_of zeros 0)).place ≡ r = sym (ap (λ (a : Answer). a.listed) (written_yes h)) in
+        let a : Some (written list (out_of zeros 0)).place ≡ r = sym (ap (λ (a : Answer). a.listed) (written_yes h)) in
         let x : ◌≡◌ {A = ℕ} 0 1 = cc in absurd (omega arith))
         (λ h. sym h ∙ reaches_is)
 
@@ -109,9 +107,6 @@ module _ (t : ℕ → ℕ → Bool) (l : List ℕ) (r : ℕ) where
   pub record Choosing (a i : ℕ) : Type 0 where
     pub within : i ≤ length l
     pub is : best t r l ≡ best t a (drop i l)
-
-  pub choose_begins : Choosing r 0
-  choose_begins = record { within = omega arith; is = refl }
 
   pub choose_next : (a i c a' : ℕ) → Choosing a i → i < length l → c ≡ word l i → a' ≡ pick (t c a) c a → Choosing a' (i + 1)
   unfolding best
@@ -127,13 +122,6 @@ module _ (t : ℕ → ℕ → Bool) (l : List ℕ) (r : ℕ) where
   choose_ends a i v h =
       let all : i ≡ length l = omega (arith, v.within) in
       sym (v.is ∙ ap (best t a) (ap (λ (k : ℕ). drop k l) all ∙ drop-length l))
-
--- a choice by a test of what was read
-pub chosen_yes : (x y u v c a a' : ℕ) → x ≡ u → y ≡ v → x < y → a' ≡ c → a' ≡ pick (ltb u v) c a
-chosen_yes x y u v c a a' p q h e = e ∙ sym (pick_yes c a (lt-ltb u v (omega arith)))
-
-pub chosen_no : (x y u v c a a' : ℕ) → x ≡ u → y ≡ v → y ≤ x → a' ≡ a → a' ≡ pick (ltb u v) c a
-chosen_no x y u v c a a' p q h e = e ∙ sym (pick_no c a (le-ltb u v (omega arith)))
 
 -- the two vertices, as code has them
 abbrev pub extremes_at : Bool → ℕ → ℕ → Extremes

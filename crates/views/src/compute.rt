@@ -5,6 +5,7 @@ ghost use Rattle.plan.specs.Words.{words_of, word};
 ghost use Rattle.views.specs.Compute.{weight_words, computed_of, regions_from, bounds_from, weighed_from, view_from, with_bounds, compute_view};
 
 use crate::View;
+use base::fill::fill;
 use edge_table::Edges;
 use noting::Noted;
 use regions::limits::region_bounds;
@@ -32,12 +33,7 @@ fn weight_words(plan: &[u8]) -> [u32; 64]
     ensures { result ≡ weight_words (words_of plan.now) }
 {
     let mut words = [0u32; 64];
-    let mut v = 0;
-    while v < 64 {
-        let x = plan::weight(plan, v);
-        words[v] = x;
-        v += 1;
-    }
+    fill(&mut words, 0, 64, |v| plan::weight(plan, v));
     words
 }
 
@@ -52,17 +48,10 @@ pub fn compute(plan: &[u8], edges: Edges, noted: &Noted, potential: bool) -> Reg
     let mut weights = [0u32; 64];
     let walked = compute_regions(edges, noted, potential, num_edges, vertices, &mut labels);
     let added = region_weights(&labels, &words, 0, vertices, &mut weights);
-    if walked {
-        return Regions {
-            known: added,
-            labels: labels,
-            weights: weights,
-        };
-    }
     Regions {
-        known: false,
-        labels: labels,
-        weights: weights,
+        known: walked && added,
+        labels,
+        weights,
     }
 }
 
@@ -82,37 +71,9 @@ fn bound(labels: &[u8; 64], noted: &Noted, first: usize, vertices: usize, upper:
         &mut holders,
     );
     Bounds {
-        known: known,
-        bounds: bounds,
-        holders: holders,
-    }
-}
-
-fn word_of(x: u8) -> u32
-    ensures { result ≡ x }
-{
-    x as u32
-}
-
-fn copy_bytes(bytes: &[u8; 64], view: &mut View, from: usize)
-    requires { from + 64 ≤ 512 }
-    ensures { view.new ≡ filled from 64 (word bytes.now) view.old }
-{
-    let mut i = 0;
-    while i < 64 {
-        view[from + i] = word_of(bytes[i]);
-        i += 1;
-    }
-}
-
-fn copy_words(words: &[u32; 64], view: &mut View, from: usize)
-    requires { from + 64 ≤ 512 }
-    ensures { view.new ≡ filled from 64 (word words.now) view.old }
-{
-    let mut i = 0;
-    while i < 64 {
-        view[from + i] = words[i];
-        i += 1;
+        known,
+        bounds,
+        holders,
     }
 }
 
@@ -121,8 +82,8 @@ fn store_regions(labels: &[u8; 64], weights: &[u32; 64], view: &mut View, from: 
     requires { from + 192 ≤ 512 }
     ensures { view.new ≡ filled (from + 128) 64 (word weights.now) (filled from 64 (word labels.now) view.old) }
 {
-    copy_bytes(labels, view, from);
-    copy_words(weights, view, from + 128);
+    fill(view, from, 64, |v| u32::from(labels[v]));
+    fill(view, from + 128, 64, |v| weights[v]);
 }
 
 // Bounds from word `from` on, the vertices that have them from word `from + 64` on.
@@ -130,8 +91,8 @@ fn store_bounds(b: Bounds, view: &mut View, from: usize)
     requires { from + 128 ≤ 512 }
     ensures { view.new ≡ with_bounds from b view.old }
 {
-    copy_words(&b.bounds, view, from);
-    copy_bytes(&b.holders, view, from + 64);
+    fill(view, from, 64, |v| b.bounds[v]);
+    fill(view, from + 64, 64, |v| u32::from(b.holders[v]));
 }
 
 // The least upper bound of each region.
@@ -150,6 +111,7 @@ pub fn lower_bounds(labels: &[u8; 64], noted: &Noted, vertices: usize) -> Bounds
 
 // The view of regions whose labels are at hand, of vertices that weigh `words`. The answer is false, and the view stays,
 // where a label is no vertex or a weight is over 1,000,000.
+#[tactic(auto, unfolding(crate::specs::Compute::view_from, crate::specs::Compute::weighed_from, base::specs::Iter::pick))]
 fn store_view(
     words: &[u32; 64],
     noted: &Noted,
@@ -168,18 +130,12 @@ fn store_view(
     let potential_known = region_weights(potential, words, 0, vertices, &mut potential_weights);
     let upper = upper_bounds(decided, noted, vertices);
     let lower = lower_bounds(decided, noted, vertices);
-    if decided_known {
-        if potential_known {
-            if upper.known {
-                if lower.known {
-                    store_regions(decided, &decided_weights, view, 0);
-                    store_regions(potential, &potential_weights, view, 64);
-                    store_bounds(upper, view, 256);
-                    store_bounds(lower, view, 384);
-                    return true;
-                }
-            }
-        }
+    if decided_known && potential_known && upper.known && lower.known {
+        store_regions(decided, &decided_weights, view, 0);
+        store_regions(potential, &potential_weights, view, 64);
+        store_bounds(upper, view, 256);
+        store_bounds(lower, view, 384);
+        return true;
     }
     false
 }

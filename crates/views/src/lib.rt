@@ -14,14 +14,12 @@ pub const VIEW_WORDS: usize = 512;
 
 pub type View = [u32; VIEW_WORDS];
 
+#[tactic(auto, unfolding(plan::specs::Words::entry, base::specs::Iter::pick))]
 fn entry(view: &View, from: usize, i: usize) -> u32
     requires { from + 64 ≤ 512 }
     ensures { result ≡ entry from 64 view.now i }
 {
-    if i < 64 {
-        return view[from + i];
-    }
-    0
+    if i < 64 { view[from + i] } else { 0 }
 }
 
 // The label of v's region, its lowest vertex.

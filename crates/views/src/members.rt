@@ -1,6 +1,6 @@
 // Step 4's ties: of the vertices of a decided region, in the order of the search from its label, the first with the greatest lower bound
 // and the first with the least upper bound.
-ghost use Rattle.std.specs.Prelude.{◌≡◌, true, ◌≤◌, length, take};
+ghost use Rattle.std.specs.Prelude.{◌≡◌, Bool, true, ℕ, ◌≤◌, length, take};
 ghost use Rattle.division.specs.Analysis.{best};
 ghost use Rattle.noting.specs.Words.{state_of};
 ghost use Rattle.views.specs.Members.{reaches, members_from, higher, lesser, extremes};
@@ -8,7 +8,7 @@ ghost use Rattle.plan.specs.Words.{words_of};
 
 use edge_table::Edges;
 use noting::Noted;
-use walks::{Listed, Shape, region_vertices};
+use walks::{Shape, region_vertices};
 
 // The two vertices. Not found where the region cannot be walked.
 #[derive(Clone, Copy)]
@@ -37,53 +37,30 @@ fn list_members(plan: &[u8], edges: Edges, noted: &Noted, region: usize) -> Memb
     let mut list = [0u32; 64];
     let listed = region_vertices(edges, noted, false, shape, region, &mut list, 0);
     match listed {
-        Listed::Past(count) => Members {
+        Some(count) => Members {
             known: true,
-            count: count,
-            list: list,
+            count,
+            list,
         },
-        Listed::Missing => Members {
+        None => Members {
             known: false,
             count: 0,
-            list: list,
+            list,
         },
     }
 }
 
-fn vertex(x: u32) -> usize
-    ensures { result ≡ x }
-{
-    x as usize
-}
-
-// Of a region's vertices the first with the greatest lower bound, or `region` where none has a greater one than it.
-fn highest_lower(noted: &Noted, vertices: &[u32], region: usize) -> usize
-    ensures { result ≡ best (higher (state_of noted.now)) region vertices.now }
+// Of a region's vertices the first that is better than `region` and all before it, and than which none is; or `region`.
+fn best<F: Fn(usize, usize) -> bool>(vertices: &[u32], region: usize, is_better: F) -> usize
+    requires { F.IsAlwaysCallable is_better }
+    ensures { (t : ℕ → ℕ → Bool) → ((c a : ℕ) (r : Bool) → F.post is_better c a r → r ≡ t c a) → result ≡ best t region vertices.now }
 {
     let mut a = region;
-    let mut i = 0;
-    while i < vertices.len() {
-        let c = vertex(vertices[i]);
-        if noting::lower_bound(noted, a) < noting::lower_bound(noted, c) {
+    for x in vertices {
+        let c = *x as usize;
+        if is_better(c, a) {
             a = c;
         }
-        i += 1;
-    }
-    a
-}
-
-// The first with the least upper bound.
-fn lowest_upper(noted: &Noted, vertices: &[u32], region: usize) -> usize
-    ensures { result ≡ best (lesser (state_of noted.now)) region vertices.now }
-{
-    let mut a = region;
-    let mut i = 0;
-    while i < vertices.len() {
-        let c = vertex(vertices[i]);
-        if noting::upper_bound(noted, c) < noting::upper_bound(noted, a) {
-            a = c;
-        }
-        i += 1;
     }
     a
 }
@@ -94,21 +71,21 @@ pub fn extreme_vertices(plan: &[u8], edges: Edges, noted: &Noted, region: usize)
     ensures { result ≡ extremes (words_of plan.now) edges noted.now region }
 {
     let m = list_members(plan, edges, noted, region);
-    if m.known {
-        let list = m.list;
-        let count = m.count;
-        let vertices = &list[0..count];
-        let lower = highest_lower(noted, vertices, region);
-        let upper = lowest_upper(noted, vertices, region);
+    if !m.known {
         return Extremes {
-            found: true,
-            lower_bound_idx: lower,
-            upper_bound_idx: upper,
+            found: false,
+            lower_bound_idx: 0,
+            upper_bound_idx: 0,
         };
     }
+    let vertices = &m.list[..m.count];
     Extremes {
-        found: false,
-        lower_bound_idx: 0,
-        upper_bound_idx: 0,
+        found: true,
+        lower_bound_idx: best(vertices, region, |c, a| {
+            noting::lower_bound(noted, a) < noting::lower_bound(noted, c)
+        }),
+        upper_bound_idx: best(vertices, region, |c, a| {
+            noting::upper_bound(noted, c) < noting::upper_bound(noted, a)
+        }),
     }
 }

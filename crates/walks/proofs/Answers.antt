@@ -1,25 +1,24 @@
 -- What the tests of the public walks tell, and the searches that they start.
-use Prim.Native.Nat.{ℕ, zero, suc, ◌+◌, ◌-◌, ◌<◌, ◌≤◌}
+use Prim.Native.Nat.{ℕ, ◌+◌, ◌-◌, ◌<◌, ◌≤◌}
 use native.Mathlib.Omega.{arith}
 use mathlib.Core.Path.{◌≡◌, refl, sym, ◌∙◌, ap, ap₂, subst, fun_ext}
-use mathlib.Core.Bool.{Bool, true, false, true≢false, false≢true}
-use mathlib.Core.List.{List, [], ◌∷◌}
-use lib.Dec.{ltb}
+use mathlib.Core.Bool.{Bool, true, false, false≢true}
+use mathlib.Core.List.{List, []}
 use lib.ListN.{length, get_or, drop, take, length-drop}
 use native.Mathlib.Nat.{le_of_eq}
 use lib.Seq.{get_or-drop, take_all}
 use borrow.Author.Tests.{ltb-true, ltb-false, lt-ltb, le-ltb}
 use Rattle.base.specs.Iter.{pick}
 use Rattle.base.proofs.Loop.{pick_yes, pick_no}
-use Rattle.walks.specs.declared.Listed.TheVariants.{Past, Missing}
+use Rattle.std.specs.Prelude.{Some}
 use Rattle.walks.specs.declared.Shape.{Shape}
-use Rattle.graph.specs.Search.{Scan, scan_of, Graph, graph, searched, searched_on, reached_yet, blank}
-use Rattle.graph.specs.Bounds.{Ok, Fine, walkable}
+use Rattle.graph.specs.Search.{Scan, scan_of, Graph, searched, searched_on, reached_yet, blank}
+use Rattle.graph.specs.Bounds.{Ok, Fine}
 use Rattle.graph.specs.Paths.{here}
-use Rattle.walks.specs.Written.{Out, out_of, written}
+use Rattle.walks.specs.Written.{Out, written}
 use Rattle.graph.specs.Lists.{number_of}
 use Rattle.walks.specs.Walk.{word_at, path_back, path_list, tree_list, decided_list, border_list, potential_list}
-use Rattle.walks.specs.Answers.{answer_of, given, missing, startable, ready}
+use Rattle.walks.specs.Answers.{answer_of, given, startable, ready}
 use Rattle.graph.proofs.Keep.{drained_ok, begun_ok, blank_fresh, ok_count}
 use Rattle.graph.proofs.Walkable.{walkable_fine, pick_false}
 use Rattle.graph.proofs.Found.{found}
@@ -72,9 +71,9 @@ module _ (e : Graph) (edges n start : ℕ) (w : List ℕ) (c : ℕ) (f : Fine n 
 pub left_yet : (e : Graph) (edges n u : ℕ) (w : List ℕ) (c v : ℕ) → scan_of w c ≡ searched e edges n u → reached_yet (scan_of w 0) v ≡ reached_yet (searched e edges n u) v
 left_yet e edges n u w c v x = ap (λ (s : Scan). reached_yet s v) x
 
-pub given_as : (l m : List ℕ) (o o' : Out) → o' ≡ written l o → l ≡ m → answer_of (Past o'.place) o'.text ≡ given m o
+pub given_as : (l m : List ℕ) (o o' : Out) → o' ≡ written l o → l ≡ m → answer_of (Some o'.place) o'.text ≡ given m o
 unfolding given
-given_as l m o o' h e = ap (λ (x : Out). answer_of (Past x.place) x.text) (h ∙ ap (λ (y : List ℕ). written y o) e)
+given_as l m o o' h e = ap (λ (x : Out). answer_of (Some x.place) x.text) (h ∙ ap (λ (y : List ℕ). written y o) e)
 
 -- the words from a place on, as a part of the slice has them
 pub words_from : (lits : List ℕ) (first : ℕ) → word_at (take (length lits - first) (drop first lits)) ≡ number_of lits first
@@ -100,11 +99,3 @@ module _ (es : List (List ℕ)) (st lits : List ℕ) (z : Shape) (u : ℕ) where
   pub ready_yes : startable es st z u ≡ true → z.first_lit + z.num_edges ≤ length lits → true ≡ ready es st lits z u
   unfolding ready
   ready_yes e h = sym (pick_yes _ _ e ∙ pick_no _ _ (le-ltb (length lits) (z.first_lit + z.num_edges) h))
-
-  pub ready_short : startable es st z u ≡ true → length lits < z.first_lit + z.num_edges → false ≡ ready es st lits z u
-  unfolding ready
-  ready_short e h = sym (pick_yes _ _ e ∙ pick_yes _ _ (lt-ltb (length lits) (z.first_lit + z.num_edges) h))
-
-  pub ready_no : startable es st z u ≡ false → false ≡ ready es st lits z u
-  unfolding ready
-  ready_no e = sym (pick_no _ _ e)

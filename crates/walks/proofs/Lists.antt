@@ -2,25 +2,24 @@
 use Prim.Native.Nat.{ℕ, zero, suc, pred, ◌+◌, ◌<◌, ◌≤◌, zero-le, suc-le-suc}
 use native.Mathlib.Nat.{not-suc-le-zero, le_of_suc-le-suc, lt-suc_self, le_step, ne_of_lt, le_of_eq}
 use native.Mathlib.Omega.{arith}
-use mathlib.Core.Path.{◌≡◌, refl, sym, ◌∙◌, ap, ap₂, subst}
+use mathlib.Core.Path.{◌≡◌, refl, sym, ◌∙◌, ap, subst}
 use mathlib.Core.Logic.{◌⊎◌, inl, inr, ⊎_elim}
-use mathlib.Core.Bool.{Bool, true, false, not, ◌&&◌, ◌||◌, true≢false, false≢true}
+use mathlib.Core.Bool.{Bool, true, false, not, ◌&&◌, ◌||◌, true≢false}
 use mathlib.Core.List.{List, [], ◌∷◌, ◌++◌, map}
 use lib.Dec.{eqb}
 use lib.ListN.{length, get_or, length-append, length-map}
 use borrow.Author.Tests.{eqb-true, eq-eqb}
 use Rattle.base.specs.Iter.{pick}
 use Rattle.base.specs.Lists.{Every, none, more, collect, tab}
-use Rattle.base.proofs.Loop.{pick_ind, pick_yes, pick_no, eq_or_not, tested}
+use Rattle.base.proofs.Loop.{pick_ind, pick_yes, eq_or_not, tested}
 use Rattle.base.proofs.Lists.{every_collect, collect_every, every_head, every_map, tab_at}
 use Rattle.base.proofs.Tests.{and_left, and_right, or_cases}
 use Rattle.sat.specs.Literal.{negate}
-use Rattle.graph.specs.Search.{Graph, Scan, at, parent_of, edge_to, reached_yet, end_a, end_b, searched}
+use Rattle.graph.specs.Search.{Graph, at, edge_to, reached_yet, end_a, end_b, searched}
 use Rattle.graph.specs.Bounds.{Fine, bit, ones}
-use Rattle.graph.specs.Paths.{Leads, Chain, here, there, Joined, Found, climb}
+use Rattle.graph.specs.Paths.{Joined, Found, climb}
 use Rattle.graph.proofs.Found.{found}
-use Rattle.graph.proofs.Base.{Base, Parent}
-use Rattle.graph.proofs.Bfs.{Pop, pop_all}
+use Rattle.graph.proofs.Bfs.{pop_all}
 use Rattle.graph.proofs.Keep.{blank_fresh}
 use Rattle.graph.proofs.Lists.{and_both}
 use Rattle.walks.specs.Walk.{path_back, path_list, tree_list, decided_list, leads_out, leaves, walls_of, border_list, potential_list, order_list, member_list}

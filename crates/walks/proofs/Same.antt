@@ -1,14 +1,14 @@
 -- Literals that agree on the edges there are give the same lists.
 use Prim.Native.Nat.{ℕ, zero, suc, pred, ◌<◌, ◌≤◌}
-use native.Mathlib.Nat.{le_step, lt-suc_self, le_of_suc-le-suc, not-suc-le-zero}
-use mathlib.Core.Path.{◌≡◌, refl, sym, ◌∙◌, ap, ap₂}
+use native.Mathlib.Nat.{le_step, lt-suc_self, not-suc-le-zero}
+use mathlib.Core.Path.{◌≡◌, refl, ap, ap₂}
 use mathlib.Core.List.{List, [], ◌∷◌, ◌++◌, map}
 use Rattle.base.specs.Iter.{pick}
 use Rattle.base.specs.Lists.{collect}
 use Rattle.sat.specs.Literal.{negate}
-use Rattle.graph.specs.Search.{Graph, at, edge_to, reached_yet, searched}
+use Rattle.graph.specs.Search.{Graph, reached_yet, searched}
 use Rattle.graph.specs.Bounds.{Fine}
-use Rattle.graph.specs.Paths.{Leads, Chain, here, there, Joined, climb}
+use Rattle.graph.specs.Paths.{Chain, here, there, Joined}
 use Rattle.graph.proofs.Found.{found}
 use Rattle.walks.specs.Walk.{path_back, path_list, tree_list, decided_list, leaves, walls_of, border_list, potential_list}
 use Rattle.walks.proofs.Lists.{tree_of}

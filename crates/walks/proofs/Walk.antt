@@ -1,26 +1,23 @@
 -- The loops that write the lists: what is left to write, written, gives the whole.
 use Prim.Native.Nat.{ℕ, zero, suc, pred, ◌+◌, ◌-◌, ◌<◌, ◌≤◌}
-use native.Mathlib.Nat.{not-suc-le-zero, le_antisymm}
+use native.Mathlib.Nat.{not-suc-le-zero}
 use native.Mathlib.Numerals.{add-one}
 use native.Mathlib.Omega.{arith}
-use mathlib.Core.Path.{◌≡◌, refl, sym, ◌∙◌, ap, ap₂, subst}
-use mathlib.Core.Bool.{Bool, true, false, not, ◌&&◌, ◌||◌, true≢false, false≢true}
-use mathlib.Core.List.{List, [], ◌∷◌, ◌++◌, map}
+use mathlib.Core.Path.{◌≡◌, refl, sym, ◌∙◌, ap}
+use mathlib.Core.Bool.{Bool, true, false, true≢false, false≢true}
+use mathlib.Core.List.{List, [], ◌∷◌, map}
 use lib.Dec.{eqb}
 use lib.ListN.{length, get_or}
 use borrow.Author.Tests.{eq-eqb, ne_eqb}
 use Rattle.base.specs.Iter.{iter, pick}
-use Rattle.base.specs.Lists.{collect, tab}
-use Rattle.base.proofs.Loop.{pick_yes, pick_no, iter_done}
+use Rattle.base.specs.Lists.{collect}
+use Rattle.base.proofs.Loop.{iter_done}
 use Rattle.sat.specs.Literal.{negate}
-use Rattle.graph.specs.Search.{Scan, scan_of, Graph, end_a, end_b, at, parent_of, edge_to, reached_yet}
+use Rattle.graph.specs.Search.{Scan, scan_of, Graph, end_a, end_b, at, parent_of, edge_to}
 use Rattle.graph.specs.Paths.{climb}
-use Rattle.walks.specs.Written.{Out, out_of, pushed, written}
+use Rattle.walks.specs.Written.{Out, pushed, written}
 use Rattle.walks.specs.Walk.{path_back, tree_list, leads_out, leaves, wall_at, walls_of, side_at, border_list, order_list}
 use Rattle.walks.proofs.Written.{pushed_length, written_length, written_collect, written_tab}
-
-pub step_length : (x : ℕ) (o p : Out) → p ≡ pushed x o → length p.text ≡ length o.text
-step_length x o p e = ap (λ (y : Out). length y.text) e ∙ pushed_length x o
 
 -- a path is at its end
 pub path_here : (lits : ℕ → ℕ) (s : Scan) (start n p : ℕ) (o w : Out) → p ≡ start → w ≡ written (path_back lits s start n p) o → w ≡ o
@@ -98,19 +95,3 @@ written_no false l o e = refl
 
 pub pushed_as : (x y : ℕ) (o o' : Out) → x ≡ y → o' ≡ pushed x o → o' ≡ pushed y o
 pushed_as x y o o' e h = h ∙ ap (λ (z : ℕ). pushed z o) e
-
-pub written_length_of : (l : List ℕ) (o o' : Out) → o' ≡ written l o → length o'.text ≡ length o.text
-written_length_of l o o' e = ap (λ (y : Out). length y.text) e ∙ written_length l o
-
--- the test of an edge, by what was read
-pub leaves_one : (e : Graph) (seen : ℕ → Bool) (p g : ℕ) (x : Bool) → get_or e.state g 0 ≡ 1 → x ≡ leads_out seen (end_a e g) (end_b e g) p → x ≡ true → true ≡ leaves e seen p g
-unfolding leaves
-leaves_one e seen p g x h i t = simp (eq-eqb (get_or e.state g 0) 1 h, ← i, t)
-
-pub leaves_other : (e : Graph) (seen : ℕ → Bool) (p g : ℕ) (x y : Bool) → get_or e.state g 0 ≡ 1 → x ≡ leads_out seen (end_a e g) (end_b e g) p → x ≡ false → y ≡ leads_out seen (end_b e g) (end_a e g) p → y ≡ leaves e seen p g
-unfolding leaves
-leaves_other e seen p g x y h i t j = simp (eq-eqb (get_or e.state g 0) 1 h, ← i, t, ← j)
-
-pub leaves_none : (e : Graph) (seen : ℕ → Bool) (p g : ℕ) → (get_or e.state g 0 ≡ 1 → ⊥) → false ≡ leaves e seen p g
-unfolding leaves
-leaves_none e seen p g h = simp (ne_eqb (get_or e.state g 0) 1 h)

@@ -1,17 +1,16 @@
 -- Lists that are written one after the other, and what stands in the buffer then.
-use Prim.Native.Nat.{ℕ, zero, suc, ◌+◌, ◌-◌, ◌<◌, ◌≤◌}
+use Prim.Native.Nat.{ℕ, zero, suc, ◌+◌, ◌<◌, ◌≤◌}
 use native.Mathlib.Nat.{not-suc-le-zero}
 use native.Mathlib.Numerals.{add-one}
 use native.Mathlib.Omega.{arith}
 use mathlib.Core.Path.{◌≡◌, refl, sym, ◌∙◌, ap, ap₂, subst}
-use mathlib.Core.Bool.{Bool, true, false}
 use mathlib.Core.List.{List, [], ◌∷◌, ◌++◌, append-nil, append_assoc}
-use lib.ListN.{length, get_or, set, length-set}
+use lib.ListN.{length, set, length-set}
 use lib.Seq.{sets}
-use borrow.Author.Tests.{lt-ltb, le-ltb}
-use Rattle.base.specs.Iter.{iter, pick}
+use borrow.Author.Tests.{lt-ltb}
+use Rattle.base.specs.Iter.{iter}
 use Rattle.base.specs.Lists.{collect, tab}
-use Rattle.base.proofs.Loop.{pick_yes, pick_no, pick_ind}
+use Rattle.base.proofs.Loop.{pick_yes, pick_ind}
 use Rattle.walks.specs.Written.{Out, out_of, pushed, written}
 
 pub written_append : (a b : List ℕ) (o : Out) → written (a ++ b) o ≡ written b (written a o)

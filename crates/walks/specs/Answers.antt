@@ -1,30 +1,28 @@
 -- What the public walks answer, on any input.
-use Rattle.std.specs.Prelude.{ℕ, ◌+◌, Bool, true, false, List, ltb, length, get_or}
+use Rattle.std.specs.Prelude.{ℕ, ◌+◌, Bool, true, false, List, ltb, length, Option, None, Some}
 use Rattle.base.specs.Iter.{pick}
-use Rattle.walks.specs.declared.Listed.{Listed}
-use Rattle.walks.specs.declared.Listed.TheVariants.{Past, Missing}
 use Rattle.walks.specs.declared.Shape.{Shape}
-use Rattle.graph.specs.Search.{Graph, graph, searched, reached_yet}
+use Rattle.graph.specs.Search.{graph, searched, reached_yet}
 use Rattle.graph.specs.Bounds.{walkable}
-use Rattle.walks.specs.Written.{Out, out_of, written}
+use Rattle.walks.specs.Written.{Out, written}
 use Rattle.graph.specs.Lists.{number_of}
 use Rattle.walks.specs.Walk.{path_list, decided_list, potential_list, member_list}
 
 -- what is answered, and the buffer then
 pub record Answer : Type 0 where
-  pub listed : Listed
+  pub listed : Option ℕ
   pub text : List ℕ
 
-abbrev pub answer_of : Listed → List ℕ → Answer
+abbrev pub answer_of : Option ℕ → List ℕ → Answer
 answer_of r t = record { listed = r; text = t }
 
 -- the list is written, and the answer is the place past it
 unfoldable pub given : List ℕ → Out → Answer
-given l o = answer_of (Past (written l o).place) (written l o).text
+given l o = answer_of (Some (written l o).place) (written l o).text
 
 -- there is no list, and the buffer stays
 unfoldable pub missing : Out → Answer
-missing o = answer_of Missing o.text
+missing o = answer_of None o.text
 
 -- whether the graph can be walked from vertex u
 unfoldable pub startable : List (List ℕ) → List ℕ → Shape → ℕ → Bool

@@ -1,4 +1,5 @@
-// The lists that the Rust makes by walking the graph, each written to a lent buffer from a place on.
+// The lists that the Rust makes by walking the graph, each written to a lent buffer from a place on. The answer is the place
+// past the list; `None` where there is no list, and then nothing was written.
 #![tactic(auto)]
 
 mod search;
@@ -23,14 +24,8 @@ pub struct Shape {
     pub first_lit: usize,
 }
 
-// The place past a list that was written; or there is none, and nothing was written.
-#[derive(Clone, Copy)]
-pub enum Listed {
-    Past(usize),
-    Missing,
-}
-
 // One word more, if there is room: the place past it.
+#[tactic(auto, unfolding(crate::specs::Written::pushed, base::specs::Iter::pick))]
 pub fn push(out: &mut [u32], at: usize, x: u32) -> usize
     ensures { out_of out.new result ≡ pushed x (out_of out.old at) }
 {
@@ -41,21 +36,11 @@ pub fn push(out: &mut [u32], at: usize, x: u32) -> usize
     at
 }
 
-fn word(x: u8) -> u32
-    ensures { result ≡ x }
-{
-    x as u32
-}
-
 // The literal of edge g, 0 where there is none.
 fn edge_lit(lits: &[u32], g: u8) -> u32
     ensures { result ≡ word_at lits.now g }
 {
-    let i = g as usize;
-    if i < lits.len() {
-        return lits[i];
-    }
-    0
+    lits.get(usize::from(g)).copied().unwrap_or(0)
 }
 
 // The negated literals of the edges by which vertex v was reached, back to the start.
@@ -73,16 +58,14 @@ fn write_path(
 {
     let mut n = at;
     let mut p = v;
-    let mut left = num_vertices;
-    while 0 < left {
+    for _ in 0..num_vertices {
         if p == start {
             return n;
         }
-        let i = p as usize;
+        let i = usize::from(p);
         let g = scan[128 + i];
         n = push(out, n, negation(edge_lit(lits, g)));
         p = scan[64 + i];
-        left = left - 1;
     }
     n
 }
@@ -93,9 +76,8 @@ fn write_tree(scan: &[u8; 256], lits: &[u32], count: usize, out: &mut [u32], at:
     ensures { out_of out.new result ≡ written (tree_list (word_at lits.now) (scan_of scan.now count)) (out_of out.old at) }
 {
     let mut n = at;
-    let last = count - 1;
-    for i in 0..last {
-        let q = scan[i + 1] as usize;
+    for i in 0..count - 1 {
+        let q = usize::from(scan[i + 1]);
         let g = scan[128 + q];
         n = push(out, n, negation(edge_lit(lits, g)));
     }
@@ -103,30 +85,22 @@ fn write_tree(scan: &[u8; 256], lits: &[u32], count: usize, out: &mut [u32], at:
 }
 
 // Whether one end is vertex p and the other was not reached.
+#[tactic(auto, unfolding(crate::specs::Walk::leads_out))]
 fn leads_out(scan: &[u8; 256], one: u8, other: u8, p: u8) -> bool
     requires { other < 64 }
     ensures { result ≡ leads_out (reached_yet (scan_of scan.now 0)) one other p }
 {
-    if one == p {
-        return scan[192 + other as usize] != 1;
-    }
-    false
+    one == p && scan[192 + usize::from(other)] != 1
 }
 
 // Whether edge g is disconnected and leads from vertex p out of what was reached.
+#[tactic(auto, unfolding(crate::specs::Walk::leaves))]
 fn leaves(edges: &Edges, state: &[u32], scan: &[u8; 256], p: u8, g: usize) -> bool
     requires { (g < 128) × (g < length state.now) × Within 64 edges.now g }
     ensures { result ≡ leaves (graph edges.now state.now true) (reached_yet (scan_of scan.now 0)) p g }
 {
-    if state[g] == 1 {
-        let a = edges[g][0];
-        let b = edges[g][1];
-        if leads_out(scan, a, b, p) {
-            return true;
-        }
-        return leads_out(scan, b, a, p);
-    }
-    false
+    let [a, b] = edges[g];
+    state[g] == 1 && (leads_out(scan, a, b, p) || leads_out(scan, b, a, p))
 }
 
 // The literal of edge g, if it leads from vertex p out of what was reached.
@@ -218,36 +192,27 @@ fn write_order(scan: &[u8; 256], count: usize, out: &mut [u32], at: usize) -> us
 {
     let mut n = at;
     for i in 0..count {
-        n = push(out, n, word(scan[i]));
+        n = push(out, n, u32::from(scan[i]));
     }
     n
 }
 
 // Whether the graph can be walked from vertex u.
+#[tactic(auto, unfolding(crate::specs::Answers::startable, base::specs::Iter::pick))]
 fn startable(edges: &Edges, state: &[u32], shape: Shape, u: usize) -> bool
     ensures { result ≡ startable edges.now state.now shape u }
 {
-    if walkable(edges, state, shape.num_edges, shape.num_vertices) {
-        return u < shape.num_vertices;
-    }
-    false
+    walkable(edges, state, shape.num_edges, shape.num_vertices) && u < shape.num_vertices
 }
 
 // Whether, besides, each edge has a literal.
+#[tactic(auto, unfolding(crate::specs::Answers::ready, base::specs::Iter::pick))]
 fn ready(edges: &Edges, state: &[u32], lits: &[u32], shape: Shape, u: usize) -> bool
     ensures { result ≡ ready edges.now state.now lits.now shape u }
 {
-    if startable(edges, state, shape, u) {
-        let first = shape.first_lit;
-        if lits.len() < first {
-            return false;
-        }
-        if lits.len() - first < shape.num_edges {
-            return false;
-        }
-        return true;
-    }
-    false
+    startable(edges, state, shape, u)
+        && shape.first_lit <= lits.len()
+        && shape.num_edges <= lits.len() - shape.first_lit
 }
 
 // The vertices of u's region in the order of the search from u, for the Rust's `Regions`.
@@ -259,7 +224,7 @@ pub fn region_vertices(
     u: usize,
     out: &mut [u32],
     at: usize,
-) -> Listed
+) -> Option<usize>
     ensures { answer_of result out.new ≡ region_vertices edges state.now potential shape u (out_of out.old at) }
 {
     if startable(&edges, state, shape, u) {
@@ -273,9 +238,9 @@ pub fn region_vertices(
             u as u8,
             &mut scan,
         );
-        return Listed::Past(write_order(&scan, count, out, at));
+        return Some(write_order(&scan, count, out, at));
     }
-    Listed::Missing
+    None
 }
 
 // The negated literals of the connected edges from v back to u, on a shortest way: the Rust's `reason_connected_path`. There is no
@@ -289,36 +254,33 @@ pub fn reason_connected_path(
     v: usize,
     out: &mut [u32],
     at: usize,
-) -> Listed
+) -> Option<usize>
     ensures { answer_of result out.new ≡ connected_path edges state.now lits.now shape u v (out_of out.old at) }
 {
-    if ready(&edges, state, lits, shape, u) {
-        if v < shape.num_vertices {
-            let mut scan = [0u8; 256];
-            search(
-                &edges,
-                state,
-                false,
-                shape.num_edges,
-                shape.num_vertices,
+    if ready(&edges, state, lits, shape, u) && v < shape.num_vertices {
+        let mut scan = [0u8; 256];
+        search(
+            &edges,
+            state,
+            false,
+            shape.num_edges,
+            shape.num_vertices,
+            u as u8,
+            &mut scan,
+        );
+        if scan[192 + v] == 1 {
+            return Some(write_path(
+                &scan,
+                &lits[shape.first_lit..],
                 u as u8,
-                &mut scan,
-            );
-            if scan[192 + v] == 1 {
-                let first = shape.first_lit;
-                return Listed::Past(write_path(
-                    &scan,
-                    &lits[first..],
-                    u as u8,
-                    v as u8,
-                    shape.num_vertices,
-                    out,
-                    at,
-                ));
-            }
+                v as u8,
+                shape.num_vertices,
+                out,
+                at,
+            ));
         }
     }
-    Listed::Missing
+    None
 }
 
 // The negated literals of the connected edges by which the vertices of u's region are reached: the Rust's `reason_decided_region`.
@@ -330,7 +292,7 @@ pub fn reason_decided_region(
     u: usize,
     out: &mut [u32],
     at: usize,
-) -> Listed
+) -> Option<usize>
     ensures { answer_of result out.new ≡ decided_region edges state.now lits.now shape u (out_of out.old at) }
 {
     if ready(&edges, state, lits, shape, u) {
@@ -344,10 +306,9 @@ pub fn reason_decided_region(
             u as u8,
             &mut scan,
         );
-        let first = shape.first_lit;
-        return Listed::Past(write_tree(&scan, &lits[first..], count, out, at));
+        return Some(write_tree(&scan, &lits[shape.first_lit..], count, out, at));
     }
-    Listed::Missing
+    None
 }
 
 // The literals of the disconnected edges that leave what u can be joined to: the Rust's `reason_potential_region`.
@@ -359,7 +320,7 @@ pub fn reason_potential_region(
     u: usize,
     out: &mut [u32],
     at: usize,
-) -> Listed
+) -> Option<usize>
     ensures { answer_of result out.new ≡ potential_region edges state.now lits.now shape u (out_of out.old at) }
 {
     if ready(&edges, state, lits, shape, u) {
@@ -373,17 +334,16 @@ pub fn reason_potential_region(
             u as u8,
             &mut scan,
         );
-        let first = shape.first_lit;
-        return Listed::Past(write_border(
+        return Some(write_border(
             &edges,
             state,
             &scan,
             shape.num_vertices,
             shape.num_edges,
-            &lits[first..],
+            &lits[shape.first_lit..],
             out,
             at,
         ));
     }
-    Listed::Missing
+    None
 }

@@ -11,11 +11,12 @@ use edge_table::Edges;
 use graph::bounds::passable;
 
 // Vertex q, from vertex p by edge g, where it was not reached before.
+#[tactic(auto, unfolding(graph::specs::Search::reached, graph::specs::Search::marked, base::specs::Iter::pick))]
 fn reach(scan: &mut [u8; 256], count: usize, p: u8, g: u8, q: u8) -> usize
     requires { (q < 64) × Ok 64 (scan_of scan.old count) }
     ensures { scan_of scan.new result ≡ reached p g q (scan_of scan.old count) }
 {
-    let i = q as usize;
+    let i = usize::from(q);
     if scan[192 + i] == 1 {
         return count;
     }
@@ -27,6 +28,7 @@ fn reach(scan: &mut [u8; 256], count: usize, p: u8, g: u8, q: u8) -> usize
 }
 
 // Edge g, seen from vertex p.
+#[tactic(auto, unfolding(graph::specs::Search::visited, base::specs::Iter::pick))]
 fn visit(
     edges: &Edges,
     state: &[u32],
@@ -40,8 +42,7 @@ fn visit(
     ensures { scan_of scan.new result ≡ visited (graph edges.now state.now potential) p g (scan_of scan.old count) }
 {
     if passable(state[g], potential) {
-        let a = edges[g][0];
-        let b = edges[g][1];
+        let [a, b] = edges[g];
         if a == p {
             return reach(scan, count, p, g as u8, b);
         }
@@ -73,6 +74,7 @@ fn walk(
 }
 
 // The vertex at place h of the order, if that many were reached: its edges are walked.
+#[tactic(auto, unfolding(graph::specs::Search::popped, base::specs::Iter::pick))]
 fn pop(
     edges: &Edges,
     state: &[u32],

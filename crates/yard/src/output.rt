@@ -25,14 +25,11 @@ pub(crate) fn show(rt: &impl Print, input: &[u8], shown: Shown, out: &[u8], n: u
 {
     let told = shown.told + n;
     if shown.failed {
-        return Shown {
-            told: told,
-            failed: true,
-        };
+        return Shown { told, failed: true };
     }
     let written = rt.write_all(&out[0..n]);
     Shown {
-        told: told,
+        told,
         failed: written.is_err(),
     }
 }

@@ -10,4 +10,4 @@ pub returns : goal.returns
 unfolding last_asked
 returns c =
     let a = c.args in
-    shown_fetched _ _ a.out.now _ _ (c.calc_last-a.ensures ∙ ap (last_fetched a.s a.cursor a.log.now) c.no_reason-list.ensures) c.print.ensures
+    shown_fetched _ _ a.out.now _ _ (c.calc_last-a.ensures ∙ ap (last_fetched a.s a.cursor a.log.now) c.no_list-list.ensures) c.print.ensures

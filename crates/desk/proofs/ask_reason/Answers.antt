@@ -10,4 +10,4 @@ pub returns : goal.returns
 unfolding reason_asked
 returns c =
     let a = c.args in
-    shown_fetched _ _ a.out.now _ _ (c.calc_reason-a.ensures ∙ (λ i. reason_fetched a.s a.cursor a.log.now (to_z-of_z c.ranges.lit i) (c.no_reason-list.ensures i))) c.print.ensures
+    shown_fetched _ _ a.out.now _ _ (c.calc_reason-a.ensures ∙ (λ i. reason_fetched a.s a.cursor a.log.now (to_z-of_z c.ranges.lit i) (c.no_list-list.ensures i))) c.print.ensures

@@ -6,4 +6,4 @@ use Rattle.desk.proofs.begin.Goals as goal
 pub returns : goal.returns
 returns c =
     let a = c.args in
-    begin_turn a.s a.cursor a.table.now a.log.now a.out.now _ _ _ _ _ _ _ c.no_list-list.ensures c.initialize-o.ensures c.print-n.ensures
+    begin_turn a.s a.cursor a.table.now a.log.now a.out.now _ _ _ _ _ _ _ refl c.initialize-o.ensures c.print.ensures

@@ -6,7 +6,9 @@ use Rattle.refusals.specs.Refusals.{lit_number}
 use Rattle.desk.specs.Obey.{marked}
 use Rattle.desk.proofs.Answering.{notify_turn}
 use borrow.Author.Rules.{rules}
+use Rattle.base.proofs.Loop.{pick_yes, pick_no}
 use Rattle.desk.proofs.notify.Goals as goal
+use Rattle.desk.proofs.notify.Goals.{then-is_refused, else-is_refused}
 
 pub returns : goal.returns
 returns c =
@@ -17,7 +19,7 @@ returns c =
     c.is_refused.ensures a.pending _ _ _ _ _ _ _
     c.entry-old.ensures
     (c.mark.ensures ∙ ap (λ (l : ℤ). marked l a.table.now) lit)
-    c.no_list-list.ensures lit (to_z-of_z c.ranges.pending)
+    refl lit (to_z-of_z c.ranges.pending)
     c.propagate-o.ensures
-    c.store_if.ensures
-    c.print-n.ensures
+    (elim c.if-is_refused.branch [ then-is_refused w ↦ w.table-is ∙ w.store.ensures ∙ sym (pick_yes _ _ w.if-is_refused.true) | else-is_refused w ↦ w.table-is ∙ sym (pick_no _ _ w.if-is_refused.false) ])
+    c.print.ensures

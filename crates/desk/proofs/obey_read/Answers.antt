@@ -1,3 +1,4 @@
+use mathlib.Core.Logic.{⊎_elim}
 use mathlib.Core.Path.{◌≡◌, refl, sym, ap, ◌∙◌}
 use mathlib.Core.List.{List, []}
 use Prim.Native.Nat.{ℕ}
@@ -54,22 +55,7 @@ pub returns-in-O : goal.returns-in-O
 unfolding obeyed valued
 returns-in-O c =
     let a = c.args in
-    told_line _ (desk a.s a.cursor a.table.now a.log.now) a.out.now _ _ c.in-O.is (silent _ a.s a.cursor a.table.now a.log.now a.out.now c.stay-in-O.ensures)
-
-pub returns-in-P : goal.returns-in-P
-unfolding obeyed valued
-returns-in-P c =
-    let a = c.args in
-    told_line _ (desk a.s a.cursor a.table.now a.log.now) a.out.now _ _ c.in-P.is (silent _ a.s a.cursor a.table.now a.log.now a.out.now c.stay-in-P.ensures)
-
-pub returns-in-G : goal.returns-in-G
-unfolding obeyed valued
-returns-in-G c =
-    let a = c.args in
-    told_line _ (desk a.s a.cursor a.table.now a.log.now) a.out.now _ _ c.in-G.is (silent _ a.s a.cursor a.table.now a.log.now a.out.now c.stay-in-G.ensures)
-
-pub returns-in-Malformed : goal.returns-in-Malformed
-unfolding obeyed valued
-returns-in-Malformed c =
-    let a = c.args in
-    told_line _ (desk a.s a.cursor a.table.now a.log.now) a.out.now _ _ c.in-Malformed.is (silent _ a.s a.cursor a.table.now a.log.now a.out.now c.stay-in-Malformed.ensures)
+    let d = desk a.s a.cursor a.table.now a.log.now in
+    let idle = silent _ a.s a.cursor a.table.now a.log.now a.out.now c.stay-in-O.ensures in
+    ⊎_elim (λ p. told_line _ d a.out.now _ _ p.2 idle)
+    (⊎_elim (λ p. told_line _ d a.out.now _ _ p.3 idle) (⊎_elim (λ p. told_line _ d a.out.now _ _ p.3 idle) (λ e. told_line _ d a.out.now _ _ e idle))) c.in-O.is

@@ -2,7 +2,6 @@ use mathlib.Core.Path.{ap, ◌∙◌}
 use Rattle.analysis.specs.Analyze.{analyze_words}
 use Rattle.judge.specs.Judge.{with_words}
 use Rattle.judge.proofs.Steps.{judge_some, judge_short}
-use borrow.Author.Rules.{rules}
 use Rattle.judge.proofs.judge.Goals as goal
 
 pub returns-then-has_room : goal.returns-then-has_room

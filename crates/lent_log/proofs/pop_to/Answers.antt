@@ -1,30 +1,15 @@
-use Rattle.std.proofs.Common.{sym, ap, suc, ◌∙◌, arith, ◌≡◌, ℕ, ◌-◌}
-use Rattle.base.specs.Iter.{iter}
-use Rattle.undo_log.specs.declared.Cursor.{Cursor}
-use Rattle.lent_log.specs.Records.{Popping, pop_record, popped_to}
+use Rattle.std.proofs.Common.{ap, arith}
+use Rattle.base.proofs.Loop.{iter_zero, iter_more, iter_done}
+use Rattle.lent_log.specs.Records.{Popping, popped_to}
 use Rattle.lent_log.proofs.pop_to.Goals as goal
 
-pub loop-i-init : goal.loop-i-init
-unfolding iter
-loop-i-init c =
-    let z : c.args.cursor.now.used - c.args.cursor.now.used ≡ 0 = omega arith in
-    (omega arith, (omega arith, sym (ap (λ (n : ℕ). iter (λ _ d. (pop_record c.args.log.now d).cursor) n c.args.cursor.now) z)))
+pub loop-init : goal.loop-init
+loop-init c = (omega arith, iter_done _ _ 0 _ _ (iter_zero _ _) (omega arith) (omega arith))
 
-pub loop-i-preserved : goal.loop-i-preserved
-unfolding iter
-loop-i-preserved c =
-    let e : c.args.cursor.now.used - (c.loop-i.i - 1) ≡ suc (c.args.cursor.now.used - c.loop-i.i) = omega arith in (
-      omega arith,
-      (
-        omega arith,
-        ap (λ (x : Popping). x.cursor) c.pop.ensures
-            ∙ ap (λ (d : Cursor). (pop_record c.args.log.now d).cursor) c.loop-i.invariant.1.1
-            ∙ ap (λ (n : ℕ). iter (λ _ d. (pop_record c.args.log.now d).cursor) n c.args.cursor.now) (sym e),
-      ),
-    )
+pub loop-preserved : goal.loop-preserved
+loop-preserved c =
+    (omega arith, iter_done _ _ _ _ _ (iter_more _ _ _ _ _ c.loop.invariant.1 (ap (λ (x : Popping). x.cursor) c.pop.ensures)) (omega arith) (omega arith))
 
 pub returns : goal.returns
 unfolding popped_to
-returns c =
-    let e : c.args.cursor.now.used - c.loop-i.i ≡ c.args.cursor.now.used - c.args.to = omega arith in
-    c.loop-i.invariant.1.1 ∙ ap (λ (n : ℕ). iter (λ _ d. (pop_record c.args.log.now d).cursor) n c.args.cursor.now) e
+returns c = iter_done _ _ _ _ _ c.loop.invariant.1 (omega arith) (omega arith)

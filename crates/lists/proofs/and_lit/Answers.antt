@@ -1,5 +1,4 @@
 use Rattle.lists.proofs.Steps.{lit_none, lit_some}
-use borrow.Author.Rules.{rules}
 use Rattle.lists.proofs.and_lit.Goals as goal
 
 pub returns-then-x-eq65535 : goal.returns-then-x-eq65535

@@ -1,9 +1,8 @@
 use Rattle.lists.proofs.Steps.{word_past, word_stop}
-use borrow.Author.Rules.{rules}
 use Rattle.lists.proofs.and_word.Goals as goal
 
-pub returns-in-Past : goal.returns-in-Past
-returns-in-Past c = word_past _ _ _ _ _ c.in-Past.is c.push.ensures
+pub returns-in_err-r : goal.returns-in_err-r
+returns-in_err-r c = rw c.from_residual.ensures (word_stop _ _ _ c.in_err-r.was)
 
-pub returns-in-Missing : goal.returns-in-Missing
-returns-in-Missing c = word_stop _ _ _ c.in-Missing.is
+pub returns : goal.returns
+returns c = word_past _ _ _ _ _ c.in_ok-r.was c.push.ensures

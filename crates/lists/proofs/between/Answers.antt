@@ -1,5 +1,4 @@
 use Rattle.lists.proofs.Steps.{between_by}
-use borrow.Author.Rules.{rules}
 use Rattle.lists.proofs.between.Goals as goal
 
 pub returns : goal.returns

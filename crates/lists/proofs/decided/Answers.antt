@@ -1,5 +1,4 @@
 use Rattle.lists.proofs.Steps.{decided_by}
-use borrow.Author.Rules.{rules}
 use Rattle.lists.proofs.decided.Goals as goal
 
 pub returns : goal.returns

@@ -1,5 +1,4 @@
 use Rattle.lists.proofs.Steps.{inside_by}
-use borrow.Author.Rules.{rules}
 use Rattle.lists.proofs.inside.Goals as goal
 
 pub returns : goal.returns

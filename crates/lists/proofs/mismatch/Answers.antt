@@ -1,6 +1,5 @@
 use Rattle.lists.proofs.Steps.{mismatch_by, mismatch_other}
 use Rattle.walks.specs.Answers.{missing}
-use borrow.Author.Rules.{rules}
 use Rattle.lists.proofs.mismatch.Goals as goal
 
 pub returns-in-InconsistentBoundsIfRegionsAreMerged : goal.returns-in-InconsistentBoundsIfRegionsAreMerged

@@ -1,5 +1,4 @@
 use Rattle.lists.proofs.Steps.{path_by}
-use borrow.Author.Rules.{rules}
 use Rattle.lists.proofs.path.Goals as goal
 
 pub returns : goal.returns

@@ -1,5 +1,4 @@
 use Rattle.lists.proofs.Steps.{potential_by}
-use borrow.Author.Rules.{rules}
 use Rattle.lists.proofs.potential.Goals as goal
 
 pub returns : goal.returns

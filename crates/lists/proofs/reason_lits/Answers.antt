@@ -2,7 +2,6 @@ use Rattle.lists.proofs.Steps.{arm, mismatch_arm, same_arm}
 use mathlib.Core.Path.{refl}
 use Rattle.walks.specs.Answers.{missing}
 use Rattle.lists.specs.Lists.{reason_lits}
-use borrow.Author.Rules.{rules}
 use Rattle.lists.proofs.reason_lits.Goals as goal
 
 pub returns-in-NotPropagated : goal.returns-in-NotPropagated

@@ -1,6 +1,5 @@
 use Rattle.lists.proofs.Steps.{same_by, same_other}
 use Rattle.walks.specs.Answers.{missing}
-use borrow.Author.Rules.{rules}
 use Rattle.lists.proofs.same_size.Goals as goal
 
 pub returns-in-AdjacentSameSizeRegions : goal.returns-in-AdjacentSameSizeRegions

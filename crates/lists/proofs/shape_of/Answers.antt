@@ -1,7 +1,6 @@
 use mathlib.Core.Path.{ap₂}
 use Prim.Native.Nat.{ℕ}
 use Rattle.walks.specs.declared.Shape.{Shape}
-use borrow.Author.Rules.{rules}
 use Rattle.lists.proofs.shape_of.Goals as goal
 
 pub returns : goal.returns

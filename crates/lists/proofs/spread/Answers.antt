@@ -1,5 +1,4 @@
 use Rattle.lists.proofs.Steps.{spread_by}
-use borrow.Author.Rules.{rules}
 use Rattle.lists.proofs.spread.Goals as goal
 
 pub returns : goal.returns

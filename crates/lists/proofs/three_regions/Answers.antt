@@ -1,12 +1,11 @@
-use Rattle.lists.proofs.Steps.{then_past, then_stop}
 use Rattle.lists.specs.Parts.{three_regions}
-use borrow.Author.Rules.{rules}
+use Rattle.lists.proofs.Steps.{then_past, then_stop}
 use Rattle.lists.proofs.three_regions.Goals as goal
 
-pub returns-in-Past : goal.returns-in-Past
+pub returns-in_err-n : goal.returns-in_err-n
 unfolding three_regions
-returns-in-Past c = then_past _ _ _ _ _ _ c.two_regions-r.ensures c.in-Past.is c.decided.ensures
+returns-in_err-n c = rw c.from_residual.ensures (then_stop _ _ _ _ c.two_regions.ensures c.in_err-n.was)
 
-pub returns-in-Missing : goal.returns-in-Missing
+pub returns : goal.returns
 unfolding three_regions
-returns-in-Missing c = then_stop _ _ _ _ c.two_regions-r.ensures c.in-Missing.is
+returns c = then_past _ _ _ _ _ _ c.two_regions.ensures c.in_ok-n.was c.decided.ensures

@@ -1,5 +1,4 @@
 use Rattle.lists.proofs.Steps.{large_by}
-use borrow.Author.Rules.{rules}
 use Rattle.lists.proofs.too_large.Goals as goal
 
 pub returns : goal.returns

@@ -1,12 +1,11 @@
-use Rattle.lists.proofs.Steps.{then_past, then_stop}
 use Rattle.lists.specs.Parts.{two_paths}
-use borrow.Author.Rules.{rules}
+use Rattle.lists.proofs.Steps.{then_past, then_stop}
 use Rattle.lists.proofs.two_paths.Goals as goal
 
-pub returns-in-Past : goal.returns-in-Past
+pub returns-in_err-n : goal.returns-in_err-n
 unfolding two_paths
-returns-in-Past c = then_past _ _ _ _ _ _ c.path-r.ensures c.in-Past.is c.path.ensures
+returns-in_err-n c = rw c.from_residual.ensures (then_stop _ _ _ _ c.path.ensures c.in_err-n.was)
 
-pub returns-in-Missing : goal.returns-in-Missing
+pub returns : goal.returns
 unfolding two_paths
-returns-in-Missing c = then_stop _ _ _ _ c.path-r.ensures c.in-Missing.is
+returns c = then_past _ _ _ _ _ _ c.path.ensures c.in_ok-n.was c.path-2.ensures

@@ -10,7 +10,4 @@ use borrow.Author.Rules.{rules}
 use Rattle.notifications.proofs.notify_all.Given as goal
 
 abbrev pub invariant-loop-p : goal.invariant-loop-p
-invariant-loop-p l = (l.p ≤ l.n) × (l.n ≡ 2 * variables_of (words_of l.plan)) × (way l.y l.noted l.table l.list l.words l.proposals l.left ≡ iter (notified_at (words_of l.plan) l.edges l.entry l.log l.used) l.p (way l.initial.y l.initial.noted l.initial.table l.initial.list l.initial.words l.initial.proposals l.initial.left)) × (length l.table ≡ length l.initial.table) × (length l.list ≡ length l.initial.list) × (length l.words ≡ length l.initial.words) × (length l.proposals ≡ length l.initial.proposals) × (length l.left ≡ length l.initial.left)
-
-abbrev pub decreases-loop-p : goal.decreases-loop-p
-decreases-loop-p l = l.n - l.p
+invariant-loop-p l = (l.n ≡ 2 * variables_of (words_of l.plan)) × (way l.y l.noted l.table l.list l.words l.proposals l.left ≡ iter (notified_at (words_of l.plan) l.edges l.entry l.log l.used) l.p (way l.initial.y l.initial.noted l.initial.table l.initial.list l.initial.words l.initial.proposals l.initial.left)) × (length l.table ≡ length l.initial.table) × (length l.list ≡ length l.initial.list) × (length l.words ≡ length l.initial.words) × (length l.proposals ≡ length l.initial.proposals) × (length l.left ≡ length l.initial.left)

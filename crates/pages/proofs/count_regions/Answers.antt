@@ -1,43 +1,29 @@
-use Prim.Native.Nat.{ℕ, ◌+◌, ◌-◌, ◌≤◌}
-use mathlib.Core.Path.{◌≡◌, ap, ◌∙◌}
-use native.Mathlib.Omega.{arith}
-use lib.ListN.{get_or}
+use Rattle.std.proofs.Common.{arith, ap, ◌∙◌, ◌≡◌, ◌≤◌, ℕ, get_or}
+use lib.Dec.{eqb}
+use mir.Val.{bool_byte}
 use Rattle.pages.specs.Lines.{num_regions}
+use Rattle.pages.proofs.Sets.{bit_of, one_le}
 use Rattle.pages.proofs.Fields.{regions_none, regions_more, regions_few}
 use Rattle.pages.proofs.count_regions.Goals as goal
 
 pub loop-r-init : goal.loop-r-init
-loop-r-init c = (omega arith, regions_none _)
-
-pub count_region-count-requires : goal.count_region-count-requires
-count_region-count-requires c = omega arith
+loop-r-init c = regions_none _
 
 pub overflow_add-count : goal.overflow_add-count
 overflow_add-count c =
     let l = c.loop-r in
-    let a = c.args in
-    let label : ℕ → ℕ = λ v. get_or a.labels.now v 0 in
-    let k = c.count_region-count in
-    let m = regions_more label l.r l.count k.result l.invariant.1 k.ensures in
-    omega (arith, regions_few label (l.r + 1), m)
-
-pub overflow_step-r : goal.overflow_step-r
-overflow_step-r c = omega arith
-
-pub loop-r-smaller : goal.loop-r-smaller
-loop-r-smaller c = omega arith
+    let label : ℕ → ℕ = λ v. get_or c.args.labels.now v 0 in
+    let one : c.from-count.result ≤ 1 = omega (arith, c.from-count.ensures ∙ bit_of _, one_le (eqb c.from.result l.r)) in
+    omega (arith, regions_few label l.r)
 
 pub loop-r-preserved : goal.loop-r-preserved
 loop-r-preserved c =
     let l = c.loop-r in
-    let a = c.args in
-    let label : ℕ → ℕ = λ v. get_or a.labels.now v 0 in
-    let k = c.count_region-count in
-    (omega arith, regions_more label l.r l.count k.result l.invariant.1 k.ensures)
+    let label : ℕ → ℕ = λ v. get_or c.args.labels.now v 0 in
+    regions_more label l.r l.count c.from-count.result l.invariant (c.from-count.ensures ∙ ap (λ (x : ℕ). bool_byte (eqb x l.r)) c.from.ensures ∙ bit_of _)
 
 pub returns : goal.returns
 returns c =
     let l = c.loop-r in
-    let a = c.args in
-    let z : l.r ≡ a.n = omega arith in
-    l.invariant.1 ∙ ap (num_regions (λ v. get_or a.labels.now v 0)) z
+    let z : l.r ≡ c.args.n = omega arith in
+    l.invariant ∙ ap (num_regions (λ v. get_or c.args.labels.now v 0)) z

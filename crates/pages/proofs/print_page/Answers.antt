@@ -2,7 +2,6 @@ use native.Mathlib.Omega.{arith}
 use lib.ListN.{get_or}
 use Rattle.pages.specs.Lines.{figures_of}
 use Rattle.pages.proofs.Fields.{regions_few, page_unknown, page_small, page_told}
-use borrow.Author.Rules.{rules}
 use Rattle.pages.proofs.print_page.Goals as goal
 
 pub returns-then-n-gt64 : goal.returns-then-n-gt64

@@ -3,7 +3,6 @@ use Prim.Native.Nat.{ℕ, ◌-◌}
 use Rattle.pages.proofs.Fields.{fielded}
 use lib.ListN.{length}
 use Rattle.text_writer.specs.Digits.{digits}
-use borrow.Author.Rules.{rules}
 use Rattle.pages.proofs.write_field.Goals as goal
 
 pub returns : goal.returns

@@ -5,7 +5,6 @@ use Rattle.pages.proofs.Fields.{set_line_long, line_put, put_long}
 use Rattle.pages.specs.Line.{head_text, numbers_text}
 use lib.ListN.{length-set}
 use lib.Count.{ones, count_trailing_zeros}
-use borrow.Author.Rules.{rules}
 use Rattle.pages.proofs.write_line.Goals as goal
 
 pub shape_of-buf : goal.shape_of-buf

@@ -1,7 +1,6 @@
-use Prim.Native.Nat.{◌-◌}
 use native.Mathlib.Omega.{arith}
 use Rattle.pages.specs.Lines.{figures_of}
-use Rattle.pages.proofs.Fields.{Lined, lined_none, room_next, lined_next, lined_done}
+use Rattle.pages.proofs.Fields.{lined_none, room_next, lined_next, lined_done}
 use Rattle.pages.proofs.write_lines.Goals as goal
 
 pub loop-r-init : goal.loop-r-init
@@ -16,12 +15,6 @@ write_region-at-requires c =
     let k = room_next t a.n a.page.now l.page l.at l.r (omega arith) p.1 l.invariant in
     (p.0, omega (arith, p.0), k)
 
-pub overflow_step-r : goal.overflow_step-r
-overflow_step-r c = omega arith
-
-pub loop-r-smaller : goal.loop-r-smaller
-loop-r-smaller c = omega arith
-
 pub loop-r-preserved : goal.loop-r-preserved
 loop-r-preserved c =
     let l = c.loop-r in
@@ -31,9 +24,6 @@ loop-r-preserved c =
     let t = figures_of a.labels.now a.weights.now a.lowers.now a.uppers.now in
     let next = lined_next t a.n a.page.now l.page l.at l.r (omega arith) p.1 l.invariant in
     next _ _ w.0 w.1 w.2
-
-pub shape_of-page : goal.shape_of-page
-shape_of-page c = c.loop-r.invariant.long
 
 pub returns : goal.returns
 returns c = lined_done _ _ _ _ _ _ c.loop-r-test.false c.loop-r.invariant

@@ -2,7 +2,6 @@ use native.Mathlib.Omega.{arith}
 use Rattle.pages.proofs.Fields.{word_few, numbers_long, numbers_put, put_long, field_long}
 use Rattle.pages.specs.Line.{field}
 use Rattle.text_writer.specs.Digits.{digits}
-use borrow.Author.Rules.{rules}
 use Rattle.pages.proofs.write_numbers.Goals as goal
 
 pub write_field-requires : goal.write_field-requires

@@ -1,31 +1,18 @@
-use Prim.Native.Nat.{◌-◌}
-use native.Mathlib.Omega.{arith}
-use Rattle.pages.proofs.Fields.{Spaced, spaced_none, spaced_more, spaced_done}
+use Rattle.std.proofs.Common.{arith, refl, ap, ap₂, ◌∙◌, ◌≡◌, sym, append_assoc, ◌++◌, ◌+◌, ◌-◌, ℕ, List, length, take, drop}
+use lib.ListN.{replicate, length-replicate, length-drop}
+use lib.Seq.{length-take-le}
+use borrow.Rule.Slice.PartMut.{Post-is}
+use Rattle.base.proofs.Filled.{all_filled}
+use Rattle.text_writer.specs.Written.{put}
 use Rattle.pages.proofs.write_spaces.Goals as goal
 
-pub loop-i-init : goal.loop-i-init
-loop-i-init c = spaced_none _ _ _
-
-pub overflow_add-buf : goal.overflow_add-buf
-overflow_add-buf c = omega arith
-
-pub bounds-buf-at : goal.bounds-buf-at
-bounds-buf-at c = omega (arith, c.loop-i.invariant.long)
-
-pub overflow_step-i : goal.overflow_step-i
-overflow_step-i c = omega arith
-
-pub loop-i-smaller : goal.loop-i-smaller
-loop-i-smaller c = omega arith
-
-pub loop-i-preserved : goal.loop-i-preserved
-loop-i-preserved c =
-    let a = c.args in
-    let l = c.loop-i in
-    spaced_more a.k a.at a.buf.now l.buf l.i (omega arith) c.requires l.invariant
-
-pub shape_of-buf : goal.shape_of-buf
-shape_of-buf c = c.loop-i.invariant.long
-
 pub returns : goal.returns
-returns c = spaced_done _ _ _ _ _ c.loop-i-test.false c.loop-i.invariant
+unfolding put
+returns c =
+    let a = c.args in
+    let b = a.buf.now in
+    let m : length (take (a.at + a.k - a.at) (drop a.at b)) ≡ a.k = length-take-le (a.at + a.k - a.at) (drop a.at b) (omega (arith, length-drop a.at b)) ∙ omega arith in
+    let e : c.fill.new.self ≡ replicate {A = ℕ} a.k 32 = all_filled 32 a.k _ (c.fill.ensures.len ∙ m) (λ j h. c.fill.ensures.clones j 0 (omega arith) refl) in
+    let z : a.at + a.k ≡ a.at + length (replicate {A = ℕ} a.k 32) = omega (arith, length-replicate {A = ℕ} a.k 32) in
+    ap₂ (λ (x y : List ℕ). take a.at b ++ (x ++ y)) e (Post-is a.at (a.at + a.k) b (omega arith) ∙ ap (λ (j : ℕ). drop j b) z)
+    ∙ sym (append_assoc (take a.at b) (replicate a.k 32) _)

@@ -5,7 +5,6 @@ use Rattle.pages.proofs.Fields.{word_few, upper_few, upper_some, hyphen_put}
 use Rattle.pages.specs.Line.{field}
 use Rattle.text_writer.specs.Written.{put}
 use mathlib.Core.List.{List}
-use borrow.Author.Rules.{rules}
 use Rattle.pages.proofs.write_upper.Goals as goal
 
 pub returns-then-n-eq2147483647 : goal.returns-then-n-eq2147483647

@@ -13,7 +13,4 @@ use borrow.Author.Rules.{rules}
 use Rattle.plan_lines.proofs.put_row.Given as goal
 
 abbrev pub invariant-loop-j : goal.invariant-loop-j
-invariant-loop-j l = (l.j ≤ 32) × (l.at + 32 ≤ 4288) × (l.vertices ≡ iter (λ k (xs : List ℤ). set xs (l.at + k) (get_or l.values k (pos 0))) l.j l.initial.vertices)
-
-abbrev pub decreases-loop-j : goal.decreases-loop-j
-decreases-loop-j l = 32 - l.j
+invariant-loop-j l = l.vertices ≡ iter (λ k (xs : List ℤ). set xs (l.at + k) (get_or l.values k (pos 0))) l.j l.initial.vertices

@@ -7,6 +7,7 @@ use Rattle.text.specs.declared.Line.{Line}
 use Rattle.plan_lines.specs.declared.Counts.{Counts}
 use Rattle.plan_lines.specs.Lines.{taken, drafted, vertex_put, edge_put}
 use borrow.Author.Rules.{rules}
+use Rattle.plan_lines.proofs.Reading.{idle}
 use Rattle.plan_lines.proofs.take.Goals as goal
 
 pub returns-in-O : goal.returns-in-O
@@ -36,43 +37,6 @@ returns-in-G c =
     ∙ sym (ap (λ (r : Line). taken a.line.now r (drafted a.c a.vertices.now a.edges.now)) c.in-G.is)
 
 pub returns-in-V : goal.returns-in-V
-unfolding taken
 returns-in-V c =
     let a = c.args in
-    sym (ap (λ (r : Line). taken a.line.now r (drafted a.c a.vertices.now a.edges.now)) c.in-V.is)
-
-pub returns-in-I : goal.returns-in-I
-unfolding taken
-returns-in-I c =
-    let a = c.args in
-    sym (ap (λ (r : Line). taken a.line.now r (drafted a.c a.vertices.now a.edges.now)) c.in-I.is)
-
-pub returns-in-N : goal.returns-in-N
-unfolding taken
-returns-in-N c =
-    let a = c.args in
-    sym (ap (λ (r : Line). taken a.line.now r (drafted a.c a.vertices.now a.edges.now)) c.in-N.is)
-
-pub returns-in-U : goal.returns-in-U
-unfolding taken
-returns-in-U c =
-    let a = c.args in
-    sym (ap (λ (r : Line). taken a.line.now r (drafted a.c a.vertices.now a.edges.now)) c.in-U.is)
-
-pub returns-in-R : goal.returns-in-R
-unfolding taken
-returns-in-R c =
-    let a = c.args in
-    sym (ap (λ (r : Line). taken a.line.now r (drafted a.c a.vertices.now a.edges.now)) c.in-R.is)
-
-pub returns-in-RLast : goal.returns-in-RLast
-unfolding taken
-returns-in-RLast c =
-    let a = c.args in
-    sym (ap (λ (r : Line). taken a.line.now r (drafted a.c a.vertices.now a.edges.now)) c.in-RLast.is)
-
-pub returns-in-Malformed : goal.returns-in-Malformed
-unfolding taken
-returns-in-Malformed c =
-    let a = c.args in
-    sym (ap (λ (r : Line). taken a.line.now r (drafted a.c a.vertices.now a.edges.now)) c.in-Malformed.is)
+    idle a.line.now a.read (drafted a.c a.vertices.now a.edges.now) c.in-V.is

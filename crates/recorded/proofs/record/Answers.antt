@@ -1,15 +1,9 @@
-use mathlib.Core.Path.{◌≡◌, ap}
+use mathlib.Core.Path.{ap, ◌∙◌}
 use native.Mathlib.Omega.{arith}
-use Prim.Native.Nat.{◌≤◌, ◌-◌, ◌*◌}
-use lib.ListN.{get_or, set}
-use borrow.Author.Rules.{rules}
-use Rattle.base.specs.Iter.{iter}
+use lib.ListN.{set}
 use Rattle.base.proofs.Loop.{iter_zero, iter_more}
-use Rattle.noting.specs.Words.{capped}
-use Rattle.reasons.specs.declared.reason.Reason.TheVariants.{NotPropagated}
-use Rattle.recorded.specs.Recorded.{newest, holding}
 use Rattle.sweep.proofs.Next.{next_told, next_turn}
-use Rattle.recorded.proofs.Recording.{capped_low, recorded_idle, recorded_done}
+use Rattle.recorded.proofs.Recording.{capped_min, recorded_idle, recorded_done}
 use Rattle.plan.specs.Words.{words_of}
 use Rattle.recorded.proofs.record.Goals as goal
 
@@ -25,19 +19,19 @@ loop-p-init c =
     ((next_told e).most, next_turn _ _ _ (recorded_idle _) _ _ _ _ (omega arith) e (iter_zero _ _))
 
 pub offset_bounds-t-p : goal.offset_bounds-t-p
-offset_bounds-t-p c = omega (arith, capped_low (2 * c.num_variables.result), c.capped-n.ensures)
+offset_bounds-t-p c = omega (arith, c.min-n.ensures)
 
 pub bounds-t-p : goal.bounds-t-p
-bounds-t-p c = omega (arith, capped_low (2 * c.num_variables.result), c.capped-n.ensures)
+bounds-t-p c = omega (arith, c.min-n.ensures)
 
 pub newest-requires : goal.newest-requires
-newest-requires c = omega (arith, capped_low (2 * c.num_variables.result), c.capped-n.ensures)
+newest-requires c = omega (arith, c.min-n.ensures)
 
 pub offset_bounds-t-p-in-loop-p : goal.offset_bounds-t-p-in-loop-p
-offset_bounds-t-p-in-loop-p c = omega (arith, capped_low (2 * c.num_variables.result), c.capped-n.ensures)
+offset_bounds-t-p-in-loop-p c = omega (arith, c.min-n.ensures)
 
 pub bounds-t-p-in-loop-p : goal.bounds-t-p-in-loop-p
-bounds-t-p-in-loop-p c = omega (arith, capped_low (2 * c.num_variables.result), c.capped-n.ensures)
+bounds-t-p-in-loop-p c = omega (arith, c.min-n.ensures)
 
 pub overflow_add-p : goal.overflow_add-p
 overflow_add-p c = omega arith
@@ -55,4 +49,4 @@ loop-p-preserved c =
     )
 
 pub returns : goal.returns
-returns c = recorded_done (words_of c.args.plan.now) _ _ _ _ _ _ c.num_variables.ensures c.capped-n.ensures c.loop-p.invariant.1 (omega arith) (omega arith)
+returns c = recorded_done (words_of c.args.plan.now) _ _ _ _ _ _ c.num_variables.ensures (c.min-n.ensures ∙ capped_min _) c.loop-p.invariant.1 (omega arith) (omega arith)

@@ -1,16 +1,9 @@
-use mathlib.Core.Path.{◌≡◌, ap}
-use native.Mathlib.Omega.{arith}
-use Prim.Native.Nat.{◌≤◌, ◌-◌, ◌*◌}
+use mathlib.Core.Path.{◌≡◌}
+use Prim.Native.Nat.{◌≤◌, ◌-◌}
 use lib.ListN.{get_or, set}
-use borrow.Author.Rules.{rules}
 use Rattle.base.specs.Iter.{iter}
-use Rattle.base.proofs.Loop.{iter_zero, iter_more}
-use Rattle.noting.specs.Words.{capped}
 use Rattle.reasons.specs.declared.reason.Reason.TheVariants.{NotPropagated}
 use Rattle.recorded.specs.Recorded.{newest, holding}
-use Rattle.sweep.proofs.Next.{next_told, next_turn}
-use Rattle.recorded.proofs.Recording.{capped_low, recorded_idle, recorded_done}
-use Rattle.plan.specs.Words.{words_of}
 use Rattle.recorded.proofs.record.Given as goal
 
 abbrev pub invariant-loop-p : goal.invariant-loop-p

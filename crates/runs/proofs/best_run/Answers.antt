@@ -1,6 +1,6 @@
-use borrow.Author.Rules.{rules}
 use Rattle.runs.proofs.Answers.{unwalked, walked_fine, no_first, no_last, walked_told}
 use Rattle.runs.proofs.best_run.Goals as goal
+use Rattle.runs.proofs.best_run.Goals.{else-walkable-via-then-walkable+then-from-num_vertices+else-to-num_vertices, else-walkable-via-then-walkable+else-from-num_vertices, else-walkable-via-else-walkable}
 
 pub find_run-requires : goal.find_run-requires
 find_run-requires c =
@@ -13,13 +13,10 @@ returns-then-to-num_vertices c =
     walked_told _ _ _ _ _ _ _ _ c.walkable.ensures c.if-walkable.true _ c.if-from-num_vertices.true c.if-to-num_vertices.true
     c.find_run.ensures
 
-pub returns-else-to-num_vertices : goal.returns-else-to-num_vertices
-returns-else-to-num_vertices c =
-    no_last _ _ _ _ _ _ _ _ c.walkable.ensures c.if-walkable.true c.if-from-num_vertices.true
-    c.if-to-num_vertices.false
-
-pub returns-else-from-num_vertices : goal.returns-else-from-num_vertices
-returns-else-from-num_vertices c = no_first _ _ _ _ _ _ _ _ c.walkable.ensures c.if-walkable.true c.if-from-num_vertices.false
-
-pub returns-else-walkable : goal.returns-else-walkable
-returns-else-walkable c = unwalked _ _ _ _ _ _ _ _ c.walkable.ensures c.if-walkable.false
+pub returns : goal.returns
+returns c = elim c.else-walkable.branch [
+  | else-walkable-via-then-walkable+then-from-num_vertices+else-to-num_vertices w ↦
+      no_last _ _ _ _ _ _ _ _ c.walkable.ensures w.if-walkable.true w.if-from-num_vertices.true w.if-to-num_vertices.false
+  | else-walkable-via-then-walkable+else-from-num_vertices w ↦ no_first _ _ _ _ _ _ _ _ c.walkable.ensures w.if-walkable.true w.if-from-num_vertices.false
+  | else-walkable-via-else-walkable w ↦ unwalked _ _ _ _ _ _ _ _ c.walkable.ensures w.if-walkable.false
+]

@@ -2,7 +2,6 @@ use mathlib.Core.Path.{refl}
 use native.Mathlib.Omega.{arith}
 use Prim.Native.Nat.{◌+◌}
 use borrow.Author.Tests.{eq-eqb}
-use borrow.Author.Rules.{rules}
 use Rattle.runs.specs.Small.{blank}
 use Rattle.runs.proofs.Eased.{fine_64}
 use Rattle.runs.proofs.Answers.{far_small, far_settled, run_told, none_told}

@@ -4,7 +4,6 @@ use mir.Facts.{to_z-of_z}
 use Rattle.base.specs.Range.{in_range, to_nat}
 use Rattle.base.proofs.Loop.{pick_yes, pick_no}
 use Rattle.runs.specs.Walk.{vertex_given}
-use borrow.Author.Rules.{rules}
 use Rattle.runs.proofs.vertex_given.Goals as goal
 
 pub returns-then-in_range : goal.returns-then-in_range

@@ -1,7 +1,7 @@
 use mathlib.Core.Path.{◌≡◌, sym, ap, ◌∙◌}
 use mathlib.Core.Bool.{true}
 use mathlib.Core.List.{List}
-use Prim.Native.Nat.{ℕ, ◌-◌, ◌<◌}
+use Prim.Native.Nat.{ℕ, ◌<◌}
 use native.Mathlib.Omega.{arith}
 use Rattle.graph.specs.Search.{graph}
 use Rattle.graph.specs.Bounds.{Fine}
@@ -18,42 +18,30 @@ known : {es : List (List ℕ)} {st : List ℕ} {edges q : ℕ} {f : Far} → Fin
     g ≡ lowest (onward (graph es st true) f p) edges → g < edges
 known fine w h k x = next_known _ _ _ _ _ fine w _ _ _ _ _ _ _ _ h k x
 
-pub loop-i-init : goal.loop-i-init
-loop-i-init c = let p = c.requires in going_first _ _ _ _ _ p.0 p.4.1 _ _ _ p.2 p.5 (sym p.6)
+pub loop-init : goal.loop-init
+loop-init c = let p = c.requires in going_first _ _ _ _ _ p.0 p.4.1 _ _ _ p.2 p.5 (sym p.6)
 
 pub next_edge-g-requires : goal.next_edge-g-requires
-next_edge-g-requires c = let p = c.requires in (p.0, p.1, c.loop-i.invariant.low, p.3)
+next_edge-g-requires c = let p = c.requires in (p.0, p.1, c.loop.invariant.low, p.3)
 
 pub overflow_cast-g : goal.overflow_cast-g
 overflow_cast-g c =
     let p = c.requires in
-    let l = c.loop-i in
+    let l = c.loop in
     omega (arith, p.0.fits, known p.0 p.4.1 (omega arith) l.invariant c.next_edge-g.ensures)
-
-pub push-at-requires : goal.push-at-requires
-push-at-requires c = tt
 
 pub other_end-p-requires : goal.other_end-p-requires
 other_end-p-requires c =
     let p = c.requires in
-    let l = c.loop-i in
+    let l = c.loop in
     omega (arith, p.0.fits, known p.0 p.4.1 (omega arith) l.invariant c.next_edge-g.ensures)
 
-pub overflow_step-i : goal.overflow_step-i
-overflow_step-i c = omega arith
-
-pub loop-i-smaller : goal.loop-i-smaller
-loop-i-smaller c = omega arith
-
-pub loop-i-preserved : goal.loop-i-preserved
-loop-i-preserved c =
+pub loop-preserved : goal.loop-preserved
+loop-preserved c =
     let p = c.requires in
-    let l = c.loop-i in
+    let l = c.loop in
     going_next _ _ _ _ _ p.0 p.4.1 _ _ _ _ _ _ _ _ _ (omega arith) l.invariant c.next_edge-g.ensures
     c.other_end-p.ensures _ _ c.push-at.ensures
-
-pub shape_of-buffer : goal.shape_of-buffer
-shape_of-buffer c = c.loop-i.invariant.long
 
 pub returns : goal.returns
 unfolding run_from
@@ -61,5 +49,5 @@ returns c =
     let a = c.args in
     let p = c.requires in
     let e = graph a.edges.now a.state.now true in
-    going_done _ _ _ _ _ _ _ _ _ _ (omega arith) c.loop-i.invariant
+    going_done _ _ _ _ _ _ _ _ _ _ (omega arith) c.loop.invariant
     ∙ ap (λ (j : ℕ). written (walked e a.num_edges (far_of a.far.now) j a.from) (out_of a.buffer.now 0)) p.6

@@ -1,14 +1,22 @@
-use mathlib.Core.Path.{sym, ◌∙◌}
-use native.Mathlib.Omega.{arith}
+use Rattle.std.proofs.Common.{arith, refl, sym, ap, ◌∙◌, ◌≡◌, ◌++◌, ◌≤◌, ◌<◌, ℕ, List, length, take, drop}
+use Rattle.base.proofs.Filled.{all_filled, filled_with}
 use Rattle.sweep.specs.Sweep.{cleared}
 use Rattle.sweep.proofs.Loops.{filled_all}
-use borrow.Author.Rules.{rules}
+use lib.Seq.{length-take-le}
+use mathlib.Core.Logic.{⊎_elim}
+use Rattle.base.specs.Lists.{filled}
+use Rattle.base.proofs.Tests.{le_or_lt}
 use Rattle.sweep.proofs.clear.Goals as goal
 
-pub returns-then-len-gt68 : goal.returns-then-len-gt68
+pub returns : goal.returns
 unfolding cleared
-returns-then-len-gt68 c = c.clear_words.ensures
-
-pub returns-else-len-gt68 : goal.returns-else-len-gt68
-unfolding cleared
-returns-else-len-gt68 c = c.clear_words-else-len-gt68.ensures ∙ sym (filled_all (λ i. 0) _ _ 68 (omega arith) (omega arith))
+returns c =
+    let l = c.args.proposals.now in
+    let n = c.min-n.result in
+    let t : length (take n l) ≡ n = length-take-le n l (omega (arith, c.min-n.ensures)) in
+    ap (λ (x : List ℕ). x ++ drop n l) (all_filled 0 n _ (c.fill.ensures.len ∙ t) (λ j h. c.fill.ensures.clones j 0 (omega arith) refl))
+    ∙ sym (filled_with 0 n l (omega (arith, c.min-n.ensures)))
+    ∙ ⊎_elim
+    (λ (h : length l ≤ 68). sym (filled_all (λ i. 0) l n 68 (omega (arith, c.min-n.ensures)) (omega (arith, c.min-n.ensures))))
+    (λ (h : 68 < length l). let e : n ≡ 68 = omega (arith, c.min-n.ensures) in ap (λ (j : ℕ). filled 0 j (λ i. 0) l) e)
+    (le_or_lt (length l) 68)

@@ -1,10 +1,6 @@
-use mathlib.Core.Path.{◌≡◌, refl, sym, ap, ap₂, ◌∙◌}
-use Prim.Native.Nat.{ℕ, suc, ◌+◌, ◌-◌, ◌*◌, ◌/◌, ◌%◌, ◌≤◌, ◌<◌}
+use mathlib.Core.Path.{sym, ◌∙◌}
 use native.Mathlib.Omega.{arith}
-use borrow.Author.Rules.{rules}
-use mathlib.Core.Bool.{false}
-use Rattle.plan.specs.Words.{words_of, variables_of}
-use Rattle.sweep.specs.Sweep.{false_at, first_false_at}
+use Rattle.sweep.specs.Sweep.{first_false_at}
 use Rattle.sweep.proofs.Loops.{lowest_is, lowest_none}
 use Rattle.sweep.proofs.Next.{next_told, false_start, false_more}
 use Rattle.sweep.proofs.first_false.Goals as goal

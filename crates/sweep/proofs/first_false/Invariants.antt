@@ -1,12 +1,8 @@
-use mathlib.Core.Path.{◌≡◌, refl, sym, ap, ap₂, ◌∙◌}
-use Prim.Native.Nat.{ℕ, suc, ◌+◌, ◌-◌, ◌*◌, ◌/◌, ◌%◌, ◌≤◌, ◌<◌}
-use native.Mathlib.Omega.{arith}
-use borrow.Author.Rules.{rules}
+use mathlib.Core.Path.{◌≡◌}
+use Prim.Native.Nat.{ℕ, ◌-◌, ◌*◌, ◌≤◌, ◌<◌}
 use mathlib.Core.Bool.{false}
 use Rattle.plan.specs.Words.{words_of, variables_of}
-use Rattle.sweep.specs.Sweep.{false_at, first_false_at}
-use Rattle.sweep.proofs.Loops.{lowest_is, lowest_none}
-use Rattle.sweep.proofs.Next.{next_told, false_start, false_more}
+use Rattle.sweep.specs.Sweep.{false_at}
 use Rattle.sweep.proofs.first_false.Given as goal
 
 abbrev pub invariant-loop-p : goal.invariant-loop-p

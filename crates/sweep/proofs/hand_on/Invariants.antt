@@ -1,14 +1,8 @@
-use mathlib.Core.Path.{◌≡◌, refl, sym, ap, ap₂, ◌∙◌}
-use Prim.Native.Nat.{ℕ, suc, ◌+◌, ◌-◌, ◌*◌, ◌/◌, ◌%◌, ◌≤◌, ◌<◌}
-use native.Mathlib.Omega.{arith}
-use borrow.Author.Rules.{rules}
-use lib.ListN.{length}
+use mathlib.Core.Path.{◌≡◌}
+use Prim.Native.Nat.{◌-◌, ◌*◌, ◌≤◌}
 use Rattle.base.specs.Iter.{iter}
-use Rattle.base.proofs.Loop.{iter_zero, iter_more, iter_done}
 use Rattle.plan.specs.Words.{words_of, variables_of}
-use Rattle.sweep.specs.Sweep.{Handed, handing, handed_at, handed_on}
-use Rattle.sweep.proofs.Loops.{all_table, all_list}
-use Rattle.sweep.proofs.Next.{next_told, next_turn, handed_idle}
+use Rattle.sweep.specs.Sweep.{handing, handed_at}
 use Rattle.sweep.proofs.hand_on.Given as goal
 
 abbrev pub invariant-loop-p : goal.invariant-loop-p

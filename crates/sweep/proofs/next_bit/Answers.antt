@@ -1,7 +1,6 @@
 use Prim.Native.Nat.{◌/◌, ◌^◌}
 use native.Mathlib.Omega.{arith}
 use lib.Count.{trailing_le}
-use borrow.Author.Rules.{rules}
 use Rattle.sweep.proofs.next_bit.Goals as goal
 
 pub overflow_cast-result : goal.overflow_cast-result

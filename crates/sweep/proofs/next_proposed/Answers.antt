@@ -1,12 +1,7 @@
 use mathlib.Core.Path.{◌∙◌}
-use Prim.Native.Nat.{◌-◌, ◌≤◌}
 use native.Mathlib.Omega.{arith}
-use borrow.Author.Rules.{rules}
-use Rattle.sweep.proofs.Next.{NoneIn, none_yet, none_join, marks_none, next_marked, next_past}
+use Rattle.sweep.proofs.Next.{none_yet, none_join, marks_none, next_marked, next_past}
 use Rattle.sweep.proofs.next_proposed.Goals as goal
-
-pub overflow_mul-lesser : goal.overflow_mul-lesser
-overflow_mul-lesser c = omega arith
 
 pub loop-p-init : goal.loop-p-init
 loop-p-init c = (omega arith, none_yet _ _ _ (omega arith))
@@ -28,7 +23,7 @@ overflow_add-p c = omega arith
 
 pub returns-then-bit-lt64 : goal.returns-then-bit-lt64
 returns-then-bit-lt64 c =
-    c.lesser-then-bit-lt64.ensures
+    c.min-then-bit-lt64.ensures
     ∙ next_marked _ _ _ _ _ (omega arith) (omega arith) (omega arith) c.loop-p.invariant.1 c.next_bit-bit.ensures (omega arith)
 
 pub overflow_sub-p : goal.overflow_sub-p

@@ -1,8 +1,5 @@
-use mathlib.Core.Path.{◌∙◌}
 use Prim.Native.Nat.{◌-◌, ◌≤◌}
-use native.Mathlib.Omega.{arith}
-use borrow.Author.Rules.{rules}
-use Rattle.sweep.proofs.Next.{NoneIn, none_yet, none_join, marks_none, next_marked, next_past}
+use Rattle.sweep.proofs.Next.{NoneIn}
 use Rattle.sweep.proofs.next_proposed.Given as goal
 
 abbrev pub invariant-loop-p : goal.invariant-loop-p

@@ -1,48 +1,39 @@
 use mathlib.Core.Path.{◌≡◌, sym, subst}
-use Prim.Native.Nat.{◌+◌, ◌-◌, ◌≤◌, ◌<◌}
+use Prim.Native.Nat.{◌+◌, ◌≤◌, ◌<◌}
 use native.Mathlib.Omega.{arith}
 use lib.ListN.{length}
 use Rattle.text.specs.declared.Field.{Field}
 use Rattle.text.specs.Fields.{tab, upto}
 use Rattle.text.proofs.Cut.{upto_within, upto_in}
 use Rattle.text.proofs.Runs.{field_small}
-use Rattle.text.proofs.Filling.{Walk, walk_start, walk_step, walk_length, walk_filled}
+use Rattle.text.proofs.Filling.{walk_start, walk_step, walk_length, walk_filled}
 use Rattle.text.proofs.numbers.Goals as goal
-use Rattle.text.proofs.numbers.Goals.{After-field_end-e}
-
-pub field_end-at-requires : goal.field_end-at-requires
-field_end-at-requires c = tt
+use Rattle.text.proofs.numbers.Goals.{After-end_at-e}
 
 pub loop-at-init : goal.loop-at-init
 loop-at-init c =
     let a = c.args in
-    let e : c.field_end-at.result ≡ upto tab a.line.now = omega (arith, c.field_end-at.ensures) in
-    walk_start a.line.now a.from a.out.now c.field_end-at.result (omega (arith, upto_within tab a.line.now)) e
+    let e : c.end_at-at.result ≡ upto tab a.line.now = omega (arith, c.end_at-at.ensures) in
+    walk_start a.line.now a.from a.out.now c.end_at-at.result (omega (arith, upto_within tab a.line.now)) e
 
 pub overflow_add-start : goal.overflow_add-start
 overflow_add-start c = omega arith
 
-pub field_end-e-requires : goal.field_end-e-requires
-field_end-e-requires c = tt
-
 -- the field ends within the line
-inside : (c : After-field_end-e) → c.field_end-e.result ≤ length c.args.line.now
+inside : (c : After-end_at-e) → c.end_at-e.result ≤ length c.args.line.now
 inside c =
     let l = c.args.line.now in
     let i = c.loop-at.at in
-    omega (arith, c.field_end-e.ensures, upto_in tab l (i + 1) (omega arith))
+    omega (arith, c.end_at-e.ensures, upto_in tab l (i + 1) (omega arith))
 
 pub slice_bounds-read_field-count : goal.slice_bounds-read_field-count
-slice_bounds-read_field-count c = omega (arith, c.field_end-e.ensures)
+slice_bounds-read_field-count c = omega (arith, c.end_at-e.ensures)
 
 pub slice_bounds-read_field-start : goal.slice_bounds-read_field-start
-slice_bounds-read_field-start c = omega (arith, c.field_end-e.ensures, inside (goal.at.slice_bounds-read_field-start c).After-field_end-e)
+slice_bounds-read_field-start c = omega (arith, c.end_at-e.ensures, inside (goal.at.slice_bounds-read_field-start c).After-end_at-e)
 
 pub slice_bounds-read_field-end : goal.slice_bounds-read_field-end
-slice_bounds-read_field-end c = omega (arith, c.field_end-e.ensures, inside (goal.at.slice_bounds-read_field-end c).After-field_end-e)
-
-pub read_field-f-requires : goal.read_field-f-requires
-read_field-f-requires c = tt
+slice_bounds-read_field-end c = omega (arith, c.end_at-e.ensures, inside (goal.at.slice_bounds-read_field-end c).After-end_at-e)
 
 pub store_number-requires : goal.store_number-requires
 store_number-requires c =
@@ -55,26 +46,15 @@ overflow_add-j c =
     omega (arith, l.invariant.fewer)
 
 pub loop-at-smaller : goal.loop-at-smaller
-loop-at-smaller c = omega (arith, c.field_end-e.ensures, inside (goal.at.loop-at-smaller c).After-field_end-e)
+loop-at-smaller c = omega (arith, c.end_at-e.ensures, inside (goal.at.loop-at-smaller c).After-end_at-e)
 
 pub loop-at-preserved : goal.loop-at-preserved
 loop-at-preserved c =
     let l = c.loop-at in
     let a = c.args in
     let f = c.read_field-f in
-    walk_step a.line.now a.from a.out.now l.out c.store_number.new.out l.at l.j c.field_end-e.result f.result
-    (omega arith) c.field_end-e.ensures f.ensures (inside (goal.at.loop-at-preserved c).After-field_end-e) c.store_number.ensures l.invariant
-
-pub shape_of-out-then-j-from : goal.shape_of-out-then-j-from
-shape_of-out-then-j-from c = c.loop-at.invariant.long
-
-pub returns-then-j-from : goal.returns-then-j-from
-returns-then-j-from c =
-    let l = c.loop-at in
-    let a = c.args in (
-      omega (arith, walk_length a.line.now a.from a.out.now l.out l.at l.j c.loop-at-test.false l.invariant),
-      walk_filled a.line.now a.from a.out.now l.out l.at l.j c.loop-at-test.false l.invariant,
-    )
+    walk_step a.line.now a.from a.out.now l.out c.store_number.new.out l.at l.j c.end_at-e.result f.result
+    (omega arith) c.end_at-e.ensures f.ensures (inside (goal.at.loop-at-preserved c).After-end_at-e) c.store_number.ensures l.invariant
 
 pub shape_of-out : goal.shape_of-out
 shape_of-out c = c.loop-at.invariant.long

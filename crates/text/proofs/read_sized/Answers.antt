@@ -1,18 +1,15 @@
-use mathlib.Core.Path.{sym, ◌∙◌}
-use native.Mathlib.Omega.{arith}
+use Rattle.std.proofs.Common.{arith, sym, ◌∙◌}
 use Rattle.text.proofs.Runs.{too_few, too_many, enough}
-use borrow.Author.Rules.{rules}
 use Rattle.text.proofs.read_sized.Goals as goal
+use Rattle.text.proofs.read_sized.Goals.{then-n-lt1-via-then-n-lt1, then-n-lt1-via-else-n-lt1+then-n-gt9}
 
 pub returns-then-n-lt1 : goal.returns-then-n-lt1
 returns-then-n-lt1 c =
     let a = c.args in
-    c.nothing.ensures ∙ sym (too_few a.minus a.s.now a.from c.if-n-lt1.true)
-
-pub returns-then-n-gt9 : goal.returns-then-n-gt9
-returns-then-n-gt9 c =
-    let a = c.args in
-    c.nothing-then-n-gt9.ensures ∙ sym (too_many a.minus a.s.now a.from c.if-n-gt9.true)
+    elim c.then-n-lt1.branch [
+      | then-n-lt1-via-then-n-lt1 w ↦ c.nothing.ensures ∙ sym (too_few a.minus a.s.now a.from w.if-n-lt1.true)
+      | then-n-lt1-via-else-n-lt1+then-n-gt9 w ↦ c.nothing.ensures ∙ sym (too_many a.minus a.s.now a.from w.if-n-gt9.true)
+    ]
 
 pub returns : goal.returns
 returns c =

@@ -1,20 +1,16 @@
-use mathlib.Core.Path.{◌≡◌, sym, ap, ◌∙◌}
+use mathlib.Core.Path.{sym, ap, ◌∙◌}
 use mathlib.Core.List.{List, map}
-use Prim.Native.Nat.{ℕ, ◌+◌, ◌-◌, ◌≤◌}
+use Prim.Native.Nat.{ℕ, ◌+◌, ◌≤◌}
 use native.Mathlib.Omega.{arith}
 use lib.ListN.{length, drop}
 use Rattle.text.specs.declared.Seen.{Seen}
 use Rattle.text.specs.Fields.{tab}
 use Rattle.text.specs.Number.{field_of}
-use Rattle.text.specs.Lines.{seen_of}
 use Rattle.text.specs.Steps.{more}
 use Rattle.text.proofs.Cut.{upto_in, more_none}
 use Rattle.text.proofs.Seeing.{look, look_all, look_end, see_step, counted, none_counted}
 use Rattle.text.proofs.see_from.Goals as goal
-use Rattle.text.proofs.see_from.Goals.{After-field_end-e}
-
-pub see_none-s-requires : goal.see_none-s-requires
-see_none-s-requires c = tt
+use Rattle.text.proofs.see_from.Goals.{After-end_at-e}
 
 pub loop-at-init : goal.loop-at-init
 loop-at-init c =
@@ -26,43 +22,37 @@ loop-at-init c =
 pub overflow_add-from : goal.overflow_add-from
 overflow_add-from c = omega arith
 
-pub field_end-e-requires : goal.field_end-e-requires
-field_end-e-requires c = tt
-
 -- the field ends within the line
-inside : (c : After-field_end-e) → c.field_end-e.result ≤ length c.args.line.now
+inside : (c : After-end_at-e) → c.end_at-e.result ≤ length c.args.line.now
 inside c =
     let l = c.args.line.now in
     let i = c.loop-at.at in
-    omega (arith, c.field_end-e.ensures, upto_in tab l (i + 1) (omega arith))
+    omega (arith, c.end_at-e.ensures, upto_in tab l (i + 1) (omega arith))
 
 pub slice_bounds-read_field-count : goal.slice_bounds-read_field-count
-slice_bounds-read_field-count c = omega (arith, c.field_end-e.ensures)
+slice_bounds-read_field-count c = omega (arith, c.end_at-e.ensures)
 
 pub slice_bounds-read_field-start : goal.slice_bounds-read_field-start
-slice_bounds-read_field-start c = omega (arith, c.field_end-e.ensures, inside (goal.at.slice_bounds-read_field-start c).After-field_end-e)
+slice_bounds-read_field-start c = omega (arith, c.end_at-e.ensures, inside (goal.at.slice_bounds-read_field-start c).After-end_at-e)
 
 pub slice_bounds-read_field-end : goal.slice_bounds-read_field-end
-slice_bounds-read_field-end c = omega (arith, c.field_end-e.ensures, inside (goal.at.slice_bounds-read_field-end c).After-field_end-e)
-
-pub read_field-f-requires : goal.read_field-f-requires
-read_field-f-requires c = tt
+slice_bounds-read_field-end c = omega (arith, c.end_at-e.ensures, inside (goal.at.slice_bounds-read_field-end c).After-end_at-e)
 
 pub see_next-s-requires : goal.see_next-s-requires
 see_next-s-requires c = omega arith
 
 pub loop-at-smaller : goal.loop-at-smaller
-loop-at-smaller c = omega (arith, c.field_end-e.ensures, inside (goal.at.loop-at-smaller c).After-field_end-e)
+loop-at-smaller c = omega (arith, c.end_at-e.ensures, inside (goal.at.loop-at-smaller c).After-end_at-e)
 
 pub loop-at-preserved : goal.loop-at-preserved
 loop-at-preserved c =
     let l = c.loop-at in
     let a = c.args in
     let f = c.read_field-f in
-    let n = counted l.s c.see_next-s.result f.result a.line.now l.at c.field_end-e.result c.see_next-s.ensures in (
-      inside (goal.at.loop-at-preserved c).After-field_end-e,
-      omega (arith, n, l.invariant.1, c.field_end-e.ensures),
-      see_step l.s c.see_next-s.result f.result a.line.now l.at c.field_end-e.result (omega arith) c.field_end-e.ensures f.ensures c.see_next-s.ensures
+    let n = counted l.s c.see_next-s.result f.result a.line.now l.at c.end_at-e.result c.see_next-s.ensures in (
+      inside (goal.at.loop-at-preserved c).After-end_at-e,
+      omega (arith, n, l.invariant.1, c.end_at-e.ensures),
+      see_step l.s c.see_next-s.result f.result a.line.now l.at c.end_at-e.result (omega arith) c.end_at-e.ensures f.ensures c.see_next-s.ensures
           ∙ l.invariant.2,
     )
 

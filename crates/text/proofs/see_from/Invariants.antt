@@ -1,15 +1,12 @@
-use mathlib.Core.Path.{◌≡◌, sym, ap, ◌∙◌}
-use mathlib.Core.List.{List, map}
-use Prim.Native.Nat.{ℕ, ◌+◌, ◌-◌, ◌≤◌}
-use native.Mathlib.Omega.{arith}
+use mathlib.Core.Path.{◌≡◌}
+use mathlib.Core.List.{map}
+use Prim.Native.Nat.{◌-◌, ◌≤◌}
 use lib.ListN.{length, drop}
-use Rattle.text.specs.declared.Seen.{Seen}
 use Rattle.text.specs.Fields.{tab}
 use Rattle.text.specs.Number.{field_of}
 use Rattle.text.specs.Lines.{seen_of}
 use Rattle.text.specs.Steps.{more}
-use Rattle.text.proofs.Cut.{upto_in, more_none}
-use Rattle.text.proofs.Seeing.{look, look_all, look_end, see_step, counted, none_counted}
+use Rattle.text.proofs.Seeing.{look}
 use Rattle.text.proofs.see_from.Given as goal
 
 abbrev pub invariant-loop-at : goal.invariant-loop-at

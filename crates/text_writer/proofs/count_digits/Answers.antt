@@ -1,8 +1,6 @@
-use mathlib.Core.Path.{◌≡◌, ap}
-use Prim.Native.Nat.{◌+◌, ◌≤◌}
+use mathlib.Core.Path.{ap}
 use native.Mathlib.Omega.{arith}
 use lib.ListN.{length}
-use Rattle.text_writer.specs.Digits.{digits}
 use Rattle.text_writer.proofs.Decimals.{digits_small, digits_large_length, digits_few}
 use Rattle.text_writer.proofs.count_digits.Goals as goal
 

@@ -1,9 +1,7 @@
-use mathlib.Core.Path.{◌≡◌, ap}
+use mathlib.Core.Path.{◌≡◌}
 use Prim.Native.Nat.{◌+◌, ◌≤◌}
-use native.Mathlib.Omega.{arith}
 use lib.ListN.{length}
 use Rattle.text_writer.specs.Digits.{digits}
-use Rattle.text_writer.proofs.Decimals.{digits_small, digits_large_length, digits_few}
 use Rattle.text_writer.proofs.count_digits.Given as goal
 
 abbrev pub invariant-loop-rest : goal.invariant-loop-rest

@@ -1,14 +1,8 @@
-use mathlib.Core.Path.{◌≡◌, ap}
+use mathlib.Core.Path.{ap}
 use Prim.Native.Nat.{ℕ, ◌+◌}
 use native.Mathlib.Omega.{arith}
-use borrow.Author.Rules.{rules}
-use lib.ListN.{length}
-use Rattle.text_writer.specs.Digits.{digits}
-use Rattle.text_writer.proofs.Putting.{Backward, backward_start, backward_step, backward_done}
+use Rattle.text_writer.proofs.Putting.{backward_start, backward_step, backward_done}
 use Rattle.text_writer.proofs.write_digits.Goals as goal
-
-pub overflow_add-end : goal.overflow_add-end
-overflow_add-end c = omega arith
 
 pub loop-p-init : goal.loop-p-init
 loop-p-init c =
@@ -16,30 +10,15 @@ loop-p-init c =
     let e = ap (λ (k : ℕ). a.at + k) c.count_digits.ensures in
     (e, backward_start a.n a.buf.now a.at _ e)
 
-pub overflow_sub-p : goal.overflow_sub-p
-overflow_sub-p c = omega arith
-
-pub overflow_add-buf : goal.overflow_add-buf
-overflow_add-buf c = omega arith
-
-pub overflow_cast-buf : goal.overflow_cast-buf
-overflow_cast-buf c = omega arith
-
 pub bounds-buf-p : goal.bounds-buf-p
 bounds-buf-p c =
     let l = c.loop-p in
     omega (arith, l.invariant.1.long, l.invariant.1.to)
 
-pub loop-p-smaller : goal.loop-p-smaller
-loop-p-smaller c = omega arith
-
 pub loop-p-preserved : goal.loop-p-preserved
 loop-p-preserved c =
     let l = c.loop-p in
     (l.invariant.0, backward_step _ _ _ l.buf l.p l.quotient c.loop-p-test.true (omega arith) l.invariant.1)
-
-pub shape_of-buf : goal.shape_of-buf
-shape_of-buf c = c.loop-p.invariant.1.long
 
 pub returns : goal.returns
 returns c =

@@ -2,11 +2,10 @@ use mathlib.Core.Path.{sym, ap, ◌∙◌}
 use Prim.Native.Nat.{ℕ, ◌+◌, ◌≤◌}
 use lib.Dec.{leb}
 use lib.ListN.{length}
-use borrow.Author.Tests.{leb-true, leb-false, not-true, not-false}
-use Rattle.text_writer.specs.declared.Written.TheVariants.{Next}
+use borrow.Author.Tests.{leb-true, leb-false}
+use Rattle.std.specs.Prelude.{Some}
 use Rattle.text_writer.specs.Digits.{digits}
 use Rattle.text_writer.proofs.Putting.{fitted, refused}
-use borrow.Author.Rules.{rules}
 use Rattle.text_writer.proofs.write_number.Goals as goal
 use Rattle.text_writer.proofs.write_number.Goals.{Else-not-fits}
 
@@ -30,4 +29,4 @@ returns c =
     let a = c.args in
     let w = c.write_digits in
     let told = fitted a.buf.now (digits a.n) a.at (room (goal.at.returns c).Else-not-fits) in
-    (ap Next w.ensures.0 ∙ sym told.0, w.ensures.1 ∙ sym told.1)
+    (ap Some w.ensures.0 ∙ sym told.0, w.ensures.1 ∙ sym told.1)

@@ -6,7 +6,6 @@ use lib.ListN.{length-set}
 use Rattle.text_writer.specs.Digits.{digits}
 use Rattle.text_writer.specs.Written.{put, tabbed_one}
 use Rattle.text_writer.proofs.Putting.{tabbed_long, put_one, put_put}
-use borrow.Author.Rules.{rules}
 use Rattle.text_writer.proofs.write_tabbed.Goals as goal
 
 pub bounds-buf-at : goal.bounds-buf-at
@@ -14,9 +13,6 @@ bounds-buf-at c = omega (arith, tabbed_long c.args.n)
 
 pub write_digits-requires : goal.write_digits-requires
 write_digits-requires c = simp length-set (omega (arith, tabbed_long c.args.n))
-
-pub shape_of-buf : goal.shape_of-buf
-shape_of-buf c = c.write_digits.auto.buf ∙ simp length-set
 
 pub returns : goal.returns
 unfolding tabbed_one

@@ -1,5 +1,4 @@
 use borrow.Author.Tests.{eq-eqb, ne_eqb}
-use borrow.Author.Rules.{rules}
 use Rattle.walks.proofs.Walk.{written_yes, written_no}
 use Rattle.walks.specs.Walk.{side_at}
 use Rattle.walks.proofs.write_side.Goals as goal

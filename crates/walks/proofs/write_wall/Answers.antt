@@ -1,5 +1,4 @@
 use mathlib.Core.Path.{sym, ◌∙◌}
-use borrow.Author.Rules.{rules}
 use Rattle.walks.proofs.Walk.{written_yes, written_no, pushed_as}
 use Rattle.walks.specs.Written.{written}
 use Rattle.walks.specs.Walk.{wall_at}

@@ -2,7 +2,7 @@ use mathlib.Core.Path.{◌≡◌, sym, ap, ap₂, subst, ◌∙◌}
 use mathlib.Core.List.{List}
 use native.Mathlib.Omega.{arith}
 use Prim.Native.Nat.{ℕ, ◌+◌, ◌≤◌}
-use lib.ListN.{length, take, drop, length-replicate}
+use lib.ListN.{length, take, drop, replicate, length-replicate}
 use Rattle.text.specs.Fields.{newline}
 use Rattle.text.proofs.Cut.{upto_in}
 use Rattle.desk.specs.Obey.{Desk, desk, held}
@@ -18,16 +18,13 @@ pub loop-at-init : goal.loop-at-init
 unfolding at_first
 loop-at-init g c =
     let a = c.args in
-    let p = c.requires in
-    let t = c.no_table-table in
-    let w = c.no_log-log in (
+    let p = c.requires in (
       p.few,
-      ap length t.ensures ∙ length-replicate {A = ℕ} 4096 0,
-      ap length w.ensures ∙ length-replicate {A = ℕ} 4352 0,
-      sym c.large_buffer-out.ensures,
-      subst (λ (k : ℕ). Left a.input.now k a.started.calls_at (desk a.started.state (record { used = 0; standing = 0 }) t.result w.result)) (sym c.nothing-shown.ensures)
-          (subst (λ (d : Desk). Left a.input.now 0 a.started.calls_at d) (ap₂ (λ (x y : List ℕ). desk a.started.state (record { used = 0; standing = 0 }) x y) (sym t.ensures) (sym w.ensures))
-          (first_left a.input.now a.started p.start p.number)),
+      length-replicate {A = ℕ} 4096 0,
+      length-replicate {A = ℕ} 4352 0,
+      length-replicate {A = ℕ} 65536 0,
+      subst (λ (k : ℕ). Left a.input.now k a.started.calls_at (desk a.started.state (record { used = 0; standing = 0 }) (replicate 4096 0) (replicate 4352 0))) (sym c.nothing-shown.ensures)
+          (first_left a.input.now a.started p.start p.accepted),
     )
 
 -- the line ends within the input

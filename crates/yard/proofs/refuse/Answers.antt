@@ -1,12 +1,12 @@
-use mathlib.Core.Path.{◌≡◌, sym, ap, ◌∙◌}
+use mathlib.Core.Path.{◌≡◌, sym, ap, subst, ◌∙◌}
 use mathlib.Core.List.{[], ◌∷◌}
 use Prim.Native.Nat.{ℕ}
 use native.Mathlib.Omega.{arith}
-use lib.ListN.{length, take, drop}
+use lib.ListN.{length, take, drop, length-replicate}
 use Rattle.text_writer.specs.Written.{answer_line}
 use Rattle.desk.specs.Session.{session}
 use Rattle.desk.proofs.Printing.{written_within}
-use Rattle.desk.proofs.Speaking.{shows, refusal_shown}
+use Rattle.desk.proofs.Speaking.{Shows, shows, refusal_shown}
 use Rattle.yard.proofs.refuse.Given.{Over}
 use Rattle.yard.proofs.refuse.Goals as goal
 use Rattle.yard.proofs.refuse.Goals.{After-print_refusal-n}
@@ -16,10 +16,10 @@ shown : (g : Over) (c : After-print_refusal-n g) →
     × (c.print_refusal-n.result ≡ length (session c.args.input.now))
 shown g c =
     let a = c.args in
-    let p = c.requires in
     let k = c.print_refusal-n in
-    refusal_shown a.input.now a.started k.result k.new.out p.start p.number
-    (shows (answer_line 69 (a.started.refusal ∷ [])) _ k.new.out k.result (omega (arith, k.ensures.1)) k.ensures.0)
+    refusal_shown a.input.now k.result k.new.out a.refusal c.requires.refusal
+    (subst (λ (m : ℕ). Shows k.result k.new.out (answer_line 69 (m ∷ []))) c.number.ensures
+    (shows (answer_line 69 (c.number.result ∷ [])) _ k.new.out k.result (omega (arith, k.ensures.1, length-replicate {A = ℕ} 65536 0)) k.ensures.0))
 
 pub show-requires : goal.show-requires
 show-requires g c =

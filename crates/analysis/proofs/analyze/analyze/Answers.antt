@@ -1,10 +1,9 @@
-use mathlib.Core.Path.{◌≡◌, refl, sym, ap, ap₂, ◌∙◌}
+use mathlib.Core.Path.{sym, ap, ◌∙◌}
 use Rattle.base.proofs.Loop.{pick_yes, pick_no}
 use Rattle.views.specs.Compute.{Computed}
 use Rattle.analysis.specs.Analyze.{analyze_by, analyze_words}
 use Rattle.analysis.proofs.Pass.{ran_length}
 use Rattle.analysis.proofs.Analyzing.{fit}
-use borrow.Author.Rules.{rules}
 use Rattle.plan.specs.Words.{words_of}
 use Rattle.analysis.proofs.analyze.analyze.Goals as goal
 

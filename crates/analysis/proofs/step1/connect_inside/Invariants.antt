@@ -1,19 +1,10 @@
-use Prim.Native.Nat.{◌≤◌, ◌-◌}
-use native.Mathlib.Omega.{arith}
-use mathlib.Core.Path.{◌≡◌, sym, ◌∙◌}
-use borrow.Author.Rules.{rules}
+use mathlib.Core.Path.{◌≡◌}
 use Rattle.base.specs.Iter.{iter}
 use Rattle.division.specs.Analysis.{inside, guarded}
-use Rattle.reasons.specs.declared.Verdict.TheVariants.{Going}
-use Rattle.reasons.specs.Verdicts.{begun, ran, ran_of}
+use Rattle.reasons.specs.Verdicts.{Going, begun, ran, ran_of}
 use Rattle.analysis.specs.Placed.{words, on}
-use Rattle.analysis.proofs.Pass.{ran_none, ran_more, ran_done, ran_length, ran_halt, goes_going}
-use Rattle.analysis.proofs.Matching.{inside_follows}
 use Rattle.plan.specs.Words.{words_of}
 use Rattle.analysis.proofs.step1.connect_inside.Given as goal
 
 abbrev pub invariant-loop-g : goal.invariant-loop-g
-invariant-loop-g l = (l.g ≤ l.n) × (ran Going l.proposals ≡ ran_of (iter (guarded (on inside (words (words_of l.plan) l.edges l.noted l.view))) l.g begun) l.initial.proposals)
-
-abbrev pub decreases-loop-g : goal.decreases-loop-g
-decreases-loop-g l = l.n - l.g
+invariant-loop-g l = ran Going l.proposals ≡ ran_of (iter (guarded (on inside (words (words_of l.plan) l.edges l.noted l.view))) l.g begun) l.initial.proposals

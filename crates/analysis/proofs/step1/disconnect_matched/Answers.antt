@@ -1,33 +1,22 @@
-use mathlib.Core.Path.{ap}
+use mathlib.Core.Path.{ap, refl}
 use Rattle.analysis.specs.First.{disconnected_end}
-use Prim.Native.Nat.{ℕ, ◌≤◌, ◌-◌}
+use Prim.Native.Nat.{ℕ}
 use lib.Dec.{eqb}
 use lib.ListN.{get_or}
 use Rattle.division.specs.Regions.{lowest}
 use native.Mathlib.Omega.{arith}
-use mathlib.Core.Path.{◌≡◌, sym, ◌∙◌}
-use borrow.Author.Rules.{rules}
-use Rattle.base.specs.Iter.{iter}
-use Rattle.division.specs.Analysis.{matched, guarded}
-use Rattle.reasons.specs.declared.Verdict.TheVariants.{Going}
-use Rattle.reasons.specs.Verdicts.{begun, ran, ran_of}
+use mathlib.Core.Path.{sym, ◌∙◌}
 use Rattle.noting.specs.Words.{state_of}
-use Rattle.analysis.specs.Placed.{words, on, plan_in, view_in}
-use Rattle.analysis.proofs.Pass.{ran_none, ran_more, ran_done, ran_length}
+use Rattle.analysis.specs.Placed.{words, plan_in, view_in}
+use Rattle.analysis.proofs.Pass.{ran_none, ran_more, ran_length}
 use Rattle.analysis.proofs.Matching.{end_low, matched_follows, ran_nothing, ran_decided}
 use Rattle.plan.specs.Words.{words_of}
 use Rattle.analysis.proofs.step1.disconnect_matched.Goals as goal
-
-pub overflow_cast-n : goal.overflow_cast-n
-overflow_cast-n c = omega arith
 
 pub returns-then-end-eq0 : goal.returns-then-end-eq0
 returns-then-end-eq0 c =
     let x = words (words_of c.args.plan.now) c.args.edges.now c.args.noted.now c.args.view.now in
     ran_nothing (plan_in x) (state_of x.noted) (view_in x) (sym c.if-end-eq0.true ∙ (c.disconnected_end-end.ensures ∙ ap (disconnected_end x.noted) c.num_edges-n.ensures)) _ _
-
-pub first_undecided-requires : goal.first_undecided-requires
-first_undecided-requires c = omega arith
 
 pub returns-then-first_undecided-n : goal.returns-then-first_undecided-n
 returns-then-first_undecided-n c =
@@ -36,25 +25,16 @@ returns-then-first_undecided-n c =
     ran_decided (plan_in x) (state_of x.noted) (view_in x) (ap (lowest (λ (h : ℕ). eqb (get_or x.noted h 0) 0)) (sym k) ∙ (sym c.first_undecided.ensures ∙ (c.if-first_undecided-n.true ∙ k))) _
 
 pub lowest_walls-requires : goal.lowest_walls-requires
-lowest_walls-requires c = (omega (arith, end_low c.args.noted.now c.num_edges-n.result, c.disconnected_end-end.ensures), c.no_walls-walls.ensures)
+lowest_walls-requires c = (omega (arith, end_low c.args.noted.now c.num_edges-n.result, c.disconnected_end-end.ensures), refl)
 
 pub loop-g-init : goal.loop-g-init
-loop-g-init c = (omega arith, ran_none _ _)
+loop-g-init c = ran_none _ _
 
 pub matched-requires : goal.matched-requires
 matched-requires c = (omega arith, omega arith, c.disconnected_end-end.ensures ∙ ap (disconnected_end c.args.noted.now) c.num_edges-n.ensures, c.lowest_walls.ensures)
 
-pub overflow_step-g : goal.overflow_step-g
-overflow_step-g c = omega arith
-
-pub loop-g-smaller : goal.loop-g-smaller
-loop-g-smaller c = omega arith
-
 pub loop-g-preserved : goal.loop-g-preserved
-loop-g-preserved c = (omega arith, ran_more _ (matched_follows _ _ _) _ _ _ _ _ c.loop-g.invariant.1 c.matched.ensures)
+loop-g-preserved c = ran_more _ (matched_follows _ _ _) _ _ _ _ _ c.loop-g.invariant c.matched.ensures
 
 pub shape_of-proposals : goal.shape_of-proposals
-shape_of-proposals c = ran_length _ _ _ _ c.loop-g.invariant.1
-
-pub returns : goal.returns
-returns c = ran_done _ _ _ _ _ c.loop-g.invariant.1 (omega arith) (omega arith)
+shape_of-proposals c = ran_length _ _ _ _ c.loop-g.invariant

@@ -1,10 +1,7 @@
 use Rattle.sat.specs.Literal.{negate}
-use Rattle.reasons.specs.declared.Verdict.TheVariants.{Going}
-use Rattle.reasons.specs.Verdicts.{ran}
-use mathlib.Core.Path.{◌≡◌, refl, sym, ap, ◌∙◌}
-use native.Mathlib.Omega.{arith}
+use Rattle.reasons.specs.Verdicts.{Going, ran}
+use mathlib.Core.Path.{sym, ap, ◌∙◌}
 use Rattle.analysis.proofs.Matching.{inside_between, inside_shut, inside_open, inside_else}
-use borrow.Author.Rules.{rules}
 use Rattle.analysis.proofs.step1.inside.Goals as goal
 
 pub returns-then-left_region-right_region : goal.returns-then-left_region-right_region

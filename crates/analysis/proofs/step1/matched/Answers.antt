@@ -1,18 +1,16 @@
 use Rattle.plan.specs.Words.{words_of, edges_of}
 use Rattle.analysis.proofs.Matching.{end_low}
-use mathlib.Core.Path.{◌≡◌, refl, sym, ap, ap₂, ◌∙◌}
+use mathlib.Core.Path.{sym, ap, ap₂, ◌∙◌}
 use native.Mathlib.Omega.{arith}
 use Prim.Native.Nat.{ℕ}
-use mathlib.Core.List.{[]}
 use lib.Dec.{eqb}
 use Rattle.division.specs.Analysis.{loose, matches}
-use Rattle.reasons.specs.Words.{bit, packed}
-use Rattle.reasons.specs.declared.Verdict.TheVariants.{Going}
-use Rattle.reasons.specs.Verdicts.{ran}
+use Rattle.reasons.specs.Words.{packed}
+use Rattle.reasons.specs.Verdicts.{Going, ran}
 use Rattle.noting.specs.Words.{state_of}
 use Rattle.analysis.specs.Placed.{words, plan_in, view_in}
 use Rattle.analysis.proofs.Matching.{matched_not, matched_none, matched_some, end_some, end_nothing}
-use borrow.Author.Rules.{rules}
+use Rattle.reasons.proofs.Back.{bool_bit}
 use Rattle.analysis.proofs.step1.matched.Goals as goal
 
 pub walled_match-h-requires : goal.walled_match-h-requires
@@ -28,7 +26,7 @@ returns-then-h-end c =
     let h = end_some (plan_in x) (state_of c.args.noted.now) (view_in x) c.args.g c.args.end c.requires.2 c.walled_match-h.result c.walled_match-h.ensures c.if-h-end.true in
     ap (ran Going) c.put.ensures
     ∙ matched_some _ _ _ _ _ _ _ _ _ (sym c.loose.ensures ∙ c.if-loose.true) h.0 h.1 (ap₂ eqb c.left_region.ensures c.right_region.ensures) c.edge_place.ensures
-    (c.packed.ensures ∙ ap (λ (i : ℕ). packed 2 c.walled_match-h.result c.args.g i 0) c.bit.ensures)
+    (c.packed.ensures ∙ ap (λ (i : ℕ). packed 2 c.walled_match-h.result c.args.g i 0) (c.from.ensures ∙ bool_bit _))
 
 pub returns-else-h-end : goal.returns-else-h-end
 unfolding loose matches

@@ -1,6 +1,5 @@
 use native.Mathlib.Omega.{arith}
 use Rattle.analysis.proofs.Bounds.{uncrossed_not, uncrossed_is}
-use borrow.Author.Rules.{rules}
 use Rattle.analysis.proofs.step2.check_crossed.Goals as goal
 
 pub returns-then-crossed-num_vertices : goal.returns-then-crossed-num_vertices

@@ -1,11 +1,8 @@
 use Rattle.noting.specs.Words.{lits_of}
-use mathlib.Core.Path.{◌≡◌, refl, sym, ap, ap₂, ◌∙◌}
-use native.Mathlib.Omega.{arith}
-use Rattle.reasons.specs.declared.Verdict.TheVariants.{Going}
-use Rattle.reasons.specs.Verdicts.{ran}
+use mathlib.Core.Path.{sym, ap, ◌∙◌}
+use Rattle.reasons.specs.Verdicts.{Going, ran}
 use Rattle.division.specs.Analysis.{loose}
 use Rattle.analysis.proofs.Bounds.{merges_not, merges_fit, merges_some}
-use borrow.Author.Rules.{rules}
 use Rattle.analysis.proofs.step2.merges.Goals as goal
 
 pub returns-then-too_large_if_merged : goal.returns-then-too_large_if_merged

@@ -1,7 +1,5 @@
-use mathlib.Core.Path.{◌≡◌, refl, sym, ap, ap₂, ◌∙◌}
 use native.Mathlib.Omega.{arith}
 use Rattle.analysis.proofs.Bounds.{overfull_not, overfull_is}
-use borrow.Author.Rules.{rules}
 use Rattle.analysis.proofs.step2.overfull.Goals as goal
 
 pub returns-then-upper_bound-decided_weight : goal.returns-then-upper_bound-decided_weight

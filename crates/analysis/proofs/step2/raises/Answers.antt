@@ -1,9 +1,7 @@
-use mathlib.Core.Path.{◌≡◌, refl, sym, ap, ap₂, ◌∙◌}
+use mathlib.Core.Path.{ap, ◌∙◌}
 use native.Mathlib.Omega.{arith}
-use Rattle.reasons.specs.declared.Verdict.TheVariants.{Going}
-use Rattle.reasons.specs.Verdicts.{ran}
+use Rattle.reasons.specs.Verdicts.{Going, ran}
 use Rattle.analysis.proofs.Bounds.{raises_bare, raises_met, raises_some}
-use borrow.Author.Rules.{rules}
 use Rattle.analysis.proofs.step2.raises.Goals as goal
 
 pub returns-then-lower_bound-weight : goal.returns-then-lower_bound-weight

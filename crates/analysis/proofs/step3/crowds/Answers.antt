@@ -7,7 +7,6 @@ use Rattle.views.proofs.Sums.{needed_most}
 use Rattle.analysis.specs.Placed.{edge_place_of, dom_place_of, placed}
 use Rattle.analysis.proofs.Meeting.{crowds_other, crowds_fit, crowds_over, crowds_light}
 use Rattle.plan.specs.Words.{words_of}
-use borrow.Author.Rules.{rules}
 use Rattle.analysis.proofs.step3.crowds.Goals as goal
 
 pub returns-then-sum-weight : goal.returns-then-sum-weight

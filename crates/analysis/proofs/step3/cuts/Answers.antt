@@ -1,9 +1,7 @@
-use mathlib.Core.Path.{◌≡◌, refl, sym, ap, ap₂, ◌∙◌}
+use mathlib.Core.Path.{sym, ap, ◌∙◌}
 use native.Mathlib.Omega.{arith}
-use Rattle.reasons.specs.declared.Verdict.TheVariants.{Going}
-use Rattle.reasons.specs.Verdicts.{ran}
+use Rattle.reasons.specs.Verdicts.{Going, ran}
 use Rattle.analysis.proofs.Bounds.{cuts_bare, cuts_under, cuts_met, cuts_some}
-use borrow.Author.Rules.{rules}
 use Rattle.analysis.proofs.step3.cuts.Goals as goal
 
 pub returns-then-domain_len-eq0 : goal.returns-then-domain_len-eq0

@@ -1,8 +1,7 @@
-use mathlib.Core.Path.{◌≡◌, refl, sym, ap, ap₂, ◌∙◌}
+use mathlib.Core.Path.{sym, ◌∙◌}
 use native.Mathlib.Omega.{arith}
 use Rattle.division.specs.Views.{members_of}
 use Rattle.analysis.proofs.Meeting.{found_lower, found_upper, meets_other, meets_met, meets_apart}
-use borrow.Author.Rules.{rules}
 use Rattle.plan.specs.Words.{words_of}
 use Rattle.analysis.proofs.step4.meets.Goals as goal
 

@@ -1,7 +1,5 @@
-use mathlib.Core.Path.{◌≡◌, refl, sym, ap, ap₂, ◌∙◌}
 use native.Mathlib.Omega.{arith}
 use Rattle.analysis.proofs.Meeting.{first_met, first_not}
-use borrow.Author.Rules.{rules}
 use Rattle.analysis.proofs.step4.meets_first.Goals as goal
 
 pub returns-then-region_upper_bound-region_lower_bound : goal.returns-then-region_upper_bound-region_lower_bound

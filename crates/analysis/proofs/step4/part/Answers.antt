@@ -1,11 +1,10 @@
 use Rattle.views.specs.Words.{upper_bound_of, lower_bound_of}
-use mathlib.Core.Path.{◌≡◌, refl, sym, ap, ap₂, ◌∙◌}
+use mathlib.Core.Path.{sym, ap₂, ◌∙◌}
 use native.Mathlib.Omega.{arith}
 use Prim.Native.Nat.{ℕ}
 use borrow.Author.Tests.{lt-ltb, le-ltb}
 use Rattle.base.proofs.Loop.{pick_yes, pick_no}
 use Rattle.reasons.specs.Words.{packed, put}
-use borrow.Author.Rules.{rules}
 use Rattle.analysis.proofs.step4.part.Goals as goal
 
 pub returns-then-region_upper_bound-region_lower_bound : goal.returns-then-region_upper_bound-region_lower_bound

@@ -1,10 +1,6 @@
-use mathlib.Core.Path.{◌≡◌, refl, sym, ap, ap₂, ◌∙◌}
-use native.Mathlib.Omega.{arith}
-use Rattle.reasons.specs.declared.Verdict.TheVariants.{Going}
-use Rattle.reasons.specs.Verdicts.{ran}
+use mathlib.Core.Path.{sym, ◌∙◌}
 use Rattle.division.specs.Analysis.{loose}
 use Rattle.analysis.proofs.Spreading.{parts_not, parts_some}
-use borrow.Author.Rules.{rules}
 use Rattle.analysis.proofs.step4.parts.Goals as goal
 
 pub returns-then-loose : goal.returns-then-loose

@@ -1,9 +1,6 @@
-use mathlib.Core.Path.{◌≡◌, refl, sym, ap, ap₂, ◌∙◌}
-use native.Mathlib.Omega.{arith}
 use Rattle.division.specs.Analysis.{spreads}
 use Rattle.analysis.proofs.Pass.{ran_after}
 use Rattle.analysis.proofs.Spreading.{spreads_high_follows}
-use borrow.Author.Rules.{rules}
 use Rattle.analysis.proofs.step4.spreads.Goals as goal
 
 pub returns : goal.returns

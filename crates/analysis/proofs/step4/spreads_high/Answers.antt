@@ -1,10 +1,8 @@
-use mathlib.Core.Path.{◌≡◌, refl, sym, ap, ap₂, ◌∙◌}
+use mathlib.Core.Path.{sym, ap, ◌∙◌}
 use native.Mathlib.Omega.{arith}
-use Rattle.reasons.specs.declared.Verdict.TheVariants.{Going}
-use Rattle.reasons.specs.Verdicts.{ran}
+use Rattle.reasons.specs.Verdicts.{Going, ran}
 use Rattle.noting.specs.Words.{lits_of}
 use Rattle.analysis.proofs.Spreading.{spreads_high_bare, spreads_high_met, spreads_high_some}
-use borrow.Author.Rules.{rules}
 use Rattle.analysis.proofs.step4.spreads_high.Goals as goal
 
 pub returns-then-bound-upper_bound : goal.returns-then-bound-upper_bound

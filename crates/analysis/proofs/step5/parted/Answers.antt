@@ -1,13 +1,10 @@
 use Rattle.views.specs.Words.{lower_bound_of}
-use mathlib.Core.Path.{◌≡◌, refl, sym, ap, ap₂, ◌∙◌}
-use native.Mathlib.Omega.{arith}
+use mathlib.Core.Path.{refl, sym, ap, ◌∙◌}
 use Rattle.division.specs.Plan.{touches, across}
 use Rattle.division.specs.Analysis.{same_size, forks, loose}
-use Rattle.reasons.specs.declared.Verdict.TheVariants.{Going}
-use Rattle.reasons.specs.Verdicts.{ran}
+use Rattle.reasons.specs.Verdicts.{Going, ran}
 use Rattle.reasons.specs.Words.{put}
 use Rattle.analysis.proofs.Forks.{parted_not, parted_zero, parted_some, same_first, same_second}
-use borrow.Author.Rules.{rules}
 use Rattle.analysis.proofs.step5.parted.Goals as goal
 
 pub returns-then-region_lower_bound-eq0 : goal.returns-then-region_lower_bound-eq0

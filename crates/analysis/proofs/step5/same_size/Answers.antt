@@ -1,15 +1,9 @@
-use mathlib.Core.Path.{◌≡◌, refl, sym, ap, ap₂, ◌∙◌}
-use native.Mathlib.Omega.{arith}
-use Rattle.division.specs.Plan.{touches, across}
+use mathlib.Core.Path.{sym, ◌∙◌}
+use Rattle.division.specs.Plan.{across}
 use Rattle.division.specs.Analysis.{forks}
-use Rattle.analysis.proofs.Forks.{same_not, same_are}
-use borrow.Author.Rules.{rules}
+use Rattle.analysis.proofs.Forks.{same_are}
 use Rattle.analysis.proofs.step5.same_size.Goals as goal
 
 pub returns-then-forks : goal.returns-then-forks
 unfolding across forks
 returns-then-forks c = same_are _ _ _ _ _ _ _ _ _ _ (sym c.forks.ensures ∙ c.if-forks.true) c.region_across-a.ensures c.region_across-b.ensures c.decided_weight.ensures c.one_size.ensures
-
-pub returns : goal.returns
-unfolding across forks
-returns c = same_not _ _ _ _ _ _ (sym c.forks.ensures ∙ c.if-forks.false)

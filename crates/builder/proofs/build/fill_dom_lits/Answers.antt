@@ -1,44 +1,24 @@
-use mathlib.Core.Path.{◌≡◌, refl, sym, ap, ◌∙◌}
-use mathlib.Core.List.{List}
-use Prim.Native.Nat.{ℕ, zero, suc, pred, ◌+◌, ◌-◌, ◌*◌, ◌≤◌, ◌<◌}
-use native.Mathlib.Omega.{arith}
-use borrow.Author.Rules.{rules}
-use Rattle.base.specs.Iter.{iter}
+use Rattle.std.proofs.Common.{rules, arith, ℕ, pred, ◌≡◌, ◌∙◌, ◌+◌, ◌*◌, ap}
+use Rattle.std.proofs.Math.Numerals.{sub-one}
 use Rattle.base.specs.Lists.{filled}
 use Rattle.base.specs.Range.{to_nat}
 use Rattle.base.proofs.Loop.{iter_zero, iter_more, iter_done}
-use Rattle.builder.specs.Input.{len_at, size_at, lit_at}
 use Rattle.builder.specs.Build.{rows}
+use Rattle.builder.specs.Input.{len_at, lit_at}
 use Rattle.builder.proofs.build.fill_dom_lits.Goals as goal
 
-pred_le : (k : ℕ) → pred k ≤ k
-pred_le zero = omega arith
-pred_le (suc k) = omega arith
-
 pub loop-v-init : goal.loop-v-init
-loop-v-init c = (omega arith, iter_zero _ _)
-
-pub fill_dom_lits_of-requires : goal.fill_dom_lits_of-requires
-fill_dom_lits_of-requires c =
-    let l = c.loop-v in
-    let few = c.requires.1 l.v (omega arith) in
-    (omega arith, omega (arith, c.lit_count.ensures, pred_le (len_at c.args.vertices.now l.v)))
-
-pub overflow_add-v : goal.overflow_add-v
-overflow_add-v c = omega arith
-
-pub loop-v-smaller : goal.loop-v-smaller
-loop-v-smaller c = omega arith
+unfolding rows
+loop-v-init c = iter_zero _ _
 
 pub loop-v-preserved : goal.loop-v-preserved
+unfolding rows
 loop-v-preserved c =
-    let a = c.args in
-    let l = c.loop-v in (
-      omega arith,
-      iter_more _ _ _ _ _ l.invariant.1
-          (c.fill_dom_lits_of.ensures ∙ ap (λ (k : ℕ). filled (2184 + 32 * l.v) k (λ j. to_nat (lit_at a.vertices.now l.v j)) l.plan) c.lit_count.ensures),
-    )
+    let l = c.loop-v in
+    let f = λ (j : ℕ). to_nat (lit_at c.args.vertices.now l.v-counter j) in
+    let n : c.saturating_sub-count.result ≡ pred (len_at c.args.vertices.now l.v-counter) = simp (← sub-one) (cc) in
+    iter_more _ _ _ _ _ l.invariant (c.fill.ensures f (λ i x h p. search rules) ∙ ap (λ (k : ℕ). filled (2184 + 32 * l.v-counter) k f l.plan) n)
 
 pub returns : goal.returns
 unfolding rows
-returns c = iter_done _ _ _ _ _ c.loop-v.invariant.1 (omega arith) (omega arith)
+returns c = iter_done _ _ _ _ _ c.loop-v.invariant (omega arith) (omega arith)

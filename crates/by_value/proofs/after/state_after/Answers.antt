@@ -10,12 +10,12 @@ use Rattle.lent.specs.Lent.{state_after}
 use borrow.Author.Rules.{rules}
 use Rattle.by_value.proofs.after.state_after.Goals as goal
 
-pub returns-then-judged : goal.returns-then-judged
+pub returns-then-done : goal.returns-then-done
 unfolding state_after with_judged
-returns-then-judged c =
+returns-then-done c =
     let a = c.args in
     let h : a.done.judged ≡ true = cc in
-    ap (λ (rs : Reasons). record { plan = a.s.plan; edges = a.s.edges; noted = a.noted; reasons = rs; last = a.left; last_len = a.done.len; initialized = a.s.initialized }) (c.record-reasons.ensures ∙ ap (λ (ws : List ℕ). recorded ws a.proposals.now a.s.reasons) c.plan_bytes-plan.ensures)
+    ap (λ (rs : Reasons). record { plan = a.s.plan; edges = a.s.edges; noted = a.noted; reasons = rs; last = a.left; last_len = a.done.len; initialized = a.s.initialized }) (c.record.ensures ∙ ap (λ (ws : List ℕ). recorded ws a.proposals.now a.s.reasons) c.plan_bytes.ensures)
     ∙ sym (pick_yes _ _ h)
 
 pub returns : goal.returns

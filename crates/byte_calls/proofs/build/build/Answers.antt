@@ -22,5 +22,5 @@ use Rattle.byte_calls.proofs.build.build.Goals as goal
 pub returns : goal.returns
 returns c =
     build_after c.args.vertices.now c.args.n c.args.edges.now c.args.m c.args.options.disallow_adjacent_same_size_regions c.args.options.allow_extra_walls _ _ _ _ c.args.state.now _ _ _
-    c.requires.1 c.requires.0 c.plan_words-words.ensures c.no_notes-noted.ensures (c.fresh.ensures ∙ ap (λ (w : List ℕ). fresh w c.no_notes-noted.result) (words_held _ _ (ap length c.plan_words-words.ensures ∙ plan_words_length _ _ _ _ _ _) c.bytes_of-held.ensures)) c.edge_table-table.ensures
+    c.requires.1 c.requires.0 c.plan_words.ensures c.no_notes-noted.ensures (c.fresh.ensures ∙ ap (λ (w : List ℕ). fresh w c.no_notes-noted.result) (words_held _ _ (ap length c.plan_words.ensures ∙ plan_words_length _ _ _ _ _ _) c.bytes_of.ensures)) c.edge_table-table.ensures
     c.store_words.ensures.0 c.store_words.ensures.1 c.store_words.ensures.2 c.store_edges.ensures c.clear.ensures

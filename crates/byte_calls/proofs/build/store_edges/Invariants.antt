@@ -10,7 +10,4 @@ use Rattle.byte_calls.proofs.Building.{put_ends_length}
 use Rattle.byte_calls.proofs.build.store_edges.Given as goal
 
 abbrev pub invariant-loop-g : goal.invariant-loop-g
-invariant-loop-g l = (l.g ≤ 128) × (l.state ≡ iter (put_ends l.table) l.g l.initial.state) × (length l.state ≡ length l.initial.state)
-
-abbrev pub decreases-loop-g : goal.decreases-loop-g
-decreases-loop-g l = 128 - l.g
+invariant-loop-g l = l.state ≡ iter (put_ends l.table) l.g l.initial.state

@@ -1,18 +1,8 @@
-use mathlib.Core.Path.{◌≡◌, refl, sym, ap, ap₂, ◌∙◌}
-use Prim.Native.Nat.{ℕ, ◌≤◌, ◌<◌, ◌+◌, ◌-◌, ◌*◌, ◌/◌, ◌%◌}
+use mathlib.Core.Path.{ap, ◌∙◌}
 use native.Mathlib.Omega.{arith}
-use lib.ListN.{length, length-set, get_or, set}
-use mathlib.Core.List.{List}
-use Rattle.base.specs.Iter.{iter}
-use Rattle.base.proofs.Loop.{iter_zero, iter_more, iter_done}
-use Rattle.base.specs.Lists.{filled}
-use Rattle.base.specs.Bytes.{word_at, long_at, put_half, put_word, put_long, put_halves, put_words, put_longs}
-use borrow.Author.Rules.{rules}
+use lib.ListN.{take}
+use Rattle.byte_calls.proofs.Filling.{half_put}
 use Rattle.byte_calls.proofs.bytes.put_half.Goals as goal
 
-pub bounds-bytes-at-2 : goal.bounds-bytes-at-2
-bounds-bytes-at-2 c = simp length-set (omega arith)
-
 pub returns : goal.returns
-unfolding put_half
-returns c = refl
+returns c = half_put c.args.at c.args.x c.args.bytes.now _ (omega arith) (c.copy_from_slice.ensures.after ∙ ap (take 2) c.to_le_bytes.ensures)

@@ -1,43 +1,16 @@
-use mathlib.Core.Path.{◌≡◌, refl, sym, ap, ap₂, ◌∙◌}
-use Prim.Native.Nat.{ℕ, ◌≤◌, ◌<◌, ◌+◌, ◌-◌, ◌*◌, ◌/◌, ◌%◌}
+use Rattle.base.proofs.Loop.{iter_zero, iter_done}
 use native.Mathlib.Omega.{arith}
-use lib.ListN.{length, length-set, get_or, set}
-use mathlib.Core.List.{List}
-use Rattle.base.specs.Iter.{iter}
-use Rattle.base.proofs.Loop.{iter_zero, iter_more, iter_done}
 use Rattle.base.specs.Lists.{filled}
-use Rattle.base.specs.Bytes.{word_at, long_at, put_half, put_word, put_long, put_halves, put_words, put_longs}
-use Rattle.byte_calls.proofs.Filling.{filled_more, put_reason_length}
-use Rattle.base.proofs.Bytes.{put_half_length, put_word_length, put_long_length}
-use native.Mathlib.Nat.{zero-add}
-use borrow.Author.Rules.{rules}
+use Rattle.byte_calls.proofs.Filling.{filled_more}
 use Rattle.byte_calls.proofs.bytes.read_longs.Goals as goal
 
 pub loop-i-init : goal.loop-i-init
 unfolding filled
-loop-i-init c = (omega arith, iter_zero _ _, refl)
-
-pub overflow_mul-i : goal.overflow_mul-i
-overflow_mul-i c = omega arith
-
-pub offset_bounds-words-i : goal.offset_bounds-words-i
-offset_bounds-words-i c = omega arith
-
-pub bounds-words-i : goal.bounds-words-i
-bounds-words-i c = omega (arith, c.loop-i.invariant.2)
-
-pub overflow_add-i : goal.overflow_add-i
-overflow_add-i c = omega arith
-
-pub loop-i-smaller : goal.loop-i-smaller
-loop-i-smaller c = omega arith
+loop-i-init c = iter_zero _ _
 
 pub loop-i-preserved : goal.loop-i-preserved
-loop-i-preserved c = (omega arith, filled_more _ _ _ _ _ _ _ c.loop-i.invariant.1 (sym (zero-add _)) c.long_at.ensures, length-set {A = ℕ} c.loop-i.words (c.loop-i.i) c.long_at.result ∙ c.loop-i.invariant.2)
-
-pub shape_of-words : goal.shape_of-words
-shape_of-words c = c.loop-i.invariant.2
+loop-i-preserved c = filled_more _ _ _ _ _ _ _ c.loop-i.invariant (omega arith) c.long_at.ensures
 
 pub returns : goal.returns
 unfolding filled
-returns c = iter_done _ _ _ _ _ c.loop-i.invariant.1 (omega arith) (omega arith)
+returns c = iter_done _ _ _ _ _ c.loop-i.invariant (omega arith) (omega arith)

@@ -14,7 +14,4 @@ use borrow.Author.Rules.{rules}
 use Rattle.byte_calls.proofs.bytes.read_longs.Given as goal
 
 abbrev pub invariant-loop-i : goal.invariant-loop-i
-invariant-loop-i l = (l.i ≤ l.n) × (l.words ≡ filled 0 l.i (λ j. long_at l.bytes (8 * j)) l.initial.words) × (length l.words ≡ length l.initial.words)
-
-abbrev pub decreases-loop-i : goal.decreases-loop-i
-decreases-loop-i l = l.n - l.i
+invariant-loop-i l = l.words ≡ filled 0 l.i (λ j. long_at l.bytes (8 * j)) l.initial.words

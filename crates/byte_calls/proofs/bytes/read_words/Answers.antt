@@ -1,52 +1,17 @@
-use mathlib.Core.Path.{◌≡◌, refl, sym, ap, ap₂, ◌∙◌}
-use Prim.Native.Nat.{ℕ, ◌≤◌, ◌<◌, ◌+◌, ◌-◌, ◌*◌, ◌/◌, ◌%◌}
+use mathlib.Core.Path.{refl}
+use Rattle.base.proofs.Loop.{iter_zero, iter_done}
 use native.Mathlib.Omega.{arith}
-use lib.ListN.{length, length-set, get_or, set}
-use mathlib.Core.List.{List}
-use Rattle.base.specs.Iter.{iter}
-use Rattle.base.proofs.Loop.{iter_zero, iter_more, iter_done}
 use Rattle.base.specs.Lists.{filled}
-use Rattle.base.specs.Bytes.{word_at, long_at, put_half, put_word, put_long, put_halves, put_words, put_longs}
-use Rattle.byte_calls.proofs.Filling.{filled_more, put_reason_length}
-use Rattle.base.proofs.Bytes.{put_half_length, put_word_length, put_long_length}
-use native.Mathlib.Nat.{zero-add}
-use borrow.Author.Rules.{rules}
+use Rattle.byte_calls.proofs.Filling.{filled_more}
 use Rattle.byte_calls.proofs.bytes.read_words.Goals as goal
 
 pub loop-i-init : goal.loop-i-init
 unfolding filled
-loop-i-init c = (omega arith, iter_zero _ _, refl)
-
-pub overflow_add-from : goal.overflow_add-from
-overflow_add-from c = omega arith
-
-pub overflow_mul-from : goal.overflow_mul-from
-overflow_mul-from c = omega arith
-
-pub overflow_add-at : goal.overflow_add-at
-overflow_add-at c = omega arith
-
-pub overflow_add-words : goal.overflow_add-words
-overflow_add-words c = omega arith
-
-pub offset_bounds-words-from : goal.offset_bounds-words-from
-offset_bounds-words-from c = omega arith
-
-pub bounds-words-from : goal.bounds-words-from
-bounds-words-from c = omega (arith, c.loop-i.invariant.2)
-
-pub overflow_add-i : goal.overflow_add-i
-overflow_add-i c = omega arith
-
-pub loop-i-smaller : goal.loop-i-smaller
-loop-i-smaller c = omega arith
+loop-i-init c = iter_zero _ _
 
 pub loop-i-preserved : goal.loop-i-preserved
-loop-i-preserved c = (omega arith, filled_more _ _ _ _ _ _ _ c.loop-i.invariant.1 refl c.word_at.ensures, length-set {A = ℕ} c.loop-i.words (c.args.from + c.loop-i.i) c.word_at.result ∙ c.loop-i.invariant.2)
-
-pub shape_of-words : goal.shape_of-words
-shape_of-words c = c.loop-i.invariant.2
+loop-i-preserved c = filled_more _ _ _ _ _ _ _ c.loop-i.invariant refl c.word_at.ensures
 
 pub returns : goal.returns
 unfolding filled
-returns c = iter_done _ _ _ _ _ c.loop-i.invariant.1 (omega arith) (omega arith)
+returns c = iter_done _ _ _ _ _ c.loop-i.invariant (omega arith) (omega arith)

@@ -14,7 +14,4 @@ use borrow.Author.Rules.{rules}
 use Rattle.byte_calls.proofs.bytes.read_words.Given as goal
 
 abbrev pub invariant-loop-i : goal.invariant-loop-i
-invariant-loop-i l = (l.i ≤ l.n) × (l.words ≡ filled l.from l.i (λ j. word_at l.bytes (l.at + 4 * (l.from + j))) l.initial.words) × (length l.words ≡ length l.initial.words)
-
-abbrev pub decreases-loop-i : goal.decreases-loop-i
-decreases-loop-i l = l.n - l.i
+invariant-loop-i l = l.words ≡ filled l.from l.i (λ j. word_at l.bytes (l.at + 4 * (l.from + j))) l.initial.words

@@ -13,7 +13,4 @@ use borrow.Author.Rules.{rules}
 use Rattle.byte_calls.proofs.bytes.write_halves.Given as goal
 
 abbrev pub invariant-loop-i : goal.invariant-loop-i
-invariant-loop-i l = (l.i ≤ l.n) × (l.bytes ≡ put_halves l.list l.i l.initial.bytes) × (length l.bytes ≡ length l.initial.bytes)
-
-abbrev pub decreases-loop-i : goal.decreases-loop-i
-decreases-loop-i l = l.n - l.i
+invariant-loop-i l = l.bytes ≡ put_halves l.list l.i l.initial.bytes

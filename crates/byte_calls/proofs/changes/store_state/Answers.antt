@@ -21,12 +21,12 @@ use Rattle.byte_calls.proofs.Keeping.{noted_kept, judged_kept}
 use borrow.Author.Rules.{rules}
 use Rattle.byte_calls.proofs.changes.store_state.Goals as goal
 
-pub returns-then-judged : goal.returns-then-judged
+pub returns-then-done : goal.returns-then-done
 unfolding state_after with_judged
-returns-then-judged c =
+returns-then-done c =
     record {
       state_after = λ f.
-          let t : c.args.done.judged ≡ true = c.if-judged.true in
+          let t : c.args.done.judged ≡ true = c.if-done.true in
           let l : c.args.done.len < 4294967296 = subst (λ (s : GraphDivision). s.last_len < 4294967296) (pick_yes _ _ t) f in
           (ap state_in (c.store_noted.ensures.0 ∙ (ap (put_noted c.args.noted.now) (c.store_reasons.ensures ∙ ap (λ (x : List ℕ). put_reasons (words_of x) c.args.proposals.now x) c.store_last.ensures)))
           ∙ judged_stored (words_of (put_last c.args.words.now c.args.done.len c.args.state.now)) c.args.proposals.now c.args.words.now c.args.noted.now c.args.done.len c.args.state.now (plan_after_last c.args.words.now c.args.done.len c.args.state.now c.requires.0) (λ i. omega (arith, c.shared_slice_known-2-1.given i)) (λ i. omega (arith, c.shared_slice_known-3-1.given i)) (λ i. omega (arith, c.shared_slice_known-1.given i)) c.requires.3 c.requires.1 l c.requires.0)
@@ -37,4 +37,4 @@ returns-then-judged c =
 pub returns : goal.returns
 unfolding state_after
 returns c =
-    record { state_after = λ f. (ap state_in c.store_noted-2.ensures.0 ∙ noted_stored c.args.noted.now c.args.state.now (λ i. omega (arith, c.shared_slice_known-1.given i)) c.requires.1 c.requires.0) ∙ sym (pick_no _ _ c.if-judged.false); bytes_kept = noted_kept c.args.noted.now c.args.state.now _ c.store_noted-2.ensures.0 }
+    record { state_after = λ f. (ap state_in c.store_noted-2.ensures.0 ∙ noted_stored c.args.noted.now c.args.state.now (λ i. omega (arith, c.shared_slice_known-1.given i)) c.requires.1 c.requires.0) ∙ sym (pick_no _ _ c.if-done.false); bytes_kept = noted_kept c.args.noted.now c.args.state.now _ c.store_noted-2.ensures.0 }

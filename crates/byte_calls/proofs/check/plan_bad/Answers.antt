@@ -14,4 +14,4 @@ fails : (b : List ℕ) (es : List (List ℕ)) (r : Bool) → words_of b ≡ plan
 fails b es r w f g = ap not g ∙ not-not _ ∙ ap₂ plan_bad w f
 
 pub returns : goal.returns
-returns c = fails _ _ _ (plan_here _ c.requires) c.read_edges-edges.ensures c.plan_ok.ensures
+returns c = fails _ _ _ (plan_here _ c.requires) c.read_edges.ensures c.plan_ok.ensures

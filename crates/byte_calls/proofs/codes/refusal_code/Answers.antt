@@ -1,13 +1,12 @@
-use Rattle.byte_calls.proofs.Coding.{fitted_neg}
-use mathlib.Core.Path.{◌≡◌, refl, sym, ap, ap₂, ◌∙◌}
-use lib.IntN.{ℤ, pos, neg_ℤ}
-use Prim.Native.Nat.{ℕ, ◌≤◌, ◌<◌, ◌+◌, ◌-◌, ◌*◌, ◌/◌, ◌%◌}
-use Rattle.byte_calls.proofs.Filling.{fitted_low, fitted_high}
-use borrow.Author.Rules.{rules}
+use mathlib.Core.Path.{ap, ◌∙◌}
+use Prim.Native.Nat.{ℕ}
+use lib.IntN.{pos, neg_ℤ}
+use native.Mathlib.Omega.{arith}
+use Rattle.base.proofs.Signed.{key_back}
+use Rattle.byte_calls.specs.Codes.{fitted}
+use Rattle.byte_calls.proofs.Filling.{capped_min}
 use Rattle.byte_calls.proofs.codes.refusal_code.Goals as goal
 
-pub returns-then-n-lt2147483647 : goal.returns-then-n-lt2147483647
-returns-then-n-lt2147483647 c = fitted_neg _ _ (c.negated.ensures ∙ ap (λ (k : ℕ). neg_ℤ (pos k)) (fitted_low _ c.if-n-lt2147483647.true))
-
 pub returns : goal.returns
-returns c = fitted_neg _ _ (c.negated-2.ensures ∙ ap (λ (k : ℕ). neg_ℤ (pos k)) (fitted_high _ c.if-n-lt2147483647.false))
+unfolding fitted
+returns c = key_back c.min.result (omega arith) ∙ ap (λ (k : ℕ). neg_ℤ (pos k)) (capped_min _ _ _ c.min.ensures)

@@ -11,7 +11,4 @@ use Rattle.base.proofs.Loop.{iter_zero, iter_more, iter_done}
 use Rattle.byte_calls.proofs.decode.read_edges.Given as goal
 
 abbrev pub invariant-loop-g : goal.invariant-loop-g
-invariant-loop-g l = (l.g ≤ 128) × (l.table ≡ iter (λ g t. set t g (ends_at l.state g)) l.g (replicate 128 (0 ∷ 0 ∷ [])))
-
-abbrev pub decreases-loop-g : goal.decreases-loop-g
-decreases-loop-g l = 128 - l.g
+invariant-loop-g l = l.table ≡ iter (λ g t. set t g (ends_at l.state g)) l.g (replicate 128 (0 ∷ 0 ∷ []))

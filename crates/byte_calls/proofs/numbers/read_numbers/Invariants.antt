@@ -12,7 +12,4 @@ use Rattle.byte_calls.proofs.Numbering.{int_back}
 use Rattle.byte_calls.proofs.numbers.read_numbers.Given as goal
 
 abbrev pub invariant-loop-i : goal.invariant-loop-i
-invariant-loop-i l = (l.i ≤ l.n) × (l.numbers ≡ iter (λ i xs. set xs i (int_at l.bytes i)) l.i l.initial.numbers) × (length l.numbers ≡ length l.initial.numbers)
-
-abbrev pub decreases-loop-i : goal.decreases-loop-i
-decreases-loop-i l = l.n - l.i
+invariant-loop-i l = l.numbers ≡ iter (λ i xs. set xs i (int_at l.bytes i)) l.i l.initial.numbers

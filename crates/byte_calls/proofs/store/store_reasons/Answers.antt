@@ -5,7 +5,7 @@ use Rattle.base.specs.Bytes.{word_at, long_at, put_half, put_word, put_long, put
 use Rattle.byte_calls.specs.Stores.{put_reason, put_reasons, put_last, put_noted, put_cursor, put_list, put_log}
 use Rattle.base.proofs.Loop.{pick_yes, pick_no}
 use lib.ListN.{length, length-set, get_or, set}
-use Rattle.byte_calls.proofs.Filling.{cap_most, put_reason_idle, put_reason_length}
+use Rattle.byte_calls.proofs.Filling.{capped_min, cap_most, put_reason_idle, put_reason_length}
 use Rattle.base.specs.Iter.{iter}
 use Rattle.base.proofs.Loop.{iter_zero, iter_more, iter_done}
 use Rattle.noting.specs.Words.{capped}
@@ -20,7 +20,7 @@ loop-p-init c =
     ((next_told e).most, next_turn _ _ _ (put_reason_idle _) _ _ _ _ (omega arith) e (iter_zero _ _), refl)
 
 pub store_reason-requires : goal.store_reason-requires
-store_reason-requires c = (omega (arith, c.loop-p.invariant.2), omega arith, omega (arith, cap_most _ _ _ c.capped-n.ensures))
+store_reason-requires c = (omega (arith, c.loop-p.invariant.2), omega arith, omega (arith, cap_most _ _ _ (capped_min _ _ _ c.min-n.ensures)))
 
 pub overflow_add-p : goal.overflow_add-p
 overflow_add-p c = omega arith
@@ -46,4 +46,4 @@ returns c =
     let a = c.args in
     iter_done _ _ _ _ _ c.loop-p.invariant.1 (omega arith) (omega arith)
     ∙ ap (λ (k : ℕ). iter (put_reason a.proposals.now) k a.state.now)
-    (c.capped-n.ensures ∙ ap (λ (k : ℕ). capped (2 * k) 4352) c.num_variables.ensures)
+    ((capped_min _ _ _ c.min-n.ensures) ∙ ap (λ (k : ℕ). capped (2 * k) 4352) c.num_variables.ensures)

@@ -1,3 +1,4 @@
+use mathlib.Core.Logic.{⊎_elim}
 use mathlib.Core.Path.{◌≡◌, refl, sym, ap, ap₂, subst, ◌∙◌}
 use Rattle.graph_division.specs.Answers.{values_of}
 use Rattle.desk.specs.Print.{letter_of, numbers_in, line_of}
@@ -23,15 +24,10 @@ returns-in-Undone c = shown_as c.args.values.now _ _ c.args.out.now _ _ c.in-Und
 
 pub returns-in-Reason : goal.returns-in-Reason
 unfolding line_of letter_of numbers_in values_of
-returns-in-Reason c = shown_as c.args.values.now _ _ c.args.out.now _ _ c.in-Reason.is c.print_first-in-Reason.ensures
-
-pub returns-in-Run : goal.returns-in-Run
-unfolding line_of letter_of numbers_in values_of
-returns-in-Run c = shown_as c.args.values.now _ _ c.args.out.now _ _ c.in-Run.is c.print_first-in-Run.ensures
-
-pub returns-in-Page : goal.returns-in-Page
-unfolding line_of letter_of numbers_in values_of
-returns-in-Page c = shown_as c.args.values.now _ _ c.args.out.now _ _ c.in-Page.is c.print_first-in-Page.ensures
+returns-in-Reason c =
+    let shown = c.print_first-in-Reason.ensures in
+    ⊎_elim (λ e. shown_as c.args.values.now _ _ c.args.out.now _ _ e shown)
+    (⊎_elim (λ e. shown_as c.args.values.now _ _ c.args.out.now _ _ e shown) (λ e. shown_as c.args.values.now _ _ c.args.out.now _ _ e shown)) c.in-Reason.is
 
 pub returns-in-Refused : goal.returns-in-Refused
 unfolding line_of letter_of numbers_in values_of

@@ -1,5 +1,4 @@
 use Rattle.judge.proofs.Steps.{crowded_some, crowded_unfit}
-use borrow.Author.Rules.{rules}
 use Rattle.judge.proofs.conflict.judge_crowded.Goals as goal
 
 pub returns-then-compute_view : goal.returns-then-compute_view

@@ -1,5 +1,4 @@
 use Rattle.judge.proofs.Steps.{false_of}
-use borrow.Author.Rules.{rules}
 use Rattle.judge.proofs.proposal.judge_false.Goals as goal
 
 pub returns : goal.returns

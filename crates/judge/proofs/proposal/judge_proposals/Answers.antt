@@ -1,6 +1,5 @@
 use native.Mathlib.Omega.{arith}
 use Rattle.judge.proofs.Steps.{proposals_false, proposals_fine}
-use borrow.Author.Rules.{rules}
 use Rattle.judge.proofs.proposal.judge_proposals.Goals as goal
 
 pub returns-then-p-num_variables : goal.returns-then-p-num_variables

@@ -1,6 +1,5 @@
 use mathlib.Core.Path.{ap₂, ◌∙◌}
 use Rattle.reasons.specs.Reason.{reason_of}
-use borrow.Author.Rules.{rules}
 use Rattle.judge.proofs.proposal.reason_at.Goals as goal
 
 pub returns : goal.returns

@@ -1,4 +1,5 @@
 use mathlib.Core.Path.{refl}
+use lib.ListN.{replicate}
 use Rattle.lent.proofs.Begun.{begin_by}
 use Rattle.lent.specs.Lent.{state_of}
 use borrow.Author.Rules.{rules}
@@ -9,5 +10,5 @@ pub returns : goal.returns
 returns c =
     let a = c.args in
     λ rs b r.
-    begin_by (state_of (words_of a.plan.now) a.edges a.noted.now rs a.left.now a.last_len b) a.cursor a.table.now a.log.now a.list.now _ _ _ _ _ _ _ r refl c.save-entry.ensures c.no_handed-handed.ensures c.no_words-proposals.ensures c.go_through-x.ensures
+    begin_by (state_of (words_of a.plan.now) a.edges a.noted.now rs a.left.now a.last_len b) a.cursor a.table.now a.log.now a.list.now _ _ (replicate 8704 0) _ _ _ _ r refl c.save-entry.ensures refl c.no_words-proposals.ensures c.go_through-x.ensures
     (c.finish.ensures a.edges rs a.left.now a.last_len b _ _)

@@ -16,4 +16,4 @@ returns c =
     let a = c.args in
     let state = state_of (words_of a.plan.now) a.edges a.noted.now in
     of_parts _ (λ rs last len b. page_printed_lem (state rs last len b) _ _ _ _ c.state_bad.ensures _ _ _ _ _ _ _ c.if-state_bad.false
-    c.num_vertices-n.ensures c.compute-regions.ensures c.lower_bounds.ensures c.upper_bounds.ensures c.print_page-printed.ensures c.answer_of.ensures)
+    c.num_vertices-n.ensures c.compute.ensures c.lower_bounds.ensures c.upper_bounds.ensures c.print_page-printed.ensures c.answer_of.ensures)

@@ -1,5 +1,4 @@
 use Rattle.lists.proofs.Spans.{apart_by}
-use borrow.Author.Rules.{rules}
 use Rattle.lists.proofs.conflict.apart.Goals as goal
 
 pub returns : goal.returns

@@ -1,7 +1,6 @@
 use Rattle.walks.specs.Written.{written}
 use Rattle.walks.specs.Answers.{given}
 use Rattle.lists.specs.Conflicts.{crossing_lits}
-use borrow.Author.Rules.{rules}
 use Rattle.lists.proofs.conflict.crossing.Goals as goal
 
 pub returns : goal.returns

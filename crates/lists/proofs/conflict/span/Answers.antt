@@ -1,5 +1,4 @@
 use Rattle.lists.proofs.Spans.{span_by}
-use borrow.Author.Rules.{rules}
 use Rattle.lists.proofs.conflict.span.Goals as goal
 
 pub returns : goal.returns

@@ -1,33 +1,25 @@
-use mathlib.Core.Path.{◌≡◌, sym, ap, ◌∙◌}
+use mathlib.Core.Path.{sym, ap, ◌∙◌}
 use native.Mathlib.Omega.{arith}
-use Prim.Native.Nat.{◌-◌, ◌≤◌}
-use borrow.Author.Rules.{rules}
 use Rattle.division.specs.Regions.{lowest}
 use Rattle.division.proofs.Views.{lowest_zero, lowest_more, lowest_here, lowest_left}
-use Rattle.noting.specs.Words.{capped, crosses, crossed_in}
+use Rattle.noting.specs.Words.{capped, crossed_in}
 use Rattle.noting.proofs.note.crossed.Goals as goal
 
 pub loop-v-init : goal.loop-v-init
-loop-v-init c = (omega arith, lowest_zero _)
+loop-v-init c = lowest_zero _
 
 pub returns-then-crosses : goal.returns-then-crosses
 unfolding crossed_in
 returns-then-crosses c =
     let e = c.capped-n.ensures ∙ ap (λ k. capped k 64) c.num_vertices.ensures in
-    lowest_here _ _ _ c.loop-v.invariant.1 (sym c.crosses.ensures ∙ c.if-crosses.true) c.loop-v-test.true
+    lowest_here _ _ _ c.loop-v.invariant (sym c.crosses.ensures ∙ c.if-crosses.true) c.loop-v-test.true
     ∙ ap (lowest _) e
 
-pub overflow_add-v : goal.overflow_add-v
-overflow_add-v c = omega arith
-
-pub loop-v-smaller : goal.loop-v-smaller
-loop-v-smaller c = omega arith
-
 pub loop-v-preserved : goal.loop-v-preserved
-loop-v-preserved c = (omega arith, lowest_more _ _ c.loop-v.invariant.1 (sym c.crosses.ensures ∙ c.if-crosses.false))
+loop-v-preserved c = (lowest_more _ _ c.loop-v.invariant (sym c.crosses.ensures ∙ c.if-crosses.false))
 
 pub returns : goal.returns
 unfolding crossed_in
 returns c =
     let e = c.capped-n.ensures ∙ ap (λ k. capped k 64) c.num_vertices.ensures in
-    lowest_left _ _ _ c.loop-v.invariant.1 (omega arith) (omega arith) ∙ ap (lowest _) e
+    lowest_left _ _ _ c.loop-v.invariant (omega arith) (omega arith) ∙ ap (lowest _) e

@@ -1,5 +1,4 @@
-use mathlib.Core.Path.{◌≡◌, ◌∙◌}
-use borrow.Author.Rules.{rules}
+use mathlib.Core.Path.{◌∙◌}
 use Rattle.noting.proofs.Follow.{found_known}
 use Rattle.plan.specs.Words.{words_of}
 use Rattle.noting.proofs.note.known.Goals as goal

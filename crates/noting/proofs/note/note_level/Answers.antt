@@ -1,11 +1,8 @@
-use mathlib.Core.Path.{◌≡◌, refl, sym, ap, ap₂, ◌∙◌}
-use Prim.Native.Nat.{ℕ, suc, pred, ◌+◌, ◌-◌, ◌*◌, ◌/◌, ◌%◌, ◌≤◌, ◌<◌}
-use native.Mathlib.Omega.{arith}
+use mathlib.Core.Path.{ap, ◌∙◌}
 use Rattle.noting.proofs.Steps.{note_known, note_unknown}
 use lib.ListN.{length}
 use Rattle.noting.proofs.Pushing.{push_length, at_length}
 use Rattle.noting.specs.Note.{Noting, place_in, known}
-use borrow.Author.Rules.{rules}
 use Rattle.plan.specs.Words.{words_of}
 use Rattle.noting.proofs.note.note_level.Goals as goal
 

@@ -1,13 +1,7 @@
 use lib.ListN.{length}
-use mathlib.Core.Path.{◌≡◌, refl, sym, ap, ap₂, ◌∙◌}
-use lib.Dec.{ltb, leb, eqb}
-use borrow.Author.Tests.{lt-ltb, le-ltb, le-leb, lt-leb, eq-eqb, ne_eqb}
+use mathlib.Core.Path.{ap, ◌∙◌}
 use Rattle.noting.proofs.Steps.{slot_idle, slot_noted}
 use Rattle.noting.proofs.Pushing.{push_length}
-use Rattle.base.proofs.Loop.{pick_yes, pick_no}
-use Rattle.base.specs.Iter.{iter, pick}
-use Rattle.noting.specs.Note.{note_slot, effect_of}
-use borrow.Author.Rules.{rules}
 use Rattle.plan.specs.Words.{words_of}
 use Rattle.noting.proofs.note.note_slot.Goals as goal
 

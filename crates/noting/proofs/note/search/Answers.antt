@@ -1,5 +1,4 @@
-use mathlib.Core.Path.{◌≡◌, refl, sym, ◌∙◌}
-use borrow.Author.Rules.{rules}
+use mathlib.Core.Path.{refl, sym, ◌∙◌}
 use Rattle.noting.proofs.Place.{place_first, place_last, place_halved}
 use Rattle.plan.specs.Words.{words_of}
 use Rattle.noting.proofs.note.search.Goals as goal

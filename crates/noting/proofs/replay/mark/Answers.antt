@@ -1,12 +1,8 @@
-use mathlib.Core.Path.{sym, ap, ◌∙◌}
+use mathlib.Core.Path.{ap, ◌∙◌}
 use Prim.Native.Nat.{ℕ, ◌/◌, ◌%◌}
 use native.Mathlib.Omega.{arith}
 use lib.Bits.{bit_or}
 use lib.ListN.{get_or, set, length-set}
-use borrow.Author.Rules.{rules}
-use borrow.Author.Tests.{le-ltb}
-use Rattle.base.proofs.Loop.{pick_no}
-use Rattle.noting.specs.Replay.{set_mark}
 use Rattle.noting.specs.Following.{marks_of}
 use Rattle.noting.proofs.Marks.{bit_of, mark_set}
 use Rattle.noting.proofs.replay.mark.Goals as goal
@@ -18,7 +14,3 @@ returns-then-k-lt2176 c =
       ap (λ (w : ℕ). marks_of (set m (k / 64) (bit_or (get_or m (k / 64) 0) w))) (bit_of (k % 64) (omega arith)) ∙ mark_set m k c.if-k-lt2176.true c.requires,
       length-set m (k / 64) _ ∙ c.requires,
     )
-
-pub returns-else-k-lt2176 : goal.returns-else-k-lt2176
-unfolding set_mark
-returns-else-k-lt2176 c = (sym (pick_no _ _ (le-ltb _ _ c.if-k-lt2176.false)), c.requires)

@@ -1,14 +1,11 @@
-use borrow.Author.Rules.{rules}
-use mathlib.Core.Path.{◌≡◌, refl, sym, ap, ap₂, ◌∙◌}
-use mathlib.Core.Bool.{Bool, true, false, not, ◌&&◌, ◌||◌}
-use Prim.Native.Nat.{ℕ, suc, pred, ◌+◌, ◌-◌, ◌*◌, ◌/◌, ◌%◌, ◌≤◌, ◌<◌}
+use Rattle.std.proofs.lemmas.Bool.{not-true, not-false}
+use mathlib.Core.Path.{refl, ap, ◌∙◌}
+use mathlib.Core.Bool.{true}
+use Prim.Native.Nat.{ℕ, ◌+◌}
 use native.Mathlib.Omega.{arith}
 use lib.ListN.{length}
 use Rattle.base.proofs.Loop.{iter_zero, iter_more}
-use Rattle.base.specs.Iter.{iter}
-use Rattle.noting.specs.Undo.{records_of}
-use Rattle.noting.specs.Standing.{standing}
-use Rattle.noting.specs.Replay.{replayed, place, replay_level}
+use Rattle.noting.specs.Replay.{place}
 use Rattle.noting.specs.Following.{marks_of}
 use Rattle.noting.proofs.Back.{standing_none}
 use Rattle.noting.proofs.Follow.{level_on}
@@ -27,7 +24,7 @@ loop-at-smaller c =
     let l = c.loop-at in
     let a = c.args in
     let r = c.replay_level-p in
-    let s = level_step (words_of a.plan.now) a.log.now a.used (marks_of l.marks) l.noted _ _ l.at r.result r.ensures.0 (omega arith) c.if-p.true in
+    let s = level_step (words_of a.plan.now) a.log.now a.used (marks_of l.marks) l.noted _ _ l.at r.result r.ensures.0 (omega arith) (not-false _ c.if-not-p.false) in
     omega (arith, s.up, s.down)
 
 pub loop-at-preserved : goal.loop-at-preserved
@@ -35,20 +32,20 @@ loop-at-preserved c =
     let l = c.loop-at in
     let a = c.args in
     let r = c.replay_level-p in
-    let s = level_step (words_of a.plan.now) a.log.now a.used (marks_of l.marks) l.noted _ _ l.at r.result r.ensures.0 (omega arith) c.if-p.true in (
+    let s = level_step (words_of a.plan.now) a.log.now a.used (marks_of l.marks) l.noted _ _ l.at r.result r.ensures.0 (omega arith) (not-false _ c.if-not-p.false) in (
       s.down,
       omega (arith, s.up),
       s.stands ∙ ap (λ (n : ℕ). n + 1) l.invariant.2,
-      level_on _ _ r.result c.if-p.true ∙ iter_more _ _ _ _ _ l.invariant.3 r.ensures.0,
+      level_on _ _ r.result (not-false _ c.if-not-p.false) ∙ iter_more _ _ _ _ _ l.invariant.3 r.ensures.0,
       r.ensures.1,
     )
 
-pub returns-in-loop-at : goal.returns-in-loop-at
-returns-in-loop-at c =
+pub returns-then-not-p : goal.returns-then-not-p
+returns-then-not-p c =
     let l = c.loop-at in
     let a = c.args in
     let r = c.replay_level-p in
-    replay_other (words_of a.plan.now) a.log.now a.used _ (l.levels + 1) (omega arith) _ _ r.result (iter_more _ _ _ _ _ l.invariant.3 r.ensures.0) c.if-p.false a.count
+    replay_other (words_of a.plan.now) a.log.now a.used _ (l.levels + 1) (omega arith) _ _ r.result (iter_more _ _ _ _ _ l.invariant.3 r.ensures.0) (not-true _ c.if-not-p.true) a.count
 
 pub returns : goal.returns
 returns c =

@@ -1,18 +1,12 @@
-use borrow.Author.Rules.{rules}
-use mathlib.Core.Path.{◌≡◌, refl, sym, ap, ap₂, ◌∙◌}
-use mathlib.Core.Bool.{Bool, true, false, not, ◌&&◌, ◌||◌}
-use Prim.Native.Nat.{ℕ, suc, pred, ◌+◌, ◌-◌, ◌*◌, ◌/◌, ◌%◌, ◌≤◌, ◌<◌}
-use native.Mathlib.Omega.{arith}
+use mathlib.Core.Path.{◌≡◌}
+use mathlib.Core.Bool.{true}
+use Prim.Native.Nat.{◌-◌, ◌≤◌}
 use lib.ListN.{length}
-use Rattle.base.proofs.Loop.{iter_zero, iter_more}
 use Rattle.base.specs.Iter.{iter}
 use Rattle.noting.specs.Undo.{records_of}
 use Rattle.noting.specs.Standing.{standing}
 use Rattle.noting.specs.Replay.{replayed, place, replay_level}
 use Rattle.noting.specs.Following.{marks_of}
-use Rattle.noting.proofs.Back.{standing_none}
-use Rattle.noting.proofs.Follow.{level_on}
-use Rattle.noting.proofs.Passed.{level_step, replay_other, replay_through}
 use Rattle.plan.specs.Words.{words_of}
 use Rattle.noting.proofs.replay.replay.Given as goal
 

@@ -1,16 +1,10 @@
-use borrow.Author.Rules.{rules}
-use mathlib.Core.Path.{◌≡◌, ◌∙◌}
-use Prim.Native.Nat.{ℕ, ◌+◌, ◌-◌, ◌≤◌, ◌<◌}
-use native.Mathlib.Omega.{arith}
+use Rattle.std.proofs.Common.{◌∙◌, arith}
+use borrow.Author.Tests.{eq-eqb}
 use Rattle.noting.proofs.Forwards.{past_found, past_on}
 use Rattle.noting.proofs.stands.variable_stands.Goals as goal
 
 pub returns-then-x-eq0 : goal.returns-then-x-eq0
-returns-then-x-eq0 c =
-    let a = c.args in
-    past_found a.log.now a.x a.used (omega arith) c.if-x-eq0.true
+returns-then-x-eq0 c = eq-eqb _ _ c.if-x-eq0.true ∙ past_found c.args.log.now c.args.x c.args.used (omega arith) c.if-x-eq0.true
 
-pub returns-then-len-used : goal.returns-then-len-used
-returns-then-len-used c =
-    let a = c.args in
-    c.variable_in.ensures ∙ past_on a.log.now a.x c.if-x-eq0.false a.used (omega arith)
+pub returns-else-x-eq0 : goal.returns-else-x-eq0
+returns-else-x-eq0 c = c.variable_in.ensures ∙ past_on c.args.log.now c.args.x c.if-x-eq0.false c.args.used (omega arith)

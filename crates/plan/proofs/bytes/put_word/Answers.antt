@@ -1,7 +1,6 @@
-use mathlib.Core.Path.{◌≡◌, refl}
+use mathlib.Core.Path.{refl}
 use native.Mathlib.Omega.{arith}
 use Rattle.base.specs.Bytes.{put_word}
-use borrow.Author.Rules.{rules}
 use Rattle.plan.proofs.bytes.put_word.Goals as goal
 
 pub returns : goal.returns

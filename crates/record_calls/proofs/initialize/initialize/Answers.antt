@@ -20,10 +20,10 @@ returns c =
     let long : length blank ≡ 4352 = length-replicate {A = ℕ} 4352 0 in
     let n : length c.args.s.noted ≡ 384 = omega arith in
     let said : called r c.initialize_words-out.new.table c.initialize_words-out.new.list c.initialize_words-out.new.words ≡ pick (reaches s.plan s.edges.ends (length log) d) (initialized s d c.args.table.now (loaded log d.used blank) c.args.list.now) (called (refuse 7 s d) c.args.table.now c.args.list.now (loaded log d.used blank)) =
-    c.initialize_words-out.ensures
+    c.initialize_words-out.ensures.after
     ∙ (λ i. pick (reaches s.plan s.edges.ends (length log) d) (initialized s d c.args.table.now (c.load.ensures i) c.args.list.now) (called (refuse 7 s d) c.args.table.now c.args.list.now (c.load.ensures i))) in (
       ap (λ (l : Lent). called r c.initialize_words-out.new.table c.initialize_words-out.new.list (map word_of l.log)) c.push_run.ensures
-          ∙ initialize_joined s d log blank long n c.args.table.now c.args.list.now r c.initialize_words-out.new.table c.initialize_words-out.new.list c.initialize_words-out.new.words said c.all_fit.ensures,
+          ∙ initialize_joined s d log blank long n c.args.table.now c.args.list.now r c.initialize_words-out.new.table c.initialize_words-out.new.list c.initialize_words-out.new.words said c.initialize_words-out.ensures.words_fit,
       ap (λ (e : Cursor). moved_to r.cursor e.used)
           (ap (λ (l : Lent). l.cursor) c.push_run.ensures ∙ initialize_moved s d log blank long n c.args.table.now c.args.list.now r c.initialize_words-out.new.table c.initialize_words-out.new.list c.initialize_words-out.new.words said),
     )

@@ -20,10 +20,10 @@ returns c =
     let long : length blank ≡ 4352 = length-replicate {A = ℕ} 4352 0 in
     let n : length c.args.s.noted ≡ 384 = omega arith in
     let said : called r c.propagate_words-out.new.table c.propagate_words-out.new.list c.propagate_words-out.new.words ≡ pick (reaches s.plan s.edges.ends (length log) d) (propagated s d c.args.lit c.args.num_pending_propagations c.args.table.now c.args.list.now (loaded log d.used blank)) (called (refuse 7 s d) c.args.table.now c.args.list.now (loaded log d.used blank)) =
-    c.propagate_words-out.ensures
+    c.propagate_words-out.ensures.after
     ∙ (λ i. pick (reaches s.plan s.edges.ends (length log) d) (propagated s d (to_z-of_z c.ranges.lit i) (to_z-of_z c.ranges.num_pending_propagations i) c.args.table.now c.args.list.now (c.load.ensures i)) (called (refuse 7 s d) c.args.table.now c.args.list.now (c.load.ensures i))) in (
       ap (λ (l : Lent). called r c.propagate_words-out.new.table c.propagate_words-out.new.list (map word_of l.log)) c.push_run.ensures
-          ∙ propagate_joined s d log blank long n c.args.table.now c.args.list.now r c.propagate_words-out.new.table c.propagate_words-out.new.list c.propagate_words-out.new.words c.args.lit c.args.num_pending_propagations said c.all_fit.ensures,
+          ∙ propagate_joined s d log blank long n c.args.table.now c.args.list.now r c.propagate_words-out.new.table c.propagate_words-out.new.list c.propagate_words-out.new.words c.args.lit c.args.num_pending_propagations said c.propagate_words-out.ensures.words_fit,
       ap (λ (e : Cursor). moved_to r.cursor e.used)
           (ap (λ (l : Lent). l.cursor) c.push_run.ensures ∙ propagate_moved s d log blank long n c.args.table.now c.args.list.now r c.propagate_words-out.new.table c.propagate_words-out.new.list c.propagate_words-out.new.words c.args.lit c.args.num_pending_propagations said),
     )

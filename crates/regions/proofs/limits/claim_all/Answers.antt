@@ -1,36 +1,20 @@
-use mathlib.Core.Path.{◌≡◌}
-use native.Mathlib.Omega.{arith}
-use Prim.Native.Nat.{◌+◌, ◌≤◌, ◌<◌, ◌-◌}
-use Rattle.regions.proofs.Spots.{claimed_done}
-use Rattle.regions.specs.Buckets.{marks, claim}
-use Rattle.graph.specs.Lists.{number_of}
+use Rattle.std.proofs.Common.{arith, refl}
 use Rattle.base.proofs.Loop.{iter_zero, iter_more}
-use Rattle.base.specs.Iter.{iter}
+use Rattle.graph.proofs.Lists.{mapped_fill}
+use Rattle.regions.proofs.Spots.{claimed_done}
 use Rattle.regions.proofs.limits.claim_all.Goals as goal
 
-pub loosest-requires : goal.loosest-requires
-loosest-requires c = tt
-
-pub set_bounds-requires : goal.set_bounds-requires
-set_bounds-requires c = c.requires.0
-
-pub set_holders-requires : goal.set_holders-requires
-set_holders-requires c = c.requires.0
-
 pub loop-v-init : goal.loop-v-init
-loop-v-init c = (omega arith, iter_zero _ _)
+loop-v-init c = iter_zero _ _
 
 pub claim-requires : goal.claim-requires
 claim-requires c = let p = c.requires in (omega arith, omega arith, omega (arith, p.2 c.loop-v.v c.loop-v-test.true))
 
-pub overflow_step-v : goal.overflow_step-v
-overflow_step-v c = omega arith
-
-pub loop-v-smaller : goal.loop-v-smaller
-loop-v-smaller c = omega arith
-
 pub loop-v-preserved : goal.loop-v-preserved
-loop-v-preserved c = (omega arith, iter_more _ _ _ _ _ c.loop-v.invariant.1 c.claim.ensures)
+loop-v-preserved c = iter_more _ _ _ _ _ c.loop-v.invariant c.claim.ensures
 
 pub returns : goal.returns
-returns c = claimed_done _ _ _ _ _ _ _ _ _ _ c.loosest.ensures c.set_bounds.ensures c.set_holders.ensures c.loop-v.invariant.1 c.loop-v.invariant.0 c.loop-v-test.false
+returns c =
+    let b = mapped_fill c.loosest.result c.args.num_vertices _ _ (omega arith) c.fill.ensures.len (λ k h. c.fill.ensures.clones k 0 h refl) in
+    let h = mapped_fill 0 c.args.num_vertices _ _ (omega arith) c.fill-2.ensures.len (λ k h. c.fill-2.ensures.clones k 0 h refl) in
+    claimed_done _ _ _ _ _ _ _ _ _ _ c.loosest.ensures b h c.loop-v.invariant (omega arith) (omega arith)

@@ -8,7 +8,7 @@ use mir.Facts.{to_z-of_z}
 use Rattle.base.specs.Range.{in_range, to_nat}
 use Rattle.base.proofs.Loop.{pick_yes, pick_no}
 use Rattle.base.proofs.Range.{in_range_nat}
-use Rattle.sat.specs.declared.OptLit.TheVariants.{Some, Nothing}
+use Rattle.std.specs.Prelude.{None, Some}
 use Rattle.sat.specs.Literal.{lit_of}
 use Rattle.sat.proofs.Lit.from_i32.Goals as goal
 use Rattle.sat.proofs.Lit.from_i32.Goals.{After-is_literal, After-to_nat}

@@ -8,7 +8,7 @@ use mir.Facts.{to_z-of_z}
 use Rattle.base.specs.Range.{in_range, to_nat}
 use Rattle.base.proofs.Loop.{pick_yes, pick_no}
 use Rattle.base.proofs.Range.{in_range_nat}
-use Rattle.sat.specs.declared.OptVar.TheVariants.{Some, Nothing}
+use Rattle.std.specs.Prelude.{None, Some}
 use Rattle.sat.specs.Literal.{var_of}
 use Rattle.sat.proofs.Var.from_i32.Goals as goal
 use Rattle.sat.proofs.Var.from_i32.Goals.{After-in_range, After-to_nat}

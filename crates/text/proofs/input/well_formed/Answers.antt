@@ -1,9 +1,9 @@
-use mathlib.Core.Path.{◌≡◌, refl, sym, ap, ◌∙◌}
-use mathlib.Core.Bool.{Bool, true, false}
-use Prim.Native.Nat.{◌+◌, ◌-◌, ◌≤◌}
+use mathlib.Core.Path.{refl, sym, ap, ◌∙◌}
+use mathlib.Core.Bool.{Bool, false}
+use Prim.Native.Nat.{◌+◌, ◌≤◌}
 use native.Mathlib.Omega.{arith}
 use lib.ListN.{length, drop}
-use borrow.Author.Tests.{le-leb, lt-leb, not-true, not-false}
+use borrow.Author.Tests.{le-leb, lt-leb}
 use Rattle.base.proofs.Loop.{pick_yes, pick_no}
 use Rattle.text.specs.Fields.{newline, lines_of}
 use Rattle.text.specs.Input.{in_order, well_formed}
@@ -18,9 +18,6 @@ returns-then-input-gt1048576 c = sym (pick_no _ _ (lt-leb _ _ c.if-input-gt10485
 
 pub loop-at-init : goal.loop-at-init
 loop-at-init c = refl
-
-pub line_end-e-requires : goal.line_end-e-requires
-line_end-e-requires c = tt
 
 -- the line ends within the input
 inside : (c : After-line_end-e) → c.line_end-e.result ≤ length c.args.input.now
@@ -38,12 +35,6 @@ slice_bounds-read_line-start c = omega (arith, c.line_end-e.ensures, inside (goa
 pub slice_bounds-read_line-end : goal.slice_bounds-read_line-end
 slice_bounds-read_line-end c = omega (arith, c.line_end-e.ensures, inside (goal.at.slice_bounds-read_line-end c).After-line_end-e)
 
-pub read_line-line-requires : goal.read_line-line-requires
-read_line-line-requires c = tt
-
-pub is_admitted-requires : goal.is_admitted-requires
-is_admitted-requires c = tt
-
 pub returns-then-not-is_admitted : goal.returns-then-not-is_admitted
 unfolding well_formed
 returns-then-not-is_admitted c =
@@ -54,9 +45,6 @@ returns-then-not-is_admitted c =
     sym (refused_line input l.at e.result t.result l.first l.called (omega arith) e.ensures t.ensures (sym c.is_admitted.ensures ∙ c.if-not-is_admitted.true))
     ∙ l.invariant
     ∙ sym (pick_yes _ _ (le-leb _ _ c.if-input-gt1048576.false))
-
-pub called_by-called-requires : goal.called_by-called-requires
-called_by-called-requires c = tt
 
 pub overflow_add-at : goal.overflow_add-at
 overflow_add-at c = omega (arith, inside (goal.at.overflow_add-at c).After-line_end-e)

@@ -1,14 +1,9 @@
-use mathlib.Core.Path.{◌≡◌, refl, sym, ap, ◌∙◌}
-use mathlib.Core.Bool.{Bool, true, false}
-use Prim.Native.Nat.{◌+◌, ◌-◌, ◌≤◌}
-use native.Mathlib.Omega.{arith}
+use mathlib.Core.Path.{◌≡◌}
+use mathlib.Core.Bool.{true, false}
+use Prim.Native.Nat.{◌-◌}
 use lib.ListN.{length, drop}
-use borrow.Author.Tests.{le-leb, lt-leb, not-true, not-false}
-use Rattle.base.proofs.Loop.{pick_yes, pick_no}
-use Rattle.text.specs.Fields.{newline, lines_of}
-use Rattle.text.specs.Input.{in_order, well_formed}
-use Rattle.text.proofs.Cut.{upto_in}
-use Rattle.text.proofs.Order.{refused_line, admitted_line, no_line}
+use Rattle.text.specs.Fields.{lines_of}
+use Rattle.text.specs.Input.{in_order}
 use Rattle.text.proofs.input.well_formed.Given as goal
 
 abbrev pub invariant-loop-at : goal.invariant-loop-at

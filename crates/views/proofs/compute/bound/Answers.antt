@@ -1,5 +1,4 @@
 use mathlib.Core.Path.{ap₂}
-use borrow.Author.Rules.{rules}
 use mathlib.Core.Bool.{Bool}
 use Rattle.regions.specs.Buckets.{Marks}
 use Rattle.views.specs.Compute.{bounds_from}

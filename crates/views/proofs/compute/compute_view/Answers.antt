@@ -1,7 +1,6 @@
 use mathlib.Core.Path.{◌∙◌}
 use Rattle.plan.specs.Words.{words_of}
 use Rattle.views.proofs.Computing.{view_walked, view_not}
-use borrow.Author.Rules.{rules}
 use Rattle.views.proofs.compute.compute_view.Goals as goal
 
 pub returns-then-compute_both : goal.returns-then-compute_both

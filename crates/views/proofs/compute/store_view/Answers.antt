@@ -1,7 +1,6 @@
 use mathlib.Core.Path.{sym, ◌∙◌}
 use Rattle.views.specs.Compute.{weighed_from}
-use Rattle.views.proofs.Computing.{stored, stored_regions, no_decided, no_potential, no_upper, no_lower}
-use borrow.Author.Rules.{rules}
+use Rattle.views.proofs.Computing.{stored, stored_regions}
 use Rattle.views.proofs.compute.store_view.Goals as goal
 
 pub returns-then-lower : goal.returns-then-lower
@@ -11,19 +10,3 @@ returns-then-lower c =
     let p = c.region_weights-potential_known.ensures in
     stored c.args.noted.now c.args.view.now c.args.vertices (weighed_from c.args.decided.now c.args.words.now c.args.vertices) (weighed_from c.args.potential.now c.args.words.now c.args.vertices) _ _ c.upper_bounds-upper.ensures c.lower_bounds-lower.ensures _ _ _ _ (sym d.0 ∙ c.if-decided_known.true) (sym p.0 ∙ c.if-potential_known.true) c.if-upper.true c.if-lower.true
     (stored_regions 0 _ _ _ _ _ _ d.1 c.store_regions.ensures) (stored_regions 64 _ _ _ _ _ _ p.1 c.store_regions-then-lower.ensures) c.store_bounds.ensures c.store_bounds-then-lower.ensures
-
-pub returns-else-lower : goal.returns-else-lower
-unfolding weighed_from
-returns-else-lower c = no_lower c.args.noted.now c.args.view.now c.args.vertices (weighed_from c.args.decided.now c.args.words.now c.args.vertices) (weighed_from c.args.potential.now c.args.words.now c.args.vertices) _ _ c.upper_bounds-upper.ensures c.lower_bounds-lower.ensures c.if-lower.false
-
-pub returns-else-upper : goal.returns-else-upper
-unfolding weighed_from
-returns-else-upper c = no_upper c.args.noted.now c.args.view.now c.args.vertices (weighed_from c.args.decided.now c.args.words.now c.args.vertices) (weighed_from c.args.potential.now c.args.words.now c.args.vertices) _ _ c.upper_bounds-upper.ensures c.lower_bounds-lower.ensures c.if-upper.false
-
-pub returns-else-potential_known : goal.returns-else-potential_known
-unfolding weighed_from
-returns-else-potential_known c = no_potential c.args.noted.now c.args.view.now c.args.vertices (weighed_from c.args.decided.now c.args.words.now c.args.vertices) (weighed_from c.args.potential.now c.args.words.now c.args.vertices) _ _ c.upper_bounds-upper.ensures c.lower_bounds-lower.ensures (sym c.region_weights-potential_known.ensures.0 ∙ c.if-potential_known.false)
-
-pub returns-else-decided_known : goal.returns-else-decided_known
-unfolding weighed_from
-returns-else-decided_known c = no_decided c.args.noted.now c.args.view.now c.args.vertices (weighed_from c.args.decided.now c.args.words.now c.args.vertices) (weighed_from c.args.potential.now c.args.words.now c.args.vertices) _ _ c.upper_bounds-upper.ensures c.lower_bounds-lower.ensures (sym c.region_weights-decided_known.ensures.0 ∙ c.if-decided_known.false)

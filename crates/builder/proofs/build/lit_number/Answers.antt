@@ -1,8 +1,0 @@
-use mathlib.Core.Path.{◌≡◌, refl, sym, ap, ◌∙◌}
-use Rattle.base.specs.Range.{to_nat}
-use Rattle.base.proofs.Range.{reads_back}
-use borrow.Author.Rules.{rules}
-use Rattle.builder.proofs.build.lit_number.Goals as goal
-
-pub returns : goal.returns
-returns c = c.to_nat.ensures ∙ ap to_nat (reads_back _ c.size_lit.type_inv ∙ c.size_lit.ensures)
