@@ -8,12 +8,12 @@ ghost use Rattle.builder.specs.Input.{weight_at, len_at, size_at, lit_at, left_a
 ghost use Rattle.builder.specs.Index.{indexed};
 ghost use Rattle.builder.specs.Build.{flag, rows, header, given, closed, totals, with_index, plan_words, edge_step, edge_table};
 
+use crate::fill::fill;
 use crate::index::{Counted, index_variables};
 use crate::input::{
     EdgeNumbers, VertexNumbers, domain_len, edge_lit, left, refusal_of, right, size, size_lit,
     weight,
 };
-use base::fill::fill;
 use edge_table::Edges;
 use plan::{BUILT, Plan};
 

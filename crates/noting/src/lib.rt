@@ -14,8 +14,6 @@ ghost use Rattle.noting.specs.Words.{edge_state_of, bound_at, lower_of, upper_of
 ghost use Rattle.noting.specs.Following.{fresh_bounds};
 ghost use Rattle.plan.specs.Words.{words_of};
 
-use base::fill::fill;
-
 pub const NOTED_WORDS: usize = 384;
 
 pub type Noted = [u32; NOTED_WORDS];
@@ -107,6 +105,16 @@ fn last_size(plan: &[u8], v: usize) -> u32
     }
 }
 
+// The n words from `from` on become x.
+fn fill(noted: &mut Noted, from: usize, n: usize, x: u32)
+    requires { from + n ≤ 384 }
+    ensures { noted.new ≡ filled from n (λ _. x) noted.old }
+{
+    for v in 0..n {
+        noted[from + v] = x;
+    }
+}
+
 // First and last sizes, a vertex at a time.
 fn fill_sizes(plan: &[u8], noted: &mut Noted, n: usize)
     requires { n ≤ 64 }
@@ -126,8 +134,8 @@ pub(crate) fn fresh_bounds(plan: &[u8], noted: &mut Noted)
 {
     let vertices = capped(plan::num_vertices(plan), 64);
     fill_sizes(plan, noted, vertices);
-    fill(noted, 320, vertices, |_| NO_BOUND_LIT);
-    fill(noted, 256, vertices, |_| NO_BOUND_LIT);
+    fill(noted, 320, vertices, NO_BOUND_LIT);
+    fill(noted, 256, vertices, NO_BOUND_LIT);
 }
 
 // Nothing noted. Words that the plan does not use stay as they are.
@@ -135,6 +143,6 @@ pub fn fresh(plan: &[u8], noted: &mut Noted)
     ensures { noted.new ≡ fresh (words_of plan.now) noted.old }
 {
     let edges = capped(plan::num_edges(plan), 128);
-    fill(noted, 0, edges, |_| UNDECIDED);
+    fill(noted, 0, edges, UNDECIDED);
     fresh_bounds(plan, noted);
 }

@@ -1,11 +1,10 @@
 // The view's words from the noted ones. Document 01's analysis begins with it: the regions, their weights and their bounds.
-ghost use Rattle.std.specs.Prelude.{◌≡◌, true, false, ◌+◌, ◌≤◌};
+ghost use Rattle.std.specs.Prelude.{◌≡◌, true, false, ℕ, ◌+◌, ◌<◌, ◌≤◌, length};
 ghost use Rattle.base.specs.Lists.{filled};
 ghost use Rattle.plan.specs.Words.{words_of, word};
 ghost use Rattle.views.specs.Compute.{weight_words, computed_of, regions_from, bounds_from, weighed_from, view_from, with_bounds, compute_view};
 
 use crate::View;
-use base::fill::fill;
 use edge_table::Edges;
 use noting::Noted;
 use regions::limits::region_bounds;
@@ -28,12 +27,22 @@ pub struct Bounds {
     pub holders: [u8; 64],
 }
 
+// The 64 words from `from` on become value(0), value(1), up to value(63).
+fn fill<F: Fn(usize) -> u32>(words: &mut [u32], from: usize, value: F)
+    requires { ((v : ℕ) → v < 64 → F.pre value v) × (from + 64 ≤ length words.old) }
+    ensures { (f : ℕ → ℕ) → ((v x : ℕ) → v < 64 → F.post value v x → x ≡ f v) → words.new ≡ filled from 64 f words.old }
+{
+    for v in 0..64 {
+        words[from + v] = value(v);
+    }
+}
+
 // The weight of each vertex.
 fn weight_words(plan: &[u8]) -> [u32; 64]
     ensures { result ≡ weight_words (words_of plan.now) }
 {
     let mut words = [0u32; 64];
-    fill(&mut words, 0, 64, |v| plan::weight(plan, v));
+    fill(&mut words, 0, |v| plan::weight(plan, v));
     words
 }
 
@@ -82,8 +91,8 @@ fn store_regions(labels: &[u8; 64], weights: &[u32; 64], view: &mut View, from: 
     requires { from + 192 ≤ 512 }
     ensures { view.new ≡ filled (from + 128) 64 (word weights.now) (filled from 64 (word labels.now) view.old) }
 {
-    fill(view, from, 64, |v| u32::from(labels[v]));
-    fill(view, from + 128, 64, |v| weights[v]);
+    fill(view, from, |v| u32::from(labels[v]));
+    fill(view, from + 128, |v| weights[v]);
 }
 
 // Bounds from word `from` on, the vertices that have them from word `from + 64` on.
@@ -91,8 +100,8 @@ fn store_bounds(b: Bounds, view: &mut View, from: usize)
     requires { from + 128 ≤ 512 }
     ensures { view.new ≡ with_bounds from b view.old }
 {
-    fill(view, from, 64, |v| b.bounds[v]);
-    fill(view, from + 64, 64, |v| u32::from(b.holders[v]));
+    fill(view, from, |v| b.bounds[v]);
+    fill(view, from + 64, |v| u32::from(b.holders[v]));
 }
 
 // The least upper bound of each region.

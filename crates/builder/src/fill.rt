@@ -3,7 +3,7 @@ ghost use Rattle.std.specs.Prelude.{◌≡◌, ℕ, ◌+◌, ◌<◌, ◌≤◌,
 ghost use Rattle.base.specs.Lists.{filled};
 
 // The n words from `from` on become value(0), value(1), up to value(n - 1), as far as there are words.
-pub fn fill<F: Fn(usize) -> u32>(words: &mut [u32], from: usize, n: usize, value: F)
+pub(crate) fn fill<F: Fn(usize) -> u32>(words: &mut [u32], from: usize, n: usize, value: F)
     requires { (i : ℕ) → i < n → F.pre value i }
     ensures { (f : ℕ → ℕ) → ((i x : ℕ) → i < n → F.post value i x → x ≡ f i) → words.new ≡ filled from n f words.old }
 {

@@ -2,7 +2,7 @@ use Rattle.std.proofs.Common.{◌≡◌, ℕ, ◌+◌, ◌-◌, ◌∙◌, min, 
 use Rattle.base.specs.Lists.{filled}
 use Rattle.base.proofs.Loop.{iter_zero, iter_more, iter_done}
 use Rattle.base.proofs.Filled.{filled_room}
-use Rattle.base.proofs.fill.fill.Goals as goal
+use Rattle.builder.proofs.fill.fill.Goals as goal
 
 pub loop-i-init : goal.loop-i-init
 unfolding filled
