@@ -156,7 +156,7 @@ module _ (f : ℕ → Out → Out) where
       simp unary_clauses (guarded_stops f (k + m) (iter (guarded f) (k + m) o) (subst (λ (q : Out). still q.verdict ≡ false) (sym (stays o k m e)) e) ∙ stays o k m e)
 
   -- the loop is left
-  ran_halt : (n m : ℕ) (a c : List ℕ) (s : Stop) → n ≤ m → ran (Err s) c ≡ ran_of (iter (guarded f) n begun) a → ran (Err s) c ≡ ran_of (iter (guarded f) m begun) a
+  pub ran_halt : (n m : ℕ) (a c : List ℕ) (s : Stop) → n ≤ m → ran (Err s) c ≡ ran_of (iter (guarded f) n begun) a → ran (Err s) c ≡ ran_of (iter (guarded f) m begun) a
   unfolding ran_of
   ran_halt n m a c s l e =
       let z = says_ended _ s (ap (λ (q : Ran). q.verdict) (sym e)) in

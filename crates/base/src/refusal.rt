@@ -4,7 +4,7 @@ ghost use Rattle.std.specs.Prelude.{◌≡◌};
 ghost use Rattle.base.specs.Refusal.{number};
 
 // 12, crossed bounds, is none: since document 02, request 2, they are a conflict.
-#[derive(Clone, Copy)]
+#[derive(Clone, Copy, Debug, PartialEq, Eq)]
 pub enum Refusal {
     // Building: too many vertices, edges or sizes.
     TooMany,

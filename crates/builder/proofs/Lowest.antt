@@ -8,6 +8,7 @@ use native.Mathlib.Nat.{eq-or-lt_of_le}
 use mathlib.Core.Logic.{⊎_elim}
 use lib.IntN.{ℤ}
 use Rattle.base.specs.Iter.{pick}
+use Rattle.base.specs.Refusal.{number_or_0, refusal_with}
 use Rattle.base.proofs.Loop.{pick_yes, pick_no, tested}
 use Rattle.base.proofs.Tests.{le_or_lt}
 use Rattle.builder.specs.Input.{too_many, weight_outside, sizes_wrong, lit_count_wrong, lit_outside, end_wrong, refusal}
@@ -17,6 +18,16 @@ use lib.Dec.{eqb}
 -- the first of a row of tests that passes, counted from 1, or 0
 unfoldable first6 : Bool → Bool → Bool → Bool → Bool → Bool → ℕ
 first6 a b c d e f = pick a 1 (pick b 2 (pick c 3 (pick d 4 (pick e 5 (pick f 6 0)))))
+
+numbered6 : (a b c d e f : Bool) → number_or_0 (refusal_with (first6 a b c d e f)) ≡ first6 a b c d e f
+unfolding first6 pick
+numbered6 true b c d e f = refl
+numbered6 false true c d e f = refl
+numbered6 false false true d e f = refl
+numbered6 false false false true e f = refl
+numbered6 false false false false true f = refl
+numbered6 false false false false false true = refl
+numbered6 false false false false false false = refl
 
 none6 : (a b c d e f : Bool) → first6 a b c d e f ≡ 0 → (a ≡ false) × (b ≡ false) × (c ≡ false) × (d ≡ false) × (e ≡ false) × (f ≡ false)
 unfolding first6 pick
@@ -97,6 +108,11 @@ clean_none {vs} {n} {es} {m} c k =
     (λ i. test6 (c.counts i) (c.weights i) (c.sizes i) (c.lit_counts i) (c.lits i) (c.ends i) k) ∙ test6_none k
 
 module _ (vs : List ℤ) (n : ℕ) (es : List ℤ) (m : ℕ) where
+  -- the refusal with the number that is answered has that number
+  pub numbered : number_or_0 (refusal_with (refusal vs n es m)) ≡ refusal vs n es m
+  unfolding refusal first6
+  numbered = numbered6 (too_many vs n m) (weight_outside vs n) (sizes_wrong vs n) (lit_count_wrong vs n) (lit_outside vs n es m) (end_wrong n es m)
+
   -- what is answered is the lowest that applies
   pub refused : 0 < refusal vs n es m → Lowest (applies vs n es m) (refusal vs n es m)
   unfolding refusal first6 applies test6

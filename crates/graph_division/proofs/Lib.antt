@@ -1,2 +1,3 @@
 pub mod NoPlan
 pub mod Lending
+pub mod Refused

@@ -17,7 +17,7 @@ pub fn no_words() -> Proposals
     [0u64; 8772]
 }
 
-// Why an analysis ends before its last step.
+// Why an analysis stops where it is.
 #[derive(Clone, Copy)]
 pub enum Stop {
     // A disconnected edge inside a region.
