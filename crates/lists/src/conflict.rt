@@ -100,6 +100,7 @@ pub fn conflict_lits(
             upper_bound_idx: b,
         } => apart(plan, edges, noted, a, b, out, at),
         Stop::Crossing { vertex_idx: v } => crossing(noted, v, out, at),
-        Stop::ZeroSize | Stop::Unfit => None,
+        Stop::ZeroSize => None,
+        Stop::Unfit => None,
     }
 }

@@ -195,6 +195,7 @@ pub fn take_line(
     take(line, read, c, vertices, edges)
 }
 
+#[tactic(auto, using(crate::proofs::Reading::plan_lines, crate::proofs::Reading::other_lines))]
 fn is_plan_line(read: Line) -> bool
     ensures { result ≡ is_plan_line read }
 {

@@ -37,8 +37,8 @@ returns-in-Crossing c = conflict_arm _ _ _ _ _ _ _ _ (c.in-Err.is ∙ ap Err c.i
 
 pub returns-in-ZeroSize : goal.returns-in-ZeroSize
 unfolding conflict_lits missing
-returns-in-ZeroSize c =
-    elim c.in-ZeroSize.is [
-      | inl e ↦ conflict_arm _ _ _ _ _ _ _ _ (c.in-Err.is ∙ ap Err e) refl
-      | inr e ↦ conflict_arm _ _ _ _ _ _ _ _ (c.in-Err.is ∙ ap Err e) refl
-    ]
+returns-in-ZeroSize c = conflict_arm _ _ _ _ _ _ _ _ (c.in-Err.is ∙ ap Err c.in-ZeroSize.is) refl
+
+pub returns-in-Unfit : goal.returns-in-Unfit
+unfolding conflict_lits missing
+returns-in-Unfit c = conflict_arm _ _ _ _ _ _ _ _ (c.in-Err.is ∙ ap Err c.in-Unfit.is) refl
