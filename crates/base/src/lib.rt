@@ -1,6 +1,7 @@
 // What every crate may need: range tests on numbers from outside, small sums, entries of slices. The definitions of loops stand in specs/.
 #![tactic(auto)]
 
+pub mod fill;
 pub mod refusal;
 pub mod slices;
 
