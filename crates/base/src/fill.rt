@@ -11,7 +11,7 @@ pub trait Words {
         ensures { gives self.now i result };
 }
 
-// The n words from `from` on become those of the places 0, 1, up to n - 1, as far as there are words.
+// The n words from `from` on become value's words of the places 0, 1, up to n - 1, as far as there are words.
 pub fn fill<W: Words>(words: &mut [u32], from: usize, n: usize, value: &W)
     ensures filled { (f : ℕ → ℕ) → ((i x : ℕ) → i < n → W.gives value.now i x → x ≡ f i) → words.new ≡ filled from n f words.old }
     ensures given { (i : ℕ) → i < n → from + i < length words.old → W.gives value.now i (slice_index words.new (from + i)) }

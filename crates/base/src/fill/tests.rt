@@ -1,5 +1,5 @@
-// `fill` of a closure, as another crate calls it: a type of its own keeps the closure beside the fact that it may be called
-// for each place below n, and is a word for every place.
+// `fill` of a closure, as another crate calls it, by public names alone: a type of its own keeps the closure beside the
+// fact that it may be called for each place below n.
 ghost use Rattle.std.specs.Prelude.{◌≡◌, ℕ, ◌<◌};
 ghost use Rattle.base.specs.Lists.{filled};
 
@@ -7,7 +7,7 @@ use super::{Words, fill};
 use std::marker::Model;
 use std::test::Fail;
 
-// What closures of a place are.
+// A closure of a place, as a trait: the invariant of an `impl Model` can name `takes`, and not the `pre` of a bound `Fn`.
 trait Place {
     ghost takes: { Self → ℕ → Type 0 };
 
@@ -28,6 +28,7 @@ impl<F: Fn(usize) -> u32> Place for F {
     }
 }
 
+// A closure that may be called for each place below n. Past n its word is 0, which `fill` does not ask for.
 #[derive(Drop)]
 struct Row<P: Place + Drop> {
     n: usize,
@@ -50,6 +51,7 @@ impl<P: Place + Drop> Words for Row<P> {
     }
 }
 
+// A `Row` is made where the bound is `Place`: the check does not cover the call where it is `Fn`.
 fn fill_places<P: Place + Drop>(words: &mut [u32], from: usize, n: usize, value: P)
     requires { (i : ℕ) → i < n → P.takes value i }
     ensures { (f : ℕ → ℕ) → ((i x : ℕ) → i < n → P.may_give value i x → x ≡ f i) → words.new ≡ filled from n f words.old }
@@ -57,6 +59,7 @@ fn fill_places<P: Place + Drop>(words: &mut [u32], from: usize, n: usize, value:
     fill(words, from, n, &Row { n, value });
 }
 
+// Lends a closure, which has to be one that may be called.
 fn fill_by<F: Fn(usize) -> u32>(words: &mut [u32], from: usize, n: usize, value: F)
     requires { (i : ℕ) → i < n → F.pre value i }
     ensures { (f : ℕ → ℕ) → ((i x : ℕ) → i < n → F.post value i x → x ≡ f i) → words.new ≡ filled from n f words.old }
@@ -64,7 +67,7 @@ fn fill_by<F: Fn(usize) -> u32>(words: &mut [u32], from: usize, n: usize, value:
     fill_places(words, from, n, value)
 }
 
-// The words that were wanted; else what there is beside them.
+// Nothing where the words are the wanted ones; else both, which the test then prints.
 fn same(words: [u32; 6], want: [u32; 6]) -> Result<(), ([u32; 6], [u32; 6])> {
     if words == want {
         Ok(())
@@ -81,6 +84,7 @@ fn fills_by_a_closure() -> Result<(), Fail> {
         (0, 4, [5, 6, 7, 8, 1, 1]),
         (4, 4, [1, 1, 1, 1, 5, 6]),
         (6, 4, [1, 1, 1, 1, 1, 1]),
+        (9, 4, [1, 1, 1, 1, 1, 1]),
         (2, 0, [1, 1, 1, 1, 1, 1]),
     ] {
         let mut words = [1u32; 6];
